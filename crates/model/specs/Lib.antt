@@ -1,0 +1,14 @@
+pub mod Base
+pub mod EId
+pub mod AId
+pub mod Names
+pub mod Utf8
+pub mod Drawing
+pub mod Check
+pub mod Tables
+pub mod Element
+pub mod Text
+pub mod Parse
+pub mod Repair
+pub mod Build
+pub mod Questions
