@@ -12,3 +12,5 @@ pub mod Parse
 pub mod Repair
 pub mod Build
 pub mod Questions
+pub mod Sim
+pub mod Cases
