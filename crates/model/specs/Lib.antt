@@ -13,4 +13,11 @@ pub mod Repair
 pub mod Build
 pub mod Questions
 pub mod Sim
+pub mod Agree
+pub mod Same
+pub mod SameRepair
+pub mod Noted
+pub mod Laws
+pub mod Under
+pub mod Good
 pub mod Cases
