@@ -20,4 +20,7 @@ pub mod Noted
 pub mod Laws
 pub mod Under
 pub mod Good
+pub mod Reach
+pub mod Spelled
+pub mod Related
 pub mod Cases
