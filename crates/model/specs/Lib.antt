@@ -23,4 +23,5 @@ pub mod Good
 pub mod Reach
 pub mod Spelled
 pub mod Related
+pub mod Places
 pub mod Cases

@@ -77,7 +77,7 @@ pub record Inner (t : ℕ) (one two : List ℕ) (e low p : ℕ) (s r : Noted) : 
   pub label : IsTextElement (s .tree) e
   pub opened : (p < s .tree .nodeCount) × Under (s .tree .nodes) e p
 
-absurd-bool : {A : Type 0} → true ≡ false → A
+pub absurd-bool : {A : Type 0} → true ≡ false → A
 absurd-bool h = let z : _≡_ {A = ℕ} 0 1 = ap (λ (b : Bool). pick b (λ u. 0) (λ u. 1)) h in absurd (omega arith)
 
 -- Two tests that are the same test.
