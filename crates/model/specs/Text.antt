@@ -108,14 +108,17 @@ unfoldable pub depthBelow : Tree → ℕ → ℕ → ℕ → ℕ
 depthBelow t e zero i = 0
 depthBelow t e (suc n) i = pick (eqb (parentOf t i) (e + 1)) (λ u. 0) (λ u. suc (depthBelow t e n (parentOf t i - 1)))
 
--- `collect_text_nodes`: the text nodes among the n nodes from i on. The text element e is the last one built,
--- so that all nodes behind it stand under it, in tree order.
+-- `collect_text_nodes`: the text nodes among the n nodes from i on.
 unfoldable pub textNodes : List ℕ → Tree → XmlSpace → ℕ → ℕ → ℕ → List TextNode
 textNodes chars t w e i zero = []
 textNodes chars t w e i (suc n) =
     pick (eqb (kindOf t i) TEXT)
     (λ u. record { node = i; depth = depthBelow t e i i; space = getXmlspace chars t (parentOf t i - 1) w } ∷ textNodes chars t w e (i + 1) n)
     (λ u. textNodes chars t w e (i + 1) n)
+
+-- Those of the text element e, where there are n nodes. It is the last one built, so that all nodes behind it stand under it, in tree order.
+unfoldable pub ownTextNodes : List ℕ → Tree → XmlSpace → ℕ → ℕ → List TextNode
+ownTextNodes chars t w e n = textNodes chars t w e (e + 1) (n - (e + 1))
 
 abbrev pub beginsWithSpace : List ℕ → Bool
 beginsWithSpace [] = false
@@ -192,4 +195,4 @@ trimming w (a ∷ b ∷ more) = pairs true false a a (b ∷ more)
 unfoldable pub trimTextNodes : List ℕ → ℕ → Tree → Tree
 trimTextNodes chars e t =
     let w : XmlSpace = spaceOf chars t e in
-    run (trimming w (textNodes chars t w e (e + 1) (t .nodeCount - (e + 1)))) t
+    run (trimming w (ownTextNodes chars t w e (t .nodeCount))) t

@@ -1,11 +1,11 @@
 -- Which node stands under which, by the parents in the tables.
 use Prim.Native.Nat.{ℕ, _+_, _-_, _*_, _≤_, _<_}
-use mathlib.Core.Path.{_≡_, refl, sym, ap, _∙_}
+use mathlib.Core.Path.{_≡_, refl, _∙_}
 use mathlib.Core.List.{List}
 use native.Mathlib.Omega.{arith}
 use lib.ListN.{length}
 use Rattle.model.specs.Tables.{word, appended}
-use Rattle.model.specs.Laws.{appended-old, appended-new}
+use Rattle.model.specs.Theorems.Laws.{appended-old, appended-new}
 
 -- Node i is node e, or its parent stands under e.
 pub data Under (ns : List ℕ) (e : ℕ) : ℕ → Type 0 where

@@ -8,16 +8,16 @@ use native.Mathlib.Omega.{arith}
 use borrow.Author.Tests.{eqb-true}
 use lib.Dec.{eqb, ltb}
 use lib.ListN.{length, getD, set, replicate, length-replicate}
-use lib.Seq.{sets, slice, getD-set-other}
+use lib.Seq.{getD-set-other}
 use Rattle.model.specs.Base.{pick, and}
 use Rattle.model.specs.Utf8.{isBlank}
 use Rattle.model.specs.Tables.{Tree, TEXT, word, kindOf, parentOf, fromOf, toOf, textOf, setText}
-use Rattle.model.specs.Text.{XmlSpace, isDefault, getXmlspace, Trimming, stop, look, cut, cutFrom, cutTo, cutText, run, TextNode, depthBelow, textNodes, beginsWithSpace, endsWithSpace, isEmpty, single, between, edges, lastEdge, pair, standsFor, isNil, pairs, trimming}
-use Rattle.model.specs.Sim.{Every}
+use Rattle.model.specs.Text.{XmlSpace, isDefault, getXmlspace, Trimming, stop, look, cut, cutFrom, cutTo, cutText, run, TextNode, depthBelow, textNodes, ownTextNodes, beginsWithSpace, endsWithSpace, isEmpty, single, between, edges, lastEdge, pair, isNil, pairs, trimming}
+use Rattle.model.specs.Theorems.Sim.{Every}
 use Rattle.model.specs.Noted.{Note}
-use Rattle.model.specs.Agree.{Agree, agree-refl, agree-trans, agree-set, agree-sets, agree-out, agree-outs, agree-slice, set-cases}
+use Rattle.model.specs.Theorems.Agree.{Agree, agree-refl, agree-trans, agree-set, agree-sets, agree-out, agree-outs, agree-slice, set-cases}
 use Rattle.model.specs.Under.{under-keep}
-use Rattle.model.specs.Good.{In, Fits, Good}
+use Rattle.model.specs.Theorems.Good.{In, Fits, Good}
 
 -- ONE CUT
 
@@ -38,8 +38,10 @@ cut-from i a b t j = go (set-cases (t .nodes) (8 * i + 6) f (8 * j + 6))
   where
     f : ℕ
     f = cutFrom (fromOf t i) (toOf t i) a
+
     off : fromOf (cutText i a b t) j ≡ getD (set (t .nodes) (8 * i + 6) f) (8 * j + 6) 0
     off = getD-set-other (set (t .nodes) (8 * i + 6) f) (8 * i + 7) (8 * j + 6) (cutTo (fromOf t i) (toOf t i) a b) 0 (omega arith)
+
     go : (getD (set (t .nodes) (8 * i + 6) f) (8 * j + 6) 0 ≡ fromOf t j) ⊎ ((8 * j + 6 ≡ 8 * i + 6) × (getD (set (t .nodes) (8 * i + 6) f) (8 * j + 6) 0 ≡ f)) →
         (fromOf (cutText i a b t) j ≡ fromOf t j) ⊎ ((j ≡ i) × (fromOf (cutText i a b t) j ≡ f))
     go (inl e) = inl (off ∙ e)
@@ -51,10 +53,13 @@ cut-to i a b t j = go (set-cases (set (t .nodes) (8 * i + 6) f) (8 * i + 7) g (8
   where
     f : ℕ
     f = cutFrom (fromOf t i) (toOf t i) a
+
     g : ℕ
     g = cutTo (fromOf t i) (toOf t i) a b
+
     off : getD (set (t .nodes) (8 * i + 6) f) (8 * j + 7) 0 ≡ toOf t j
     off = getD-set-other (t .nodes) (8 * i + 6) (8 * j + 7) f 0 (omega arith)
+
     go : (toOf (cutText i a b t) j ≡ getD (set (t .nodes) (8 * i + 6) f) (8 * j + 7) 0) ⊎ ((8 * j + 7 ≡ 8 * i + 7) × (toOf (cutText i a b t) j ≡ g)) →
         (toOf (cutText i a b t) j ≡ toOf t j) ⊎ ((j ≡ i) × (toOf (cutText i a b t) j ≡ g))
     go (inl e) = inl (e ∙ off)
@@ -65,14 +70,19 @@ fits-cut n i a b t h = go (cut-from i a b t (n .node)) (cut-to i a b t (n .node)
   where
     f : ℕ
     f = fromOf t i
+
     g : ℕ
     g = toOf t i
+
     k : kindOf (cutText i a b t) (n .node) ≡ TEXT
     k = cut-word i a b t (n .node) 0 (λ e. omega arith) (λ e. omega arith) ∙ h .kind
+
     same-from : n .node ≡ i → fromOf t (n .node) ≡ f
     same-from e = ap (λ j. fromOf t j) e
+
     same-to : n .node ≡ i → toOf t (n .node) ≡ g
     same-to e = ap (λ j. toOf t j) e
+
     go : (fromOf (cutText i a b t) (n .node) ≡ fromOf t (n .node)) ⊎ ((n .node ≡ i) × (fromOf (cutText i a b t) (n .node) ≡ cutFrom f g a)) →
         (toOf (cutText i a b t) (n .node) ≡ toOf t (n .node)) ⊎ ((n .node ≡ i) × (toOf (cutText i a b t) (n .node) ≡ cutTo f g a b)) → Fits n (cutText i a b t)
     go (inl x) (inl y) = record { kind = k; low = rw x (h .low); mid = rw (x, y) (h .mid); high = rw y (h .high) }
@@ -94,14 +104,17 @@ fits-cut n i a b t h = go (cut-from i a b t (n .node)) (cut-to i a b t (n .node)
 
 good-cut : (ns : List Note) (i a b : ℕ) (t : Tree) → Good ns t → Good ns (cutText i a b t)
 unfolding cutText setText
-good-cut ns i a b t g = record
-    { fits = λ n h. fits-cut n i a b t (g .fits n h)
-    ; below = g .below
-    ; apart = g .apart
-    ; placed = λ n h. let f = g .placed n h in
-        (f .0, (cut-word i a b t (n .elem) 0 (λ e. omega arith) (λ e. omega arith) ∙ f .1 .0, cut-word i a b t (n .elem) 5 (λ e. omega arith) (λ e. omega arith) ∙ f .1 .1),
-          under-keep (t .nodes) _ (n .elem) (t .nodeCount) (λ j b. cut-word i a _ t j 1 (λ e. omega arith) (λ e. omega arith)) (n .node) (g .below n h .0) (f .2))
-    ; noted = λ j h k. g .noted j h (sym (cut-word i a b t j 0 (λ e. omega arith) (λ e. omega arith)) ∙ k) }
+good-cut ns i a b t g = record {
+  fits = λ n h. fits-cut n i a b t (g .fits n h);
+  below = g .below;
+  apart = g .apart;
+  placed = λ n h. let f = g .placed n h in (
+    f .0,
+    (cut-word i a b t (n .elem) 0 (λ e. omega arith) (λ e. omega arith) ∙ f .1 .0, cut-word i a b t (n .elem) 5 (λ e. omega arith) (λ e. omega arith) ∙ f .1 .1),
+    under-keep (t .nodes) _ (n .elem) (t .nodeCount) (λ j b. cut-word i a _ t j 1 (λ e. omega arith) (λ e. omega arith)) (n .node) (g .below n h .0) (f .2),
+  );
+  noted = λ j h k. g .noted j h (sym (cut-word i a b t j 0 (λ e. omega arith) (λ e. omega arith)) ∙ k);
+}
 
 -- A PROGRAM
 
@@ -140,18 +153,19 @@ cut-out {P} {Q} n i a b t h e x y out =
     let g : ℕ = toOf t i in
     let e6 : fromOf t (n .node) ≡ f = ap (λ j. fromOf t j) e in
     let e7 : toOf t (n .node) ≡ g = ap (λ j. toOf t j) e in
-    let m = moved f g a b (omega (arith, h .mid)) in
-    (agree-trans (agree-out _ (8 * i + 7) (cutTo f g a b) y) (agree-out (t .nodes) (8 * i + 6) (cutFrom f g a) x),
+    let m = moved f g a b (omega (arith, h .mid)) in (
+      agree-trans (agree-out _ (8 * i + 7) (cutTo f g a b) y) (agree-out (t .nodes) (8 * i + 6) (cutFrom f g a) x),
       agree-trans
-      (agree-outs (replicate (g - cutTo f g a b) 0) _ (cutTo f g a b)
-        (λ j u v. out j (omega (arith, h .low)) (omega (arith, h .high, length-replicate {A = ℕ} (g - cutTo f g a b) 0))))
-      (agree-outs (replicate (cutFrom f g a - f) 0) (t .text) f
-        (λ j u v. out j (omega (arith, h .low)) (omega (arith, h .high, length-replicate {A = ℕ} (cutFrom f g a - f) 0)))))
+          (agree-outs (replicate (g - cutTo f g a b) 0) _ (cutTo f g a b)
+          (λ j u v. out j (omega (arith, h .low)) (omega (arith, h .high, length-replicate {A = ℕ} (g - cutTo f g a b) 0))))
+          (agree-outs (replicate (cutFrom f g a - f) 0) (t .text) f
+          (λ j u v. out j (omega (arith, h .low)) (omega (arith, h .high, length-replicate {A = ℕ} (cutFrom f g a - f) 0)))),
+    )
 
 -- It touches from and to of the nodes that it names, and bytes in their places.
 pub run-out : {P Q : ℕ → Type 0} (ns : List Note) (g : Trimming) (t : Tree) → Good ns t →
     Within (λ i. (P (8 * i + 6) → ⊥) × (P (8 * i + 7) → ⊥)
-      × ((n : Note) × In n ns × (n .node ≡ i) × ((j : ℕ) → n .start ≤ j → j < n .start + n .size → Q j → ⊥))) g →
+    × ((n : Note) × In n ns × (n .node ≡ i) × ((j : ℕ) → n .start ≤ j → j < n .start + n .size → Q j → ⊥))) g →
     Agree P (run g t .nodes) (t .nodes) × Agree Q (run g t .text) (t .text)
 unfolding run
 run-out ns stop t g h = (agree-refl _ _, agree-refl _ _)
@@ -167,9 +181,10 @@ set-text-both : {P Q : ℕ → Type 0} (i f g f′ g′ : ℕ) (s t : Tree) → 
     Agree P (s .nodes) (t .nodes) → Agree Q (s .text) (t .text) →
     Agree P (setText i f′ g′ s .nodes) (setText i f′ g′ t .nodes) × Agree Q (setText i f′ g′ s .text) (setText i f′ g′ t .text)
 unfolding setText
-set-text-both i f g f′ g′ s t a b c d x y =
-    (agree-set (8 * i + 7) g′ g′ (λ u. refl) (agree-set (8 * i + 6) f′ f′ (λ u. refl) x),
-      rw (a, b, c, d) (agree-sets (replicate (g - g′) 0) g′ (agree-sets (replicate (f′ - f) 0) f y)))
+set-text-both i f g f′ g′ s t a b c d x y = (
+  agree-set (8 * i + 7) g′ g′ (λ u. refl) (agree-set (8 * i + 6) f′ f′ (λ u. refl) x),
+  rw (a, b, c, d) (agree-sets (replicate (g - g′) 0) g′ (agree-sets (replicate (f′ - f) 0) f y)),
+)
 
 cut-both : {P Q : ℕ → Type 0} (i a b : ℕ) (s t : Tree) → P (8 * i + 6) → P (8 * i + 7) → Agree P (s .nodes) (t .nodes) → Agree Q (s .text) (t .text) →
     Agree P (cutText i a b s .nodes) (cutText i a b t .nodes) × Agree Q (cutText i a b s .text) (cutText i a b t .text)
@@ -210,17 +225,25 @@ module _ (Q : ℕ → Type 0) where
   within-pick false x y h g = g
 
   within-single : (a : TextNode) → Q (a .node) → Within Q (single a)
-  within-single a q = (q, λ v. within-pick (eqb (length v) 1) _ _
-      (within-pick (beginsWithSpace v) _ _ (q, tt) tt)
-      (within-pick (beginsWithSpace v) _ _ (q, within-pick (endsWithSpace v) _ _ (q, tt) tt) (within-pick (endsWithSpace v) _ _ (q, tt) tt)))
+  within-single a q = (
+    q,
+    λ v. within-pick (eqb (length v) 1) _ _
+        (within-pick (beginsWithSpace v) _ _ (q, tt) tt)
+        (within-pick (beginsWithSpace v) _ _ (q, within-pick (endsWithSpace v) _ _ (q, tt) tt) (within-pick (endsWithSpace v) _ _ (q, tt) tt)),
+  )
 
   within-last : (z : Bool) (a b : TextNode) (v : List ℕ) (k : Trimming) → Q (a .node) → Q (b .node) → Within Q k → Within Q (lastEdge z a b v k)
   within-last z a b v k p q h = (p, λ x. (q, λ y. within-pick (and (and z (endsWithSpace v)) (and (isEmpty y) (endsWithSpace x))) _ _ (p, h) h))
 
   within-edges : (f z : Bool) (a b : TextNode) (v w : List ℕ) (k : Trimming) → Q (a .node) → Q (b .node) → Within Q k → Within Q (edges f z a b v w k)
-  within-edges f z a b v w k p q h =
-      (p, λ x. (q, λ y. within-pick (and (and f (beginsWithSpace v)) (and (isDefault (a .space)) (not (isEmpty x)))) _ _ (p, h)
-        (within-pick (and (and z (endsWithSpace w)) (and (not (isEmpty y)) (isDefault (b .space)))) _ _ (q, h) h)))
+  within-edges f z a b v w k p q h = (
+    p,
+    λ x. (
+      q,
+      λ y. within-pick (and (and f (beginsWithSpace v)) (and (isDefault (a .space)) (not (isEmpty x)))) _ _ (p, h)
+          (within-pick (and (and z (endsWithSpace w)) (and (not (isEmpty y)) (isDefault (b .space)))) _ _ (q, h) h),
+    ),
+  )
 
   within-between : (d : Bool) (a b : TextNode) (v w : List ℕ) (k : Trimming) → Q (a .node) → Q (b .node) → Within Q k → Within Q (between d a b v w k)
   within-between d a b v w k p q h =
@@ -240,12 +263,13 @@ module _ (Q : ℕ → Type 0) where
     where
       body : ((k : Bool) (m : TextNode) → Q (m .node) → Within Q (pairs false k m b more)) → (m : TextNode) → Q (m .node) →
           Within Q (pair (ltb (a .depth) (b .depth)) f (isNil more) m b
-            (look (m .node) (λ x. pick (isBlank x) (λ u. pairs false known n b more) (λ u. pairs false true m b more))))
+          (look (m .node) (λ x. pick (isBlank x) (λ u. pairs false known n b more) (λ u. pairs false true m b more))))
       body r m p = within-pair (ltb (a .depth) (b .depth)) f (isNil more) m b _ p (e .0)
           (p, λ x. within-pick (isBlank x) _ _ (r known n h) (r true m p))
+
       at : (y : Bool) → ((k : Bool) (m : TextNode) → Q (m .node) → Within Q (pairs false k m b more)) →
           Within Q (let c : TextNode = pick y (λ u. n) (λ u. a) in pair (ltb (a .depth) (b .depth)) f (isNil more) c b
-            (look (c .node) (λ x. pick (isBlank x) (λ u. pairs false known n b more) (λ u. pairs false true c b more))))
+          (look (c .node) (λ x. pick (isBlank x) (λ u. pairs false known n b more) (λ u. pairs false true c b more))))
       at true r = body r n h
       at false r = body r a q
 
@@ -256,7 +280,7 @@ module _ (Q : ℕ → Type 0) where
   within-trimming w (a ∷ b ∷ more) h = within-pairs true false a a (b ∷ more) (h .0) (h .0) (h .1)
 
   -- The text nodes that are collected.
-  pub collected : (chars : List ℕ) (t : Tree) (w : XmlSpace) (e i n : ℕ) → ((j : ℕ) → i ≤ j → j < i + n → kindOf t j ≡ TEXT → Q j) →
+  collected : (chars : List ℕ) (t : Tree) (w : XmlSpace) (e i n : ℕ) → ((j : ℕ) → i ≤ j → j < i + n → kindOf t j ≡ TEXT → Q j) →
       Every (λ (o : TextNode). Q (o .node)) (textNodes chars t w e i n)
   unfolding textNodes
   collected chars t w e i zero h = tt
@@ -265,7 +289,13 @@ module _ (Q : ℕ → Type 0) where
     where
       go : Every (λ (o : TextNode). Q (o .node)) (textNodes chars t w e (i + 1) n) → (b : Bool) → (b ≡ true → Q i) →
           Every (λ (o : TextNode). Q (o .node))
-            (pick b (λ u. record { node = i; depth = depthBelow t e i i; space = getXmlspace chars t (parentOf t i - 1) w } ∷ textNodes chars t w e (i + 1) n)
-              (λ u. textNodes chars t w e (i + 1) n))
+          (pick b (λ u. record { node = i; depth = depthBelow t e i i; space = getXmlspace chars t (parentOf t i - 1) w } ∷ textNodes chars t w e (i + 1) n)
+          (λ u. textNodes chars t w e (i + 1) n))
       go r true f = (f refl, r)
       go r false f = r
+
+  -- The text nodes of e all stand behind it.
+  pub own-collected : (chars : List ℕ) (t : Tree) (w : XmlSpace) (e n : ℕ) → e < n → ((j : ℕ) → e < j → j < n → kindOf t j ≡ TEXT → Q j) →
+      Every (λ (o : TextNode). Q (o .node)) (ownTextNodes chars t w e n)
+  unfolding ownTextNodes
+  own-collected chars t w e n l h = collected chars t w e _ _ (λ j a b k. h j (omega arith) (omega arith) k)

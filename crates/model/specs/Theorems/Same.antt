@@ -1,20 +1,18 @@
 -- What is read from two trees that share all but the bounds and bytes of texts, with characters that spell the same values, is the same.
 use Prim.Native.Nat.{ℕ, zero, suc, _+_, _-_}
-use mathlib.Core.Path.{_≡_, refl, sym, ap, _∙_, fun-ext}
+use mathlib.Core.Path.{_≡_, refl, ap, _∙_}
 use mathlib.Core.Bool.{Bool, true, false}
-use mathlib.Core.List.{List, [], _∷_, _++_}
+use mathlib.Core.List.{List, [], _∷_}
 use mathlib.Core.Option.{Option, none, some}
-use lib.Dec.{eqb, leb}
-use lib.Seq.{slice}
+use lib.Dec.{eqb}
 use borrow.Author.Tests.{eqb-true}
-use Rattle.model.specs.Base.{pick, and, given, folded, sameBytes, Pair}
+use Rattle.model.specs.Base.{pick, given, folded, Pair}
 use Rattle.model.specs.Names.{fontResets}
-use Rattle.model.specs.EId
 use Rattle.model.specs.AId
 use Rattle.model.specs.Drawing.{Part, Attribute, Declaration, Element, readingOf}
-use Rattle.model.specs.Tables.{Tree, ELEMENT, TEXT, kindOf, parentOf, firstChildOf, codeOf, fromOf, toOf, isNamed, Entry, entryWord, entryAt, valueOf, findEntry, attributeId, hasAttribute, valueAtEntry, attributeOf, holderFrom, holderOf, hasIdBytes, lastWithId, elementById}
+use Rattle.model.specs.Tables.{Tree, ELEMENT, kindOf, parentOf, firstChildOf, codeOf, fromOf, toOf, isNamed, Entry, entryWord, entryAt, valueOf, findEntry, attributeId, valueAtEntry, attributeOf, holderFrom, hasIdBytes, lastWithId, elementById}
 use Rattle.model.specs.Element.{inheritedFrom, resolveInherit, appendAttribute, addAttribute, fontParts, insertAttribute, resetTo, insertPart, writeDeclaration, entriesOf}
-use Rattle.model.specs.Text.{XmlSpace, default, getXmlspace, spaceOf, depthBelow, TextNode, textNodes}
+use Rattle.model.specs.Text.{XmlSpace, default, getXmlspace, spaceOf, depthBelow, textNodes, ownTextNodes}
 
 -- Folds by functions that do the same.
 folded-same : {A B : Type 0} (f g : B → A → B) → ((b : B) (a : A) → f b a ≡ g b a) → (b : B) (xs : List A) → folded f b xs ≡ folded g b xs
@@ -116,18 +114,19 @@ module _ (one two : List ℕ) (s r : Tree) (h : Same one two s r) where
 
   write-same : (p tag : ℕ) (d : Declaration) (es : List Entry) → writeDeclaration s p tag d es ≡ writeDeclaration r p tag d es
   unfolding writeDeclaration
-  write-same p tag d es = rw
-      ( folded-same (λ es a. insertAttribute s p tag d es a (d .value .part)) (λ es a. insertAttribute r p tag d es a (d .value .part))
-          (λ es a. insert-same p tag d es a (d .value .part)) es (AId.MarkerStart ∷ AId.MarkerMid ∷ AId.MarkerEnd ∷ [])
-      , folded-same (insertPart s p tag d) (insertPart r p tag d) (part-same p tag d) (folded (resetTo s p tag d) es fontResets) fontParts
-      , insert-same p tag d es (d .name) (d .value .part))
+  write-same p tag d es = rw (
+    folded-same (λ es a. insertAttribute s p tag d es a (d .value .part)) (λ es a. insertAttribute r p tag d es a (d .value .part))
+        (λ es a. insert-same p tag d es a (d .value .part)) es (AId.MarkerStart ∷ AId.MarkerMid ∷ AId.MarkerEnd ∷ []),
+    folded-same (insertPart s p tag d) (insertPart r p tag d) (part-same p tag d) (folded (resetTo s p tag d) es fontResets) fontParts,
+    insert-same p tag d es (d .name) (d .value .part),
+  )
 
   pub entries-same : (p tag : ℕ) (g : Bool) (e : Element) → entriesOf s p tag g e ≡ entriesOf r p tag g e
   unfolding entriesOf
   entries-same p tag g e =
       folded-same (λ es d. writeDeclaration s p tag d es) (λ es d. writeDeclaration r p tag d es) (λ es d. write-same p tag d es) _ (e .declarations)
       ∙ ap (λ es. folded (λ es d. writeDeclaration r p tag d es) es (e .declarations))
-        (folded-same (addAttribute s p tag g) (addAttribute r p tag g) (add-same p tag g) [] (e .attributes))
+      (folded-same (addAttribute s p tag g) (addAttribute r p tag g) (add-same p tag g) [] (e .attributes))
 
   -- TEXTS
 
@@ -144,8 +143,12 @@ module _ (one two : List ℕ) (s r : Tree) (h : Same one two s r) where
   depth-same e zero i = refl
   depth-same e (suc n) i = rw (h .parent i, depth-same e n (parentOf r i - 1))
 
-  pub text-nodes-same : (w : XmlSpace) (e i n : ℕ) → textNodes one s w e i n ≡ textNodes two r w e i n
+  text-nodes-same : (w : XmlSpace) (e i n : ℕ) → textNodes one s w e i n ≡ textNodes two r w e i n
   unfolding textNodes
   text-nodes-same w e i zero = refl
   text-nodes-same w e i (suc n) =
       rw (h .kind i, h .parent i, depth-same e i i, get-space-same (parentOf r i - 1) w, text-nodes-same w e (i + 1) n)
+
+  pub own-nodes-same : (w : XmlSpace) (e n : ℕ) → ownTextNodes one s w e n ≡ ownTextNodes two r w e n
+  unfolding ownTextNodes
+  own-nodes-same w e n = text-nodes-same w e _ _

@@ -1,18 +1,16 @@
 -- Laws of the operations on the tables: what a word is after a node was appended, a text cut.
-use Prim.Native.Nat.{ℕ, zero, suc, _+_, _-_, _*_, _/_, _≤_, _<_, min, max}
-use mathlib.Core.Path.{_≡_, refl, sym, ap, _∙_}
-use mathlib.Core.Logic.{_⊎_, inl, inr}
+use Prim.Native.Nat.{ℕ, suc, _+_, _-_, _*_, _/_, _≤_, _<_, min}
+use mathlib.Core.Path.{_≡_, refl, sym, _∙_}
 use mathlib.Core.Bool.{Bool, true, false}
 use mathlib.Core.List.{List, [], _∷_}
 use native.Mathlib.Omega.{arith}
 use borrow.Author.Tests.{ltb-true}
 use lib.Dec.{eqb, ltb}
-use lib.ListN.{length, getD, set, replicate, length-set, length-replicate}
-use lib.Seq.{sets, slice, getD-set-same, getD-set-other, length-sets}
+use lib.ListN.{length, getD}
+use lib.Seq.{sets, getD-set-other}
 use Rattle.model.specs.Base.{pick}
-use Rattle.model.specs.Tables.{Tree, word, setWord, nextLinked, firstLinked, linked, appended, fromOf, toOf, most, nodeRoom, textOf, setText}
-use Rattle.model.specs.Text.{cutFrom, cutTo, cutText}
-use Rattle.model.specs.Agree.{Agree, agree-trans, agree-set, agree-sets, agree-out, agree-outs, sets-in, sets-out, agree-slice, set-cases}
+use Rattle.model.specs.Tables.{Tree, word, setWord, nextLinked, firstLinked, linked, appended, most, nodeRoom}
+use Rattle.model.specs.Theorems.Agree.{Agree, agree-set, agree-sets, sets-in, sets-out}
 
 -- APPENDING A NODE
 
@@ -87,10 +85,12 @@ appended-agree {P} {xs} {ys} kind code from to to′ p i h3 h4 g a =
   where
     full : List ℕ → ℕ → List ℕ
     full ns t = sets ns (8 * i) (kind ∷ (p + 1) ∷ 0 ∷ 0 ∷ 0 ∷ code ∷ from ∷ t ∷ [])
+
     place : 8 * i + 7 ≡ suc (suc (suc (suc (suc (suc (suc (8 * i)))))))
     place = omega arith
+
     b : Agree P (full xs to) (full ys to′)
-    b = agree-set (suc (suc (suc (suc (suc (suc (suc (8 * i))))))))  to to′ (λ u. g (rw place u))
+    b = agree-set (suc (suc (suc (suc (suc (suc (suc (8 * i)))))))) to to′ (λ u. g (rw place u))
         (agree-sets (kind ∷ (p + 1) ∷ 0 ∷ 0 ∷ 0 ∷ code ∷ from ∷ []) (8 * i) a)
 
 -- There is room for the record of the next node.

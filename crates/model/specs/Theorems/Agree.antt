@@ -79,5 +79,5 @@ pub agree-slice : {P : ℕ → Type 0} {xs ys : List ℕ} (f t : ℕ) → ((j : 
 agree-slice {P} {xs} {ys} f t g a =
     ext-getD 0 (slice f t xs) (slice f t ys) (simp (length-drop, length-take) (rw (a .long) refl))
     (λ i l. let h : f + i < t = omega (arith, simp (length-drop, length-take) at l) in
-      rw (getD-drop f (take t xs) i 0, getD-drop f (take t ys) i 0, getD-take t xs (f + i) 0 h, getD-take t ys (f + i) 0 h)
-      (a .at (f + i) (g (f + i) (omega arith) h)))
+    rw (getD-drop f (take t xs) i 0, getD-drop f (take t ys) i 0, getD-take t xs (f + i) 0 h, getD-take t ys (f + i) 0 h)
+    (a .at (f + i) (g (f + i) (omega arith) h)))

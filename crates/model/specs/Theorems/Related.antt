@@ -2,30 +2,30 @@
 use Prim.Native.Nat.{ℕ, zero, suc, _+_, _-_, _*_, _/_, _≤_, _<_, min}
 use mathlib.Core.Path.{_≡_, refl, sym, ap, _∙_}
 use mathlib.Core.Logic.{_⊎_, inl, inr}
-use mathlib.Core.Bool.{Bool, true, false, not}
+use mathlib.Core.Bool.{Bool, true, false}
 use mathlib.Core.List.{List, [], _∷_, _++_, map}
 use native.Mathlib.Omega.{arith}
-use borrow.Author.Tests.{eq-eqb, eqb-true, eqb-false, leb-true}
+use borrow.Author.Tests.{eq-eqb, eqb-false, leb-true}
 use lib.Dec.{eqb, leb, ltb}
 use lib.ListN.{length, getD, length-append, length-take, length-drop}
 use lib.Seq.{sets, slice}
 use Rattle.model.specs.Base.{pick, and, or, among}
 use Rattle.model.specs.EId
 use Rattle.model.specs.Drawing.{Element, Source, Event, childrenFrom}
-use Rattle.model.specs.Tables.{Tree, Out, refused, done, then, ELEMENT, TEXT, word, kindOf, parentOf, fromOf, toOf, most, nodeRoom, attributeRoom, textRoom, Entry, entryAt, addElement, addText}
+use Rattle.model.specs.Tables.{Tree, Out, ELEMENT, TEXT, word, kindOf, parentOf, most, nodeRoom, attributeRoom, textRoom, Entry, entryAt, addElement, addText}
 use Rattle.model.specs.Element.{entriesOf, mostNodes, parseSvgElement}
-use Rattle.model.specs.Text.{XmlSpace, isDefault, SPACE, converted, trimTextAfter, trimText, spaceOf, sizeOf, joined, appendText, Trimming, run, TextNode, textNodes, trimming, trimTextNodes}
+use Rattle.model.specs.Text.{XmlSpace, isDefault, SPACE, converted, trimTextAfter, trimText, spaceOf, sizeOf, joined, appendText, Trimming, run, TextNode, ownTextNodes, trimming, trimTextNodes}
 use Rattle.model.specs.Parse.{each, node, label, plain}
-use Rattle.model.specs.Sim.{Rel, both, same, Every, Events, then-rel, Kept, inside-sim, top-sim}
+use Rattle.model.specs.Theorems.Sim.{Rel, both, same, Every, Events, then-rel, Kept, inside-sim, top-sim}
 use Rattle.model.specs.Noted.{Note, Noted, noteOf, withNotes, noting}
-use Rattle.model.specs.Agree.{Agree, agree-sym, agree-trans, agree-weak, agree-sets, agree-outs}
-use Rattle.model.specs.Same.{Same, entries-same, space-same, text-nodes-same}
-use Rattle.model.specs.SameRepair.{entry-by-words}
-use Rattle.model.specs.Laws.{appended-agree, appended-new, room-fits}
+use Rattle.model.specs.Theorems.Agree.{Agree, agree-sym, agree-trans, agree-weak, agree-sets, agree-outs}
+use Rattle.model.specs.Theorems.Same.{Same, entries-same, space-same, own-nodes-same}
+use Rattle.model.specs.Theorems.SameRepair.{entry-by-words}
+use Rattle.model.specs.Theorems.Laws.{appended-agree, appended-new, room-fits}
 use Rattle.model.specs.Under.{Under, here, under-keep, under-parent, under-appended, under-new}
-use Rattle.model.specs.Good.{In, IsTextElement, Good, old-element, good-element, good-text}
-use Rattle.model.specs.Reach.{good-run, Unmoved, run-unmoved, Within, run-out, run-both, within-trimming, collected}
-use Rattle.model.specs.Spelled.{Safe, SpelledElement, safe-entries, add-safe}
+use Rattle.model.specs.Theorems.Good.{In, IsTextElement, Good, old-element, good-element, good-text}
+use Rattle.model.specs.Theorems.Reach.{good-run, run-unmoved, Within, run-out, run-both, within-trimming, own-collected}
+use Rattle.model.specs.Theorems.Spelled.{Safe, SpelledElement, safe-entries, add-safe}
 
 -- The text element e is noted with a text node made from text t.
 unfoldable pub holds : ℕ → ℕ → List Note → Bool
@@ -112,15 +112,20 @@ entry-safe one two s r h safe j = rw (entry-by-words s r j (λ k b. ap (λ (l : 
 
 module _ (t : ℕ) (one two : List ℕ) where
   pub outer-same : (s r : Noted) → Outer t one two s r → Same one two (s .tree) (r .tree)
-  outer-same s r o = record
-      { count = o .nodeCount; attributeCount = o .attributeCount; attributes = o .attributes
-      ; kind = λ i. o .nodes .at (8 * i + 0) (stable-word t (s .notes) i 0 (omega arith))
-      ; parent = λ i. o .nodes .at (8 * i + 1) (stable-word t (s .notes) i 1 (omega arith))
-      ; child = λ i. o .nodes .at (8 * i + 3) (stable-word t (s .notes) i 3 (omega arith))
-      ; code = λ i. o .nodes .at (8 * i + 5) (stable-word t (s .notes) i 5 (omega arith))
-      ; range = λ i k. (o .nodes .at (8 * i + 6) (λ n h d. (λ e. odd i k n h (omega arith), λ e. omega arith)),
-          o .nodes .at (8 * i + 7) (λ n h d. (λ e. omega arith, λ e. odd i k n h (omega arith))))
-      ; safe = o .safe }
+  outer-same s r o = record {
+    count = o .nodeCount;
+    attributeCount = o .attributeCount;
+    attributes = o .attributes;
+    kind = λ i. o .nodes .at (8 * i + 0) (stable-word t (s .notes) i 0 (omega arith));
+    parent = λ i. o .nodes .at (8 * i + 1) (stable-word t (s .notes) i 1 (omega arith));
+    child = λ i. o .nodes .at (8 * i + 3) (stable-word t (s .notes) i 3 (omega arith));
+    code = λ i. o .nodes .at (8 * i + 5) (stable-word t (s .notes) i 5 (omega arith));
+    range = λ i k. (
+      o .nodes .at (8 * i + 6) (λ n h d. (λ e. odd i k n h (omega arith), λ e. omega arith)),
+      o .nodes .at (8 * i + 7) (λ n h d. (λ e. omega arith, λ e. odd i k n h (omega arith))),
+    );
+    safe = o .safe;
+  }
     where
       odd : (i : ℕ) → kindOf (s .tree) i ≡ ELEMENT → (n : Note) → In n (s .notes) → n .node ≡ i → ⊥
       odd i k n h e = let z : kindOf (s .tree) i ≡ TEXT = rw e at (o .left .fits n h .kind) in omega arith
@@ -134,20 +139,21 @@ module _ (t : ℕ) (one two : List ℕ) where
   outer-add : (c p : ℕ) (es : List Entry) (s r : Noted) → Outer t one two s r → 8 * s .tree .nodeCount + 8 ≤ length (s .tree .nodes) →
       5 * (s .tree .attributeCount + length es) ≤ length (s .tree .attributes) → Every (Safe one two) es → Outer t one two (grown c es p s) (grown c es p r)
   unfolding addElement
-  outer-add c p es s r o room fit sf = record
-      { notes = o .notes
-      ; nodeCount = ap (λ n. n + 1) (o .nodeCount)
-      ; attributeCount = ap (λ n. n + length es) (o .attributeCount)
-      ; textCount = o .textCount
-      ; attributes = ap (λ l. sets l (5 * s .tree .attributeCount) (Rattle.model.specs.Tables.entriesWords es)) (o .attributes)
-          ∙ ap (λ n. sets (r .tree .attributes) (5 * n) (Rattle.model.specs.Tables.entriesWords es)) (o .attributeCount)
-      ; nodes = rw (← o .nodeCount, ← o .attributeCount)
-          (appended-agree ELEMENT c (s .tree .attributeCount) _ _ p (s .tree .nodeCount) (stable-word t (s .notes) p 3 (omega arith)) (stable-word t (s .notes) p 4 (omega arith))
-            (λ u. refl) (o .nodes))
-      ; text = o .text
-      ; safe = add-safe one two c es p (s .tree) fit sf (o .safe)
-      ; left = good-element (s .notes) c es p (s .tree) room (o .left)
-      ; right = good-element (s .notes) c es p (r .tree) (rw (← o .nodeCount, ← o .nodes .long) room) (o .right) }
+  outer-add c p es s r o room fit sf = record {
+    notes = o .notes;
+    nodeCount = ap (λ n. n + 1) (o .nodeCount);
+    attributeCount = ap (λ n. n + length es) (o .attributeCount);
+    textCount = o .textCount;
+    attributes = ap (λ l. sets l (5 * s .tree .attributeCount) (Rattle.model.specs.Tables.entriesWords es)) (o .attributes)
+        ∙ ap (λ n. sets (r .tree .attributes) (5 * n) (Rattle.model.specs.Tables.entriesWords es)) (o .attributeCount);
+    nodes = rw (← o .nodeCount, ← o .attributeCount)
+        (appended-agree ELEMENT c (s .tree .attributeCount) _ _ p (s .tree .nodeCount) (stable-word t (s .notes) p 3 (omega arith)) (stable-word t (s .notes) p 4 (omega arith))
+        (λ u. refl) (o .nodes));
+    text = o .text;
+    safe = add-safe one two c es p (s .tree) fit sf (o .safe);
+    left = good-element (s .notes) c es p (s .tree) room (o .left);
+    right = good-element (s .notes) c es p (r .tree) (rw (← o .nodeCount, ← o .nodes .long) room) (o .right);
+  }
 
   element-rel : (R : Noted → Noted → Type 0) (x : Element) → SpelledElement one two x → (c : ℕ) (i : Bool) (p : ℕ) (s r : Noted) → Outer t one two s r →
       ((es : List Entry) → 8 * s .tree .nodeCount + 8 ≤ length (s .tree .nodes) → Outer t one two (grown c es p s) (grown c es p r) → R (grown c es p s) (grown c es p r)) →
@@ -156,14 +162,14 @@ module _ (t : ℕ) (one two : List ℕ) where
   element-rel R x g c i p s r o f =
       rw (← entries-same one two (s .tree) (r .tree) (outer-same s r o) p c i x)
       (pick-both R (s .notes) (r .notes) (leb (s .tree .attributeCount + length es) (attributeRoom (s .tree))) (leb (r .tree .attributeCount + length es) (attributeRoom (r .tree))) _ _ _ _
-        (ap (λ n. leb (n + length es) (attributeRoom (s .tree))) (o .attributeCount) ∙ ap (λ n. leb (r .tree .attributeCount + length es) n) (attribute-room-same _ _ (o .attributes)))
-        (λ fit. pick-both R (s .notes) (r .notes) (leb (s .tree .nodeCount) mostNodes) (leb (r .tree .nodeCount) mostNodes) _ _ _ _ (ap (λ n. leb n mostNodes) (o .nodeCount))
-          (λ few. pick-both R (s .notes) (r .notes) (ltb (s .tree .nodeCount) (nodeRoom (s .tree))) (ltb (r .tree .nodeCount) (nodeRoom (r .tree))) _ _ _ _
-            (ap (λ n. ltb n (nodeRoom (s .tree))) (o .nodeCount) ∙ ap (λ n. ltb (r .tree .nodeCount) n) (node-room-same _ _ (o .nodes .long)))
-            (λ room. same (f es (room-fits (s .tree) room)
-              (outer-add c p es s r o (room-fits (s .tree) room) (entries-fit (s .tree) (length es) fit) (safe-entries one two (s .tree) p c (o .safe) i x g)))) (both 22))
-          (both 20))
-        (both 23))
+      (ap (λ n. leb (n + length es) (attributeRoom (s .tree))) (o .attributeCount) ∙ ap (λ n. leb (r .tree .attributeCount + length es) n) (attribute-room-same _ _ (o .attributes)))
+      (λ fit. pick-both R (s .notes) (r .notes) (leb (s .tree .nodeCount) mostNodes) (leb (r .tree .nodeCount) mostNodes) _ _ _ _ (ap (λ n. leb n mostNodes) (o .nodeCount))
+      (λ few. pick-both R (s .notes) (r .notes) (ltb (s .tree .nodeCount) (nodeRoom (s .tree))) (ltb (r .tree .nodeCount) (nodeRoom (r .tree))) _ _ _ _
+      (ap (λ n. ltb n (nodeRoom (s .tree))) (o .nodeCount) ∙ ap (λ n. ltb (r .tree .nodeCount) n) (node-room-same _ _ (o .nodes .long)))
+      (λ room. same (f es (room-fits (s .tree) room)
+      (outer-add c p es s r o (room-fits (s .tree) room) (entries-fit (s .tree) (length es) fit) (safe-entries one two (s .tree) p c (o .safe) i x g)))) (both 22))
+      (both 20))
+      (both 23))
     where
       es : List Entry
       es = entriesOf (s .tree) p c i x
@@ -179,11 +185,14 @@ module _ (t : ℕ) (one two : List ℕ) where
       Rel (Inner t one two (s .tree .nodeCount) (s .tree .textCount) (s .tree .nodeCount)) (noting (plain one) .element x EId.Text i p s)
       (noting (plain two) .element x EId.Text i p r)
   unfolding addElement
-  enter x g i p s r o = element-rel (Inner t one two (s .tree .nodeCount) (s .tree .textCount) (s .tree .nodeCount)) x g EId.Text i p s r o (λ es room q. record
-      { outer = q; base = omega arith; past = omega arith
-      ; split = λ n h. inr (omega (arith, o .left .below n h .0), o .left .below n h .1)
-      ; label = (its es room 0 (omega arith) (λ x y. omega arith), its es room 5 (omega arith) (λ x y. omega arith))
-      ; opened = (omega arith, here) })
+  enter x g i p s r o = element-rel (Inner t one two (s .tree .nodeCount) (s .tree .textCount) (s .tree .nodeCount)) x g EId.Text i p s r o (λ es room q. record {
+    outer = q;
+    base = omega arith;
+    past = omega arith;
+    split = λ n h. inr (omega (arith, o .left .below n h .0), o .left .below n h .1);
+    label = (its es room 0 (omega arith) (λ x y. omega arith), its es room 5 (omega arith) (λ x y. omega arith));
+    opened = (omega arith, here);
+  })
     where
       its : (es : List Entry) → 8 * s .tree .nodeCount + 8 ≤ length (s .tree .nodes) → (k : ℕ) → k < 8 → (2 ≤ k → k ≤ 4 → ⊥) →
           word (addElement EId.Text es p (s .tree) .nodes) (s .tree .nodeCount) k
@@ -194,15 +203,27 @@ module _ (t : ℕ) (one two : List ℕ) where
       Rel (λ s′ r′. Inner t one two e low (r .tree .nodeCount) s′ r′ × Kept (Inner t one two e low) s r s′ r′)
       (noting (plain one) .element x c false p s) (noting (plain two) .element x c false p r)
   unfolding addElement
-  inner-element e low x g c p s r i = element-rel _ x g c false p s r (i .outer) (λ es room q. let keep = kept es q in
-      (record { outer = q; base = i .base; past = omega (arith, i .past); split = i .split; label = keep p i .label
-        ; opened = rw (← i .outer .nodeCount) (omega arith, under-new ELEMENT c _ _ (s .tree .nodes) p (s .tree .nodeCount) e room (i .opened .0) (i .opened .1)) }, keep))
+  inner-element e low x g c p s r i = element-rel _ x g c false p s r (i .outer) (λ es room q. let keep = kept es q in (
+    record {
+      outer = q;
+      base = i .base;
+      past = omega (arith, i .past);
+      split = i .split;
+      label = keep p i .label;
+      opened = rw (← i .outer .nodeCount) (omega arith, under-new ELEMENT c _ _ (s .tree .nodes) p (s .tree .nodeCount) e room (i .opened .0) (i .opened .1));
+    },
+    keep,
+  ))
     where
       kept : (es : List Entry) → Outer t one two (grown c es p s) (grown c es p r) → Kept (Inner t one two e low) s r (grown c es p s) (grown c es p r)
-      kept es q p′ j = record
-          { outer = q; base = j .base; past = omega (arith, j .past); split = j .split
-          ; label = old-element ELEMENT c _ _ (s .tree .nodes) p (s .tree .nodeCount) e EId.Text (j .past) (j .label)
-          ; opened = (omega (arith, j .opened .0), under-appended ELEMENT c _ _ (s .tree .nodes) p (s .tree .nodeCount) e p′ (j .opened .0) (j .opened .1)) }
+      kept es q p′ j = record {
+        outer = q;
+        base = j .base;
+        past = omega (arith, j .past);
+        split = j .split;
+        label = old-element ELEMENT c _ _ (s .tree .nodes) p (s .tree .nodeCount) e EId.Text (j .past) (j .label);
+        opened = (omega (arith, j .opened .0), under-appended ELEMENT c _ _ (s .tree .nodes) p (s .tree .nodeCount) e p′ (j .opened .0) (j .opened .1));
+      }
 
   inner-up : (e low p : ℕ) (s r : Noted) → eqb p e ≡ false → Inner t one two e low p s r → Inner t one two e low (parentOf (r .tree) p - 1) s r
   inner-up e low p s r f i =
@@ -227,56 +248,69 @@ module _ (t : ℕ) (one two : List ℕ) where
       go k true e g = absurd-bool g
       go k false e g = rw (h .0 (λ x. eqb-false t (a .number) e (sym x)), k g)
 
+  -- All texts that a text node is made from are noted.
+  all-noted : (e : ℕ) (from : List Source) (i j : ℕ) → among t (map (λ a. a .number) from) ≡ true → among t (noteOf e from i j .sources) ≡ true
+  all-noted e from i j h = h
+
   -- Both trees with a new text node.
   abbrev worded : ℕ → List Source → List ℕ → ℕ → Noted → Noted
-  worded e from bs p s = record { tree = addText bs (sizeOf from) p (s .tree); notes = noteOf e from (s .tree) ∷ s .notes }
+  worded e from bs p s = record { tree = addText bs (sizeOf from) p (s .tree); notes = noteOf e from (s .tree .nodeCount) (s .tree .textCount) ∷ s .notes }
 
   inner-worded : (e low p : ℕ) (from : List Source) (s r : Noted) (us vs : List ℕ) → length us ≤ sizeOf from → length vs ≤ sizeOf from →
       ((us ≡ vs) ⊎ (among t (map (λ a. a .number) from) ≡ true)) → 8 * s .tree .nodeCount + 8 ≤ length (s .tree .nodes) → Inner t one two e low p s r →
       Kept (Inner t one two e low) s r (worded e from us p s) (worded e from vs p r)
   unfolding addText entryAt
-  inner-worded e low p from s r us vs la lb c room i p′ j = record
-      { outer = record
-        { notes = notes-same
-        ; nodeCount = ap (λ n. n + 1) (o .nodeCount)
-        ; attributeCount = o .attributeCount
-        ; textCount = ap (λ n. n + sizeOf from) (o .textCount)
-        ; attributes = o .attributes
-        ; nodes = rw (← o .nodeCount, ← o .textCount) (appended-agree TEXT 0 (s .tree .textCount) _ _ p (s .tree .nodeCount) (stable-word t ns p 3 (omega arith)) (stable-word t ns p 4 (omega arith))
-            (λ f. to f c) (agree-weak (λ q f n h d. f n (inr h) (holds-more t (n .elem) new (s .notes) d)) (o .nodes)))
-        ; text = bytes c
-        ; safe = o .safe
-        ; left = good-text (s .notes) e p us (sizeOf from) _ (s .tree) room la (i .past) (i .label) (i .opened .0) (i .opened .1) (o .left)
-        ; right = rw (o .nodeCount, o .textCount) (good-text (s .notes) e p vs (sizeOf from) _ (r .tree) (rw (← o .nodeCount, ← o .nodes .long) room) lb (rw (o .nodeCount) at (i .past))
-            (sym (o .nodes .at (8 * e + 0) (stable-word t (s .notes) e 0 (omega arith))) ∙ i .label .0, sym (o .nodes .at (8 * e + 5) (stable-word t (s .notes) e 5 (omega arith))) ∙ i .label .1)
-            (rw (o .nodeCount) at (i .opened .0))
-            (under-keep (s .tree .nodes) (r .tree .nodes) e (s .tree .nodeCount) (λ m b. sym (o .nodes .at (8 * m + 1) (stable-word t (s .notes) m 1 (omega arith)))) p (i .opened .0) (i .opened .1))
-            (o .right)) }
-      ; base = omega (arith, i .base)
-      ; past = omega (arith, i .past)
-      ; split = λ n h. split n h
-      ; label = old-element TEXT 0 _ _ (s .tree .nodes) p (s .tree .nodeCount) e EId.Text (i .past) (i .label)
-      ; opened = (omega (arith, j .opened .0), under-appended TEXT 0 _ _ (s .tree .nodes) p (s .tree .nodeCount) e p′ (j .opened .0) (j .opened .1)) }
+  inner-worded e low p from s r us vs la lb c room i p′ j = record {
+    outer = record {
+      notes = notes-same;
+      nodeCount = ap (λ n. n + 1) (o .nodeCount);
+      attributeCount = o .attributeCount;
+      textCount = ap (λ n. n + sizeOf from) (o .textCount);
+      attributes = o .attributes;
+      nodes = rw (← o .nodeCount, ← o .textCount) (appended-agree TEXT 0 (s .tree .textCount) _ _ p (s .tree .nodeCount) (stable-word t ns p 3 (omega arith)) (stable-word t ns p 4 (omega arith))
+          (λ f. to f c) (agree-weak (λ q f n h d. f n (inr h) (holds-more t (n .elem) new (s .notes) d)) (o .nodes)));
+      text = bytes c;
+      safe = o .safe;
+      left = good-text (s .notes) e p us (sizeOf from) _ (s .tree) room la (i .past) (i .label) (i .opened .0) (i .opened .1) (o .left);
+      right = rw (o .nodeCount, o .textCount) (good-text (s .notes) e p vs (sizeOf from) _ (r .tree) (rw (← o .nodeCount, ← o .nodes .long) room) lb (rw (o .nodeCount) at (i .past))
+          (sym (o .nodes .at (8 * e + 0) (stable-word t (s .notes) e 0 (omega arith))) ∙ i .label .0, sym (o .nodes .at (8 * e + 5) (stable-word t (s .notes) e 5 (omega arith))) ∙ i .label .1)
+          (rw (o .nodeCount) at (i .opened .0))
+          (under-keep (s .tree .nodes) (r .tree .nodes) e (s .tree .nodeCount) (λ m b. sym (o .nodes .at (8 * m + 1) (stable-word t (s .notes) m 1 (omega arith)))) p (i .opened .0) (i .opened .1))
+          (o .right));
+    };
+    base = omega (arith, i .base);
+    past = omega (arith, i .past);
+    split = λ n h. split n h;
+    label = old-element TEXT 0 _ _ (s .tree .nodes) p (s .tree .nodeCount) e EId.Text (i .past) (i .label);
+    opened = (omega (arith, j .opened .0), under-appended TEXT 0 _ _ (s .tree .nodes) p (s .tree .nodeCount) e p′ (j .opened .0) (j .opened .1));
+  }
     where
       o : Outer t one two s r
       o = i .outer
+
       new : Note
-      new = noteOf e from (s .tree)
+      new = noteOf e from (s .tree .nodeCount) (s .tree .textCount)
+
       ns : List Note
       ns = new ∷ s .notes
-      notes-same : noteOf e from (s .tree) ∷ s .notes ≡ noteOf e from (r .tree) ∷ r .notes
-      notes-same = λ x. record { node = o .nodeCount x; elem = e; start = o .textCount x; size = sizeOf from; sources = map (λ a. a .number) from } ∷ o .notes x
+
+      notes-same : new ∷ s .notes ≡ noteOf e from (r .tree .nodeCount) (r .tree .textCount) ∷ r .notes
+      notes-same = λ x. noteOf e from (o .nodeCount x) (o .textCount x) ∷ o .notes x
+
       to : Stable t ns (8 * s .tree .nodeCount + 7) → (us ≡ vs) ⊎ (among t (map (λ a. a .number) from) ≡ true) → s .tree .textCount + length us ≡ s .tree .textCount + length vs
       to f (inl x) = rw x
-      to f (inr x) = absurd (f new (inl refl) (holds-new t new (s .notes) x) .1 refl)
+      to f (inr x) = absurd (f new (inl refl) (holds-new t new (s .notes) (all-noted e from (s .tree .nodeCount) (s .tree .textCount) x)) .1 refl)
+
       weak : Agree (Steady t ns) (s .tree .text) (r .tree .text)
       weak = agree-weak (λ q f n h d. f n (inr h) (holds-more t (n .elem) new (s .notes) d)) (o .text)
+
       bytes : (us ≡ vs) ⊎ (among t (map (λ a. a .number) from) ≡ true) → Agree (Steady t ns) (sets (s .tree .text) (s .tree .textCount) us) (sets (r .tree .text) (r .tree .textCount) vs)
       bytes (inl x) = rw (x, ← o .textCount) (agree-sets vs (s .tree .textCount) weak)
       bytes (inr x) =
-          let w = holds-new t new (s .notes) x in
+          let w = holds-new t new (s .notes) (all-noted e from (s .tree .nodeCount) (s .tree .textCount) x) in
           agree-trans (agree-outs us (s .tree .text) (s .tree .textCount) (λ j a b f. f new (inl refl) w a (omega arith)))
           (agree-trans weak (agree-sym (agree-outs vs (r .tree .text) (r .tree .textCount) (λ j a b f. f new (inl refl) w (omega (arith, o .textCount)) (omega (arith, o .textCount))))))
+
       split : (n : Note) → In n ns → ((n .elem ≡ e) × (low ≤ n .start)) ⊎ ((n .node ≤ e) × (n .start + n .size ≤ low))
       split n (inl h) = inl (ap (λ (m : Note). m .elem) h, rw h (i .base))
       split n (inr h) = i .split n h
@@ -318,9 +352,9 @@ module _ (t : ℕ) (one two : List ℕ) where
       pick-both (Kept (Inner t one two e low) s r) _ _ (leb (s .tree .textCount + sizeOf from) (textRoom (s .tree))) (leb (r .tree .textCount + sizeOf from) (textRoom (r .tree))) _ _ _ _
       (ap (λ n. leb (n + sizeOf from) (textRoom (s .tree))) (i .outer .textCount) ∙ ap (λ n. leb (r .tree .textCount + sizeOf from) n) (text-room-same _ _ (i .outer .text .long)))
       (λ x. pick-both (Kept (Inner t one two e low) s r) _ _ (ltb (s .tree .nodeCount) (nodeRoom (s .tree))) (ltb (r .tree .nodeCount) (nodeRoom (r .tree))) _ _ _ _
-        (ap (λ n. ltb n (nodeRoom (s .tree))) (i .outer .nodeCount) ∙ ap (λ n. ltb (r .tree .nodeCount) n) (node-room-same _ _ (i .outer .nodes .long)))
-        (λ room. same (inner-worded e low p from s r _ _ (text-fits _ one from) (text-fits _ two from)
-          (texts-same _ _ (space-same one two (s .tree) (r .tree) (outer-same s r (i .outer)) p) from h) (room-fits (s .tree) room) i)) (both 22))
+      (ap (λ n. ltb n (nodeRoom (s .tree))) (i .outer .nodeCount) ∙ ap (λ n. ltb (r .tree .nodeCount) n) (node-room-same _ _ (i .outer .nodes .long)))
+      (λ room. same (inner-worded e low p from s r _ _ (text-fits _ one from) (text-fits _ two from)
+      (texts-same _ _ (space-same one two (s .tree) (r .tree) (outer-same s r (i .outer)) p) from h) (room-fits (s .tree) room) i)) (both 22))
       (both 24)
 
   -- THE END OF A TEXT ELEMENT
@@ -340,7 +374,7 @@ module _ (t : ℕ) (one two : List ℕ) where
     w = spaceOf one (s .tree) e
 
     is : List TextNode
-    is = textNodes one (s .tree) w e (e + 1) (s .tree .nodeCount - (e + 1))
+    is = ownTextNodes one (s .tree) w e (s .tree .nodeCount)
 
     g : Trimming
     g = trimming w is
@@ -352,19 +386,21 @@ module _ (t : ℕ) (one two : List ℕ) where
       where
         o : Outer t one two s r
         o = i .outer
+
         h : Same one two (s .tree) (r .tree)
         h = outer-same s r o
+
         wr : XmlSpace
         wr = spaceOf two (r .tree) e
-        program : trimming w is ≡ trimming wr (textNodes two (r .tree) wr e (e + 1) (r .tree .nodeCount - (e + 1)))
+
+        program : trimming w is ≡ trimming wr (ownTextNodes two (r .tree) wr e (r .tree .nodeCount))
         program =
-            ap (λ l. trimming w l) (text-nodes-same one two (s .tree) (r .tree) h w e (e + 1) (s .tree .nodeCount - (e + 1))
-              ∙ ap (λ n. textNodes two (r .tree) w e (e + 1) (n - (e + 1))) (o .nodeCount))
-            ∙ ap (λ v. trimming v (textNodes two (r .tree) v e (e + 1) (r .tree .nodeCount - (e + 1)))) (space-same one two (s .tree) (r .tree) h e)
+            ap (λ l. trimming w l) (own-nodes-same one two (s .tree) (r .tree) h w e (s .tree .nodeCount) ∙ ap (λ n. ownTextNodes two (r .tree) w e n) (o .nodeCount))
+            ∙ ap (λ v. trimming v (ownTextNodes two (r .tree) v e (r .tree .nodeCount))) (space-same one two (s .tree) (r .tree) h e)
 
     within : (Q : ℕ → Type 0) → ((j : ℕ) → e < j → j < s .tree .nodeCount → kindOf (s .tree) j ≡ TEXT → Q j) → Within Q g
     unfolding is g
-    within Q h = within-trimming Q w is (collected Q one (s .tree) w e (e + 1) (s .tree .nodeCount - (e + 1)) (λ j a b k. h j (omega arith) (omega (arith, i .past)) k))
+    within Q h = within-trimming Q w is (own-collected Q one (s .tree) w e (s .tree .nodeCount) (i .past) h)
 
     abbrev Alike : Tree → Tree → Type 0
     Alike a b = Agree (Stable t (s .notes)) (a .nodes) (b .nodes) × Agree (Steady t (s .notes)) (a .text) (b .text)
@@ -378,8 +414,10 @@ module _ (t : ℕ) (one two : List ℕ) where
         loose = within _ (λ j x y k. let m = mine j x y k in
             let d : holds t (m .0 .elem) (s .notes) ≡ true = rw (m .3) h in
             (λ f. f (m .0) (m .1) d .0 (omega (arith, m .2)), λ f. f (m .0) (m .1) d .1 (omega (arith, m .2)), (m .0, m .1, m .2, λ q u v f. f (m .0) (m .1) d u v)))
+
         a : Alike (run g (s .tree)) (s .tree)
         a = run-out (s .notes) g (s .tree) (i .outer .left) loose
+
         b : Alike (run g (r .tree)) (r .tree)
         b = run-out (s .notes) g (r .tree) (i .outer .right) loose
 
@@ -400,8 +438,11 @@ module _ (t : ℕ) (one two : List ℕ) where
 
     free : holds t e (s .notes) ≡ false → Alike (run g (s .tree)) (run g (r .tree))
     free h = run-both (s .notes) g (s .tree) (r .tree) (i .outer .left)
-        (within _ (λ j x y k. let m = mine j x y k in (own-stable h j 6 x (omega arith) (omega arith), own-stable h j 7 x (omega arith) (omega arith),
-          (m .0, m .1, m .2, λ q u v. own-steady h q (omega (arith, m .4)))))) (i .outer .nodes) (i .outer .text)
+        (within _ (λ j x y k. let m = mine j x y k in (
+          own-stable h j 6 x (omega arith) (omega arith),
+          own-stable h j 7 x (omega arith) (omega arith),
+          (m .0, m .1, m .2, λ q u v. own-steady h q (omega (arith, m .4))),
+        ))) (i .outer .nodes) (i .outer .text)
 
     trimmed-alike : Alike (run g (s .tree)) (run g (r .tree))
     trimmed-alike = go (holds t e (s .notes)) refl
@@ -416,17 +457,18 @@ module _ (t : ℕ) (one two : List ℕ) where
         let o = i .outer in
         let u = run-unmoved g (s .tree) in
         let v = run-unmoved g (r .tree) in
-        rw right-run (record
-        { notes = o .notes
-        ; nodeCount = u .nodeCount ∙ o .nodeCount ∙ sym (v .nodeCount)
-        ; attributeCount = u .attributeCount ∙ o .attributeCount ∙ sym (v .attributeCount)
-        ; textCount = u .textCount ∙ o .textCount ∙ sym (v .textCount)
-        ; attributes = u .attributes ∙ o .attributes ∙ sym (v .attributes)
-        ; nodes = trimmed-alike .0
-        ; text = trimmed-alike .1
-        ; safe = λ j. entry-safe one two (run g (s .tree)) (s .tree) (u .attributes) (o .safe) j
-        ; left = good-run (s .notes) g (s .tree) (o .left)
-        ; right = good-run (s .notes) g (r .tree) (o .right) })
+        rw right-run (record {
+          notes = o .notes;
+          nodeCount = u .nodeCount ∙ o .nodeCount ∙ sym (v .nodeCount);
+          attributeCount = u .attributeCount ∙ o .attributeCount ∙ sym (v .attributeCount);
+          textCount = u .textCount ∙ o .textCount ∙ sym (v .textCount);
+          attributes = u .attributes ∙ o .attributes ∙ sym (v .attributes);
+          nodes = trimmed-alike .0;
+          text = trimmed-alike .1;
+          safe = λ j. entry-safe one two (run g (s .tree)) (s .tree) (u .attributes) (o .safe) j;
+          left = good-run (s .notes) g (s .tree) (o .left);
+          right = good-run (s .notes) g (r .tree) (o .right);
+        })
 
   -- A TEXT ELEMENT WHOLE
 
@@ -435,17 +477,17 @@ module _ (t : ℕ) (one two : List ℕ) where
       Rel (Outer t one two) (label (noting (plain one)) all x xs i p s) (label (noting (plain two)) all x xs i p r)
   label-rel all ok x g xs h i p s r o =
       then-rel (Inner t one two (s .tree .nodeCount) (s .tree .textCount) (s .tree .nodeCount)) (Outer t one two) _ _ (enter x g i p s r o) (λ s′ r′ j.
-        rw (← o .nodeCount)
-        (then-rel (λ a b. (q : ℕ) × Inner t one two (s .tree .nodeCount) (s .tree .textCount) q a b) (Outer t one two) _ _
-          (inside-sim (Inner t one two (s .tree .nodeCount) (s .tree .textCount)) (λ a b. (q : ℕ) × Inner t one two (s .tree .nodeCount) (s .tree .textCount) q a b)
-            (SpelledElement one two) Harmless (noting (plain one)) (noting (plain two)) all ok (s .tree .nodeCount)
-            (λ y gy c q a b k. inner-element (s .tree .nodeCount) (s .tree .textCount) y gy c q a b k)
-            (λ from hf q a b k. inner-text (s .tree .nodeCount) (s .tree .textCount) from hf q a b k)
-            (λ q a b k. k .outer .nodeCount)
-            (λ q a b k. ap (λ n. n - 1) (k .outer .nodes .at (8 * q + 1) (stable-word t (a .notes) q 1 (omega arith))))
-            (λ q a b f k. inner-up (s .tree .nodeCount) (s .tree .textCount) q a b f k)
-            (λ q a b k. (q, k)) xs h zero (s .tree .nodeCount) s′ r′ j)
-          (λ a b k. same (leave (s .tree .nodeCount) (s .tree .textCount) (k .0) a b (k .1)))))
+      rw (← o .nodeCount)
+      (then-rel (λ a b. (q : ℕ) × Inner t one two (s .tree .nodeCount) (s .tree .textCount) q a b) (Outer t one two) _ _
+      (inside-sim (Inner t one two (s .tree .nodeCount) (s .tree .textCount)) (λ a b. (q : ℕ) × Inner t one two (s .tree .nodeCount) (s .tree .textCount) q a b)
+      (SpelledElement one two) Harmless (noting (plain one)) (noting (plain two)) all ok (s .tree .nodeCount)
+      (λ y gy c q a b k. inner-element (s .tree .nodeCount) (s .tree .textCount) y gy c q a b k)
+      (λ from hf q a b k. inner-text (s .tree .nodeCount) (s .tree .textCount) from hf q a b k)
+      (λ q a b k. k .outer .nodeCount)
+      (λ q a b k. ap (λ n. n - 1) (k .outer .nodes .at (8 * q + 1) (stable-word t (a .notes) q 1 (omega arith))))
+      (λ q a b f k. inner-up (s .tree .nodeCount) (s .tree .textCount) q a b f k)
+      (λ q a b k. (q, k)) xs h zero (s .tree .nodeCount) s′ r′ j)
+      (λ a b k. same (leave (s .tree .nodeCount) (s .tree .textCount) (k .0) a b (k .1)))))
 
   -- THE NODES OF THE TOP LEVEL
 

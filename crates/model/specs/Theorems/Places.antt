@@ -1,6 +1,6 @@
 -- Places in the characters: a text's place is disjoint from every other string's, which follows from the decoding; so a drawing with one text
 -- exchanged has the same events, and check takes it.
-use Prim.Native.Nat.{ℕ, zero, suc, _+_, _-_, _≤_, _<_}
+use Prim.Native.Nat.{ℕ, suc, _+_, _≤_, _<_}
 use mathlib.Core.Path.{_≡_, refl, sym, ap, _∙_}
 use mathlib.Core.Logic.{_⊎_, inl, inr}
 use mathlib.Core.Bool.{Bool, true, false, not}
@@ -13,12 +13,12 @@ use lib.Dec.{eqb, ltb}
 use lib.Seq.{slice}
 use Rattle.model.specs.Base.{pick}
 use Rattle.model.specs.Utf8.{isUtf8}
-use Rattle.model.specs.Drawing.{Command, opening, attribute, declaration, reading, closing, broken, Part, Reading, Value, Attribute, Declaration, Element, Source, Event, begin, text, other, close, Mark, past, partAt, readingsAt, valueAt, attributesAt, declarationsAt, elementAt, sourceAt, eventsFrom, textNumbered}
-use Rattle.model.specs.Check.{State, Last, nothing, value, Test, _if_, firstOf, isHalfFont, isNothing, startOf, sizeOf, kindsOf, testsOf, testsAtEnd, stepped, checkFrom}
-use Rattle.model.specs.Sim.{Every, Events}
-use Rattle.model.specs.Agree.{Agree, agree-slice}
-use Rattle.model.specs.Spelled.{Spelled, SpelledElement}
-use Rattle.model.specs.Related.{Harmless, absurd-bool}
+use Rattle.model.specs.Drawing.{Command, opening, attribute, declaration, reading, closing, broken, Reading, Attribute, Declaration, Source, Event, begin, text, other, close, Mark, past, partAt, readingsAt, valueAt, attributesAt, declarationsAt, elementAt, sourceAt, eventsFrom, textNumbered}
+use Rattle.model.specs.Check.{State, Last, nothing, value, Test, _if_, firstOf, isNothing, startOf, sizeOf, kindsOf, testsOf, testsAtEnd, stepped, checkFrom}
+use Rattle.model.specs.Theorems.Sim.{Every, Events}
+use Rattle.model.specs.Theorems.Agree.{Agree, agree-slice}
+use Rattle.model.specs.Theorems.Spelled.{Spelled, SpelledElement}
+use Rattle.model.specs.Theorems.Related.{Harmless, absurd-bool}
 
 -- WHAT CHECK HAS SEEN
 
@@ -161,8 +161,11 @@ module _ (t : ℕ) (a : Source) where
           let n : m .texts + 1 ≡ t = eqb-true _ _ e in
           let x : m .at ≡ a .start = ap (λ (s : Source). s .start) q in
           let y : l ≡ a .size = ap (λ (s : Source). s .size) q in
-          record { before = omega arith; number = sym (ap (λ (s : Source). s .number) q) ∙ n
-            ; clear = (λ f. absurd (f n), λ f. (x, y), clear-behind (past m (Command.text l)) cs (omega arith) (omega arith)) }
+          record {
+            before = omega arith;
+            number = sym (ap (λ (s : Source). s .number) q) ∙ n;
+            clear = (λ f. absurd (f n), λ f. (x, y), clear-behind (past m (Command.text l)) cs (omega arith) (omega arith));
+          }
       go false e g r =
           let k = r g in
           let n : m .texts + 1 ≡ t → ⊥ = eqb-false _ _ e in
@@ -320,11 +323,11 @@ module _ (t : ℕ) (a : Source) where
         where
           go : (w : Last) → LastAway w →
               firstOf (3 if not (Rattle.model.specs.Base.and (lib.Dec.leb 1 k) (lib.Dec.leb k 10)) ∷ 4 if isNothing w ∷ 6 if ltb (sizeOf w) (o + n)
-                ∷ 7 if Rattle.model.specs.Base.and (not (eqb k 4)) (Rattle.model.specs.Base.among k (kindsOf w))
-                ∷ 9 if not (isUtf8 (slice (startOf w + o) (startOf w + o + n) one)) ∷ []) ≡ 0 →
+              ∷ 7 if Rattle.model.specs.Base.and (not (eqb k 4)) (Rattle.model.specs.Base.among k (kindsOf w))
+              ∷ 9 if not (isUtf8 (slice (startOf w + o) (startOf w + o + n) one)) ∷ []) ≡ 0 →
               firstOf (3 if not (Rattle.model.specs.Base.and (lib.Dec.leb 1 k) (lib.Dec.leb k 10)) ∷ 4 if isNothing w ∷ 6 if ltb (sizeOf w) (o + n)
-                ∷ 7 if Rattle.model.specs.Base.and (not (eqb k 4)) (Rattle.model.specs.Base.among k (kindsOf w))
-                ∷ 9 if not (isUtf8 (slice (startOf w + o) (startOf w + o + n) two)) ∷ []) ≡ 0
+              ∷ 7 if Rattle.model.specs.Base.and (not (eqb k 4)) (Rattle.model.specs.Base.among k (kindsOf w))
+              ∷ 9 if not (isUtf8 (slice (startOf w + o) (startOf w + o + n) two)) ∷ []) ≡ 0
           go nothing q f = absurd-bool (first-drop 3 _ _ (first-drop 2 _ _ f .1) .0)
           go (value v z ks) q f =
               let d = first-drop 5 _ _ (first-drop 3 _ _ (first-drop 2 _ _ f .1) .1) in
@@ -354,15 +357,15 @@ module _ (t : ℕ) (a : Source) where
       check-same s m (attribute c n j ∷ cs) e l h k =
           let d = check-cons one size s (attribute c n j) cs k in
           check-step two size s (attribute c n j) cs (passes s m (attribute c n j) cs e l h (d .0))
-            (check-same _ (past m (attribute c n j)) cs (omega arith) (rw e (h .0)) (h .1) (d .1))
+          (check-same _ (past m (attribute c n j)) cs (omega arith) (rw e (h .0)) (h .1) (d .1))
       check-same s m (declaration c i j ∷ cs) e l h k =
           let d = check-cons one size s (declaration c i j) cs k in
           check-step two size s (declaration c i j) cs (passes s m (declaration c i j) cs e l h (d .0))
-            (check-same _ (past m (declaration c i j)) cs (omega arith) (rw e (h .0)) (h .1) (d .1))
+          (check-same _ (past m (declaration c i j)) cs (omega arith) (rw e (h .0)) (h .1) (d .1))
       check-same s m (reading c o j ∷ cs) e l h k =
           let d = check-cons one size s (reading c o j) cs k in
           check-step two size s (reading c o j) cs (passes s m (reading c o j) cs e l h (d .0))
-            (check-same _ (past m (reading c o j)) cs (omega arith) (still (s .last) l (reading-placed one size s c o j (d .0))) h (d .1))
+          (check-same _ (past m (reading c o j)) cs (omega arith) (still (s .last) l (reading-placed one size s c o j (d .0))) h (d .1))
         where
           still : (w : Last) → LastAway w → isNothing w ≡ false → Away a (startOf w) (sizeOf w)
           still nothing q f = absurd-bool f

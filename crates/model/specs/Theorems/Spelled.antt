@@ -1,24 +1,24 @@
 -- Entries of an element whose values are spelled by two lists of characters alike have the same value by both.
 use Prim.Native.Nat.{ℕ, zero, suc, _+_, _-_, _*_, _≤_, _<_}
-use mathlib.Core.Path.{_≡_, refl, sym, ap, _∙_}
+use mathlib.Core.Path.{_≡_, refl, ap, _∙_}
 use mathlib.Core.Bool.{Bool, true, false, not}
 use mathlib.Core.List.{List, [], _∷_, _++_}
 use mathlib.Core.Option.{Option, none, some}
 use native.Mathlib.Omega.{arith}
 use native.Mathlib.Decide.{decLt}
-use lib.Dec.{eqb, leb}
+use lib.Dec.{eqb}
 use lib.ListN.{length, getD}
-use lib.Seq.{sets, slice, getD-append-add}
+use lib.Seq.{sets, slice}
 use Rattle.model.specs.Base.{pick, and, or, given, folded, sameBytes, Pair}
 use Rattle.model.specs.Names.{allowsInheritValue, inheritDefault, isPresentation, fontResets, fixedBytes}
 use Rattle.model.specs.EId
 use Rattle.model.specs.AId
-use Rattle.model.specs.Drawing.{Part, Reading, Value, Attribute, Declaration, Element, readingOf}
+use Rattle.model.specs.Drawing.{Part, Reading, Attribute, Declaration, Element, readingOf}
 use Rattle.model.specs.Tables.{Tree, Entry, entryWords, entriesWords, entryWord, entryAt, valueOf, attributeId, fixedEntry, addElement}
-use Rattle.model.specs.Element.{inheritWord, marker, inheritedFrom, copyFrom, defaultOf, resolveInherit, appendAttribute, isTaken, hasEntry, onFirst, withValue, overwriteHref, withMore, addAttribute, replaces, insertEntry, fontParts, insertAttribute, resetTo, insertPart, isRead, writeDeclaration, entriesOf}
-use Rattle.model.specs.Sim.{Every}
-use Rattle.model.specs.Agree.{sets-in, sets-out}
-use Rattle.model.specs.SameRepair.{entry-by-words, fixed-safe}
+use Rattle.model.specs.Element.{inheritWord, marker, inheritedFrom, defaultOf, resolveInherit, appendAttribute, isTaken, hasEntry, onFirst, withValue, withMore, addAttribute, replaces, insertEntry, fontParts, insertAttribute, resetTo, insertPart, isRead, writeDeclaration, entriesOf}
+use Rattle.model.specs.Theorems.Sim.{Every}
+use Rattle.model.specs.Theorems.Agree.{sets-in, sets-out}
+use Rattle.model.specs.Theorems.SameRepair.{entry-by-words, fixed-safe}
 
 -- The words of an entry that is read are those of the table.
 entry-word : (t : Tree) (j w : ℕ) → w < 5 → getD (entryWords (entryAt t j)) w 0 ≡ entryWord t j w
@@ -101,6 +101,7 @@ module _ (one two : List ℕ) where
       where
         last : (n : ℕ) → SafeIf (defaultOf t p a n)
         last n = safe-if-pick (eqb n 0) _ _ tt (fixed-safe one two (fixedEntry a 0 n) refl)
+
         go : (j : ℕ) → SafeIf (given (pick (eqb j 0) (λ u. none) (λ u. some (entryAt t (j - 1)))) (λ e. some e) (λ u. defaultOf t p a (inheritDefault a)))
         go j = or-last (eqb j 0)
           where
@@ -123,10 +124,10 @@ module _ (one two : List ℕ) where
     safe-add g es x h s =
         every-pick (not (isTaken g x)) _ _ s
         (every-pick (and (eqb (x .name) AId.Href) (hasEntry AId.Href es)) _ _
-          (every-pick (eqb (x .namespace) 0) _ _
-            (every-first (withValue (x .value)) AId.Href es (λ e q. part-safe (e .name) (e .important) (x .value .part) (x .value .command) h) s) s)
-          (safe-more es (appendAttribute t p tag (x .name) 0 (x .value .part) (x .value .command)) s
-            (safe-append (x .name) 0 (x .value .part) (x .value .command) h)))
+        (every-pick (eqb (x .namespace) 0) _ _
+        (every-first (withValue (x .value)) AId.Href es (λ e q. part-safe (e .name) (e .important) (x .value .part) (x .value .command) h) s) s)
+        (safe-more es (appendAttribute t p tag (x .name) 0 (x .value .part) (x .value .command)) s
+        (safe-append (x .name) 0 (x .value .part) (x .value .command) h)))
 
     module _ (d : Declaration) (h : Spelled (d .value .part)) (hs : Every (λ (r : Reading). Spelled (r .part)) (d .value .readings)) where
       safe-insert : (es : List Entry) (a : ℕ) (v : Part) → Spelled v → Every Safe es → Every Safe (insertAttribute t p tag d es a v)
@@ -151,13 +152,13 @@ module _ (one two : List ℕ) where
       safe-write es s =
           every-pick (eqb (d .name) marker) _ _
           (every-folded (λ es a. insertAttribute t p tag d es a (d .value .part)) (λ a. Unit {0}) (λ es a u q. safe-insert es a (d .value .part) h q) es
-            (AId.MarkerStart ∷ AId.MarkerMid ∷ AId.MarkerEnd ∷ []) (tt, (tt, (tt, tt))) s)
+          (AId.MarkerStart ∷ AId.MarkerMid ∷ AId.MarkerEnd ∷ []) (tt, (tt, (tt, tt))) s)
           (every-pick (eqb (d .name) AId.Font) _ _
-            (every-pick (and (isRead t p tag d 9) (isRead t p tag d 10)) _ _
-              (every-folded (insertPart t p tag d) (λ k. Unit {0}) (λ es k u q. reading-spelled (k .key) (d .value .readings) hs es (k .value) q)
-                (folded (resetTo t p tag d) es fontResets) fontParts (every-any (λ k. Unit {0}) (λ k. tt) fontParts)
-                (every-folded (resetTo t p tag d) (λ r. Unit {0}) safe-reset es fontResets (every-any (λ r. Unit {0}) (λ r. tt) fontResets) s)) s)
-            (every-pick (isPresentation (d .name)) _ _ (safe-insert es (d .name) (d .value .part) h s) s))
+          (every-pick (and (isRead t p tag d 9) (isRead t p tag d 10)) _ _
+          (every-folded (insertPart t p tag d) (λ k. Unit {0}) (λ es k u q. reading-spelled (k .key) (d .value .readings) hs es (k .value) q)
+          (folded (resetTo t p tag d) es fontResets) fontParts (every-any (λ k. Unit {0}) (λ k. tt) fontParts)
+          (every-folded (resetTo t p tag d) (λ r. Unit {0}) safe-reset es fontResets (every-any (λ r. Unit {0}) (λ r. tt) fontResets) s)) s)
+          (every-pick (isPresentation (d .name)) _ _ (safe-insert es (d .name) (d .value .part) h s) s))
 
     pub safe-entries : (g : Bool) (e : Element) → SpelledElement e → Every Safe (entriesOf t p tag g e)
     unfolding entriesOf
@@ -176,11 +177,11 @@ module _ (one two : List ℕ) where
   words-safe [] h k l e f = absurd (omega arith)
   words-safe (x ∷ es) h zero l e f =
       let q : e ≡ x = λ i. record
-            { name = f 0 (omega arith) i; important = f 1 (omega arith) i; start = f 2 (omega arith) i; size = f 3 (omega arith) i; command = f 4 (omega arith) i } in
+      { name = f 0 (omega arith) i; important = f 1 (omega arith) i; start = f 2 (omega arith) i; size = f 3 (omega arith) i; command = f 4 (omega arith) i } in
       rw q (h .0)
   words-safe (x ∷ es) h (suc k) l e f =
       words-safe es (h .1) k (omega arith) e (λ w b.
-        f w b ∙ ap (λ j. getD (entriesWords (x ∷ es)) j 0) (place w))
+      f w b ∙ ap (λ j. getD (entriesWords (x ∷ es)) j 0) (place w))
     where
       place : (w : ℕ) → 5 * suc k + w ≡ suc (suc (suc (suc (suc (5 * k + w)))))
       place w = omega arith
@@ -198,14 +199,16 @@ module _ (one two : List ℕ) where
     where
       n : ℕ
       n = t .attributeCount
+
       long : length (entriesWords es) ≡ 5 * length es
       long = entries-long es
+
       go : Dec (j < n) → Dec (j < n + length es) → Safe (entryAt (addElement c es p t) j)
       go (yes a) d = rw (entry-by-words (addElement c es p t) t j (λ k b. sets-out (entriesWords es) (t .attributes) (5 * n) (5 * j + k) (λ x y. omega (arith, long)))) (safe j)
       go (no a) (yes b) =
           words-safe es h (j - n) (omega arith) (entryAt (addElement c es p t) j) (λ w l.
-            entry-word (addElement c es p t) j w l ∙ ap (λ q. getD (sets (t .attributes) (5 * n) (entriesWords es)) q 0) (place w)
-              ∙ sets-in (entriesWords es) (t .attributes) (5 * n) (5 * (j - n) + w) (omega (arith, long)) (omega (arith, long)))
+          entry-word (addElement c es p t) j w l ∙ ap (λ q. getD (sets (t .attributes) (5 * n) (entriesWords es)) q 0) (place w)
+          ∙ sets-in (entriesWords es) (t .attributes) (5 * n) (5 * (j - n) + w) (omega (arith, long)) (omega (arith, long)))
         where
           place : (w : ℕ) → 5 * j + w ≡ 5 * n + (5 * (j - n) + w)
           place w = omega arith

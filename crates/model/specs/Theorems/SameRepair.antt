@@ -1,6 +1,6 @@
 -- The repairs of two trees that are the same in the sense of Same make the same cuts.
-use Prim.Native.Nat.{ℕ, zero, suc, _+_, _-_, _*_, _≤_, _<_}
-use mathlib.Core.Path.{_≡_, refl, sym, ap, _∙_, fun-ext}
+use Prim.Native.Nat.{ℕ, zero, suc, _+_, _-_, _*_, _<_}
+use mathlib.Core.Path.{_≡_, refl, ap, _∙_, fun-ext}
 use mathlib.Core.Bool.{Bool, true, false}
 use mathlib.Core.List.{List, [], _∷_, _++_, map}
 use mathlib.Core.Option.{Option, none, some}
@@ -13,12 +13,12 @@ use borrow.Author.Tests.{eq-eqb}
 use Rattle.model.specs.Base.{pick, given, folded, sameBytes}
 use Rattle.model.specs.EId
 use Rattle.model.specs.AId
-use Rattle.model.specs.Drawing.{Part, Value, readingsOf, readingOf}
-use Rattle.model.specs.Tables.{Tree, parentOf, Entry, entryWord, entryAt, valueOf, attributeId, valueAtEntry, attributeOf, elementById, setNone}
-use Rattle.model.specs.Repair.{upFrom, allNamed, belowFrom, descendants, firstFound, readingsAt, linkOf, elementId, paintsWith, linkKind, nodeAttribute, firstBelow, recursivePatternAt, findRecursivePattern, recursiveLinkAt, findRecursiveLink, anyReading, recursiveFeImage, feImageLinks, Cut, cutName, applyCut, nextCut, cutsFrom, cutsOf, cutsOfAll, repairs, repaired}
+use Rattle.model.specs.Drawing.{Value, readingOf}
+use Rattle.model.specs.Tables.{Tree, parentOf, Entry, entryWord, entryAt, valueOf, attributeId, attributeOf, elementById, setNone}
+use Rattle.model.specs.Repair.{upFrom, allNamed, belowFrom, descendants, firstFound, readingsAt, linkOf, elementId, paintsWith, linkKind, nodeAttribute, firstBelow, recursivePatternAt, findRecursivePattern, recursiveLinkAt, findRecursiveLink, recursiveFeImage, feImageLinks, Cut, cutName, applyCut, nextCut, cutsFrom, cutsOf, cutsOfAll, repairs, repaired}
 use Rattle.model.specs.Names.{fixedBytes}
-use Rattle.model.specs.Agree.{sets-out}
-use Rattle.model.specs.Same.{Same, entry-same, value-same, attribute-id-same, attribute-of-same, by-id-same, named-same}
+use Rattle.model.specs.Theorems.Agree.{sets-out}
+use Rattle.model.specs.Theorems.Same.{Same, entry-same, value-same, attribute-id-same, attribute-of-same, by-id-same, named-same}
 
 given-same : {A B : Type 0} (o : Option A) (f g : A → B) (b : B) → ((a : A) → f a ≡ g a) → given o f (λ u. b) ≡ given o g (λ u. b)
 given-same (some a) f g b h = h a
@@ -65,30 +65,34 @@ module _ (one two : List ℕ) (values : List Value) (s r : Tree) (h : Same one t
   unfolding recursivePatternAt
   pattern-at-same a id i =
       ap (λ l. given (readingOf 3 l) (λ v. pick (sameBytes (v .bytes) id) (λ u. i + 1) (λ u. firstBelow s (paintsWith one values s a id) (elementById one s (v .bytes)))) (λ u. 0)) (readings-same a i)
-      ∙ given-same (linkOf two values 3 r a i) _ _ 0 (λ v. rw (by-id-same one two s r h (v .bytes),
-          below-first-same (paintsWith one values s a id) (paintsWith two values r a id) (paints-same a id) (elementById two r (v .bytes))))
+      ∙ given-same (linkOf two values 3 r a i) _ _ 0 (λ v. rw (
+        by-id-same one two s r h (v .bytes),
+        below-first-same (paintsWith one values s a id) (paintsWith two values r a id) (paints-same a id) (elementById two r (v .bytes)),
+      ))
 
   pattern-same : (a : ℕ) → findRecursivePattern one values a s ≡ findRecursivePattern two values a r
   unfolding findRecursivePattern
   pattern-same a =
       ap (λ f. firstFound f (allNamed s EId.Pattern (upFrom 0 (s .nodeCount))))
-        (fun-ext (λ i. rw (element-id-same i, descendants-same i, fun-ext (pattern-at-same a (elementId two r i)))))
+      (fun-ext (λ i. rw (element-id-same i, descendants-same i, fun-ext (pattern-at-same a (elementId two r i)))))
       ∙ ap (λ l. firstFound (λ i. firstFound (recursivePatternAt two values r a (elementId two r i)) (descendants r i)) l)
-        (all-named-same EId.Pattern (upFrom 0 (s .nodeCount)) ∙ ap (λ n. allNamed r EId.Pattern (upFrom 0 n)) (h .count))
+      (all-named-same EId.Pattern (upFrom 0 (s .nodeCount)) ∙ ap (λ n. allNamed r EId.Pattern (upFrom 0 n)) (h .count))
 
   link-at-same : (a i child : ℕ) → recursiveLinkAt one values s a i child ≡ recursiveLinkAt two values r a i child
   unfolding recursiveLinkAt
   link-at-same a i child =
-      rw (node-attribute-same a child,
+      rw (
+        node-attribute-same a child,
         below-first-same (λ j. eqb (nodeAttribute one values s a j) (i + 1)) (λ j. eqb (nodeAttribute two values r a j) (i + 1))
-          (λ j. rw (node-attribute-same a j)) (nodeAttribute two values r a child))
+            (λ j. rw (node-attribute-same a j)) (nodeAttribute two values r a child),
+      )
 
   link-same : (c a : ℕ) → findRecursiveLink one values c a s ≡ findRecursiveLink two values c a r
   unfolding findRecursiveLink
   link-same c a =
       ap (λ f. firstFound f (allNamed s c (upFrom 0 (s .nodeCount)))) (fun-ext (λ i. rw (descendants-same i, fun-ext (link-at-same a i))))
       ∙ ap (λ l. firstFound (λ i. firstFound (recursiveLinkAt two values r a i) (descendants r i)) l)
-        (all-named-same c (upFrom 0 (s .nodeCount)) ∙ ap (λ n. allNamed r c (upFrom 0 n)) (h .count))
+      (all-named-same c (upFrom 0 (s .nodeCount)) ∙ ap (λ n. allNamed r c (upFrom 0 n)) (h .count))
 
   fe-image-same : (i : ℕ) → recursiveFeImage one values s i ≡ recursiveFeImage two values r i
   unfolding recursiveFeImage
@@ -138,20 +142,26 @@ module _ (one two : List ℕ) where
       go (yes e) =
           let p : 5 * i + 4 ≡ suc (suc (5 * j + 2)) = omega arith in
           fixed-safe one two (entryAt (setNone j t) i)
-            (ap (λ q. getD (sets (t .attributes) (5 * j + 2) (1 ∷ 0 ∷ 0 ∷ [])) q 0) p
-              ∙ set-zero (set (set (t .attributes) (5 * j + 2) 1) (suc (5 * j + 2)) 0) (suc (suc (5 * j + 2))))
+          (ap (λ q. getD (sets (t .attributes) (5 * j + 2) (1 ∷ 0 ∷ 0 ∷ [])) q 0) p
+          ∙ set-zero (set (set (t .attributes) (5 * j + 2) 1) (suc (5 * j + 2)) 0) (suc (suc (5 * j + 2))))
       go (no n) =
           rw (entry-by-words (setNone j t) t i (λ k b. sets-out (1 ∷ 0 ∷ 0 ∷ []) (t .attributes) (5 * j + 2) (5 * i + k)
-            (λ x y. n (omega arith)))) (h i)
+          (λ x y. n (omega arith)))) (h i)
 
   cut-same : (s r : Tree) (c : Cut) → Same one two s r → Same one two (applyCut s c) (applyCut r c)
   unfolding applyCut setNone
-  cut-same s r c h = record
-      { count = h .count; attributeCount = h .attributeCount
-      ; attributes = rw (attribute-id-same one two s r h (c .node) (cutName (c .pass))) 
-          (ap (λ l. sets l (5 * (attributeId r (c .node) (cutName (c .pass)) - 1) + 2) (1 ∷ 0 ∷ 0 ∷ [])) (h .attributes))
-      ; kind = h .kind; parent = h .parent; child = h .child; code = h .code; range = h .range
-      ; safe = none-safe s (attributeId s (c .node) (cutName (c .pass)) - 1) (h .safe) }
+  cut-same s r c h = record {
+    count = h .count;
+    attributeCount = h .attributeCount;
+    attributes = rw (attribute-id-same one two s r h (c .node) (cutName (c .pass)))
+        (ap (λ l. sets l (5 * (attributeId r (c .node) (cutName (c .pass)) - 1) + 2) (1 ∷ 0 ∷ 0 ∷ [])) (h .attributes));
+    kind = h .kind;
+    parent = h .parent;
+    child = h .child;
+    code = h .code;
+    range = h .range;
+    safe = none-safe s (attributeId s (c .node) (cutName (c .pass)) - 1) (h .safe);
+  }
 
   pub cuts-applied : (s r : Tree) (cs : List Cut) → Same one two s r → Same one two (folded applyCut s cs) (folded applyCut r cs)
   cuts-applied s r [] h = h
@@ -164,7 +174,7 @@ module _ (one two : List ℕ) where
     cuts-from-same k (suc n) s r h =
         rw (next-same one two values s r h k)
         (ap (λ l. pick (eqb (nextCut two values k r) 0) (λ u. []) (λ u. record { pass = k; node = nextCut two values k r - 1 } ∷ l))
-          (cuts-from-same k n _ _ (cut-same s r (record { pass = k; node = nextCut two values k r - 1 }) h)))
+        (cuts-from-same k n _ _ (cut-same s r (record { pass = k; node = nextCut two values k r - 1 }) h)))
 
     cuts-of-same : (k : ℕ) (s r : Tree) → Same one two s r → cutsOf one values k s ≡ cutsOf two values k r
     unfolding cutsOf
@@ -173,10 +183,11 @@ module _ (one two : List ℕ) where
         links : feImageLinks one values s [] (allNamed s EId.FeImage (upFrom 0 (s .nodeCount))) ≡ feImageLinks two values r [] (allNamed r EId.FeImage (upFrom 0 (r .nodeCount)))
         links = fe-links-same one two values s r h [] _ ∙ ap (λ l. feImageLinks two values r [] l)
             (all-named-same one two values s r h EId.FeImage _ ∙ ap (λ n. allNamed r EId.FeImage (upFrom 0 n)) (h .count))
+
         go : (b : Bool) → pick b (λ u. cutsFrom one values k (s .attributeCount) s)
-              (λ u. map (λ i. record { pass = k; node = i }) (feImageLinks one values s [] (allNamed s EId.FeImage (upFrom 0 (s .nodeCount)))))
+            (λ u. map (λ i. record { pass = k; node = i }) (feImageLinks one values s [] (allNamed s EId.FeImage (upFrom 0 (s .nodeCount)))))
             ≡ pick b (λ u. cutsFrom two values k (r .attributeCount) r)
-              (λ u. map (λ i. record { pass = k; node = i }) (feImageLinks two values r [] (allNamed r EId.FeImage (upFrom 0 (r .nodeCount)))))
+            (λ u. map (λ i. record { pass = k; node = i }) (feImageLinks two values r [] (allNamed r EId.FeImage (upFrom 0 (r .nodeCount)))))
         go true = cuts-from-same k (s .attributeCount) s r h ∙ ap (λ n. cutsFrom two values k n r) (h .attributeCount)
         go false = ap (λ l. map (λ i. record { pass = k; node = i }) l) links
 
