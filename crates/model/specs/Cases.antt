@@ -12,9 +12,9 @@ use Rattle.model.specs.Base.{pick, sameBytes}
 use Rattle.model.specs.EId
 use Rattle.model.specs.AId
 use Rattle.model.specs.Drawing.{Event, events, childrenFrom}
-use Rattle.model.specs.Tables.{Tree, Out, refused, done, TEXT, ELEMENT, kindOf, codeOf, textOf, attributeId, hasAttribute, valueAtEntry}
+use Rattle.model.specs.Tables.{Tree, Out, refused, done, TEXT, ELEMENT, kindOf, codeOf, textOf, attributeId, hasAttribute, valueAtEntry, nodeRoom, rooted, cleared}
 use Rattle.model.specs.Parse.{Ops, each, node}
-use Rattle.model.specs.Build.{Result, build}
+use Rattle.model.specs.Build.{Result, build, withRoot, parseTree, finished, parsed}
 use Rattle.model.specs.Base
 use Rattle.model.specs.Names
 use Rattle.model.specs.Utf8

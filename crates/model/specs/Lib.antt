@@ -16,4 +16,5 @@ pub mod Cases
 pub mod Noted
 pub mod Under
 pub mod Demand3
+pub mod Refusals
 pub mod Theorems

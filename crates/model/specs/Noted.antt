@@ -1,14 +1,18 @@
 -- What a text node is made from: the build with notes, and that it is the plain build when the notes are forgotten.
 use Prim.Native.Nat.{ℕ, zero}
-use mathlib.Core.Path.{_≡_, refl, ap}
-use mathlib.Core.Bool.{Bool, false}
+use mathlib.Core.Path.{_≡_, refl, ap, _∙_}
+use mathlib.Core.Logic.{_⊎_}
+use lib.Dec.{ltb}
+use mathlib.Core.Bool.{Bool, true, false}
 use mathlib.Core.List.{List, [], _∷_, map}
+use Rattle.model.specs.Base.{pick}
 use Rattle.model.specs.EId
-use Rattle.model.specs.Drawing.{Element, Source, Event, begin, text, other, close, childrenFrom}
-use Rattle.model.specs.Tables.{Tree, Out, refused, done, then}
+use Rattle.model.specs.Drawing.{Element, Source, Event, begin, text, other, close, childrenFrom, events}
+use Rattle.model.specs.Tables.{Tree, Out, refused, done, then, nodeRoom, rooted, cleared}
 use Rattle.model.specs.Text.{sizeOf}
 use Rattle.model.specs.Parse.{Ops, each, node, label, plain}
 use Rattle.model.specs.Theorems.Sim.{Rel, both, same, Every, Events, then-rel, Kept, inside-sim, top-sim}
+use Rattle.model.specs.Build.{withRoot, finished, parseTree, parsed}
 
 -- A text node: the text element that it stands in, its place in the text table, and the numbers of the texts that it is made from.
 pub record Note : Type 0 where
@@ -22,6 +26,11 @@ pub record Note : Type 0 where
 pub record Noted : Type 0 where
   pub tree : Tree
   pub notes : List Note
+
+-- The note is one of these.
+abbrev pub In : Note → List Note → Type 0
+In n [] = ⊥
+In n (m ∷ ms) = (n ≡ m) ⊎ In n ms
 
 -- The note of the text node i made from these texts in the text element e, with its place from byte j on.
 abbrev pub noteOf : ℕ → List Source → ℕ → ℕ → Note
@@ -86,3 +95,41 @@ module _ (o : Ops Tree) (all : List Event) where
   pub forgotten : (k : ℕ) (s : Noted) →
       Rel Forgets (each (node (noting o) all k) (childrenFrom zero all) 0 false 0 s) (each (node o all k) (childrenFrom zero all) 0 false 0 (s .tree))
   forgotten k s = top-sim Forgets Any Any (noting o) o all (events-any all) forget-element forget-label (λ s t r. ap (λ u. o .count u) r) k s (s .tree) refl
+
+-- THE WHOLE BUILD WITH NOTES
+
+-- The build with notes.
+unfoldable pub notedTree : List ℕ → List Event → Tree → Out Noted
+notedTree chars all t = then (withRoot t) (λ r. then (notedParsed chars all r) (λ s. withNotes (s .notes) (finished chars all (s .tree))))
+
+unfoldable pub notesOf : Out Noted → List Note
+notesOf (refused k) = []
+notesOf (done s) = s .notes
+
+-- The notes of a drawing's build with tables of these lengths.
+unfoldable pub notes : List ℕ → List ℕ → ℕ → ℕ → ℕ → List Note
+notes script chars n m b = notesOf (notedTree chars (events script chars) (cleared n m b))
+
+-- Forgetting them.
+unfoldable pub stripped : Out Noted → Out Tree
+stripped (refused k) = refused k
+stripped (done s) = done (s .tree)
+
+-- The build with notes is the build when the notes are forgotten.
+pub notes-forgotten : (chars : List ℕ) (all : List Event) (t : Tree) → stripped (notedTree chars all t) ≡ parseTree chars all t
+unfolding notedTree parseTree stripped withRoot notedParsed parsed
+notes-forgotten chars all t = go (ltb 0 (nodeRoom t))
+  where
+    end : (ns : List Note) (o : Out Tree) → stripped (withNotes ns o) ≡ o
+    end ns (refused k) = refl
+    end ns (done u) = refl
+
+    top : (x : Out Noted) (y : Out Tree) → Rel Forgets x y →
+        stripped (then x (λ s. withNotes (s .notes) (finished chars all (s .tree)))) ≡ then y (λ s. finished chars all s)
+    top x y (both k) = refl
+    top x y (same {s = s} {t = u} e) = end (s .notes) (finished chars all (s .tree)) ∙ ap (λ v. finished chars all v) e
+
+    go : (b : Bool) → stripped (then (pick b (λ u. done (rooted t)) (λ u. refused 22)) (λ r. then (notedParsed chars all r) (λ s. withNotes (s .notes) (finished chars all (s .tree)))))
+        ≡ then (pick b (λ u. done (rooted t)) (λ u. refused 22)) (λ r. then (parsed chars all r) (λ s. finished chars all s))
+    go true = top _ _ (forgotten (plain chars) all 1025 (record { tree = rooted t; notes = [] }))
+    go false = refl

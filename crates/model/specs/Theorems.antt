@@ -9,3 +9,4 @@ pub mod Reach
 pub mod Spelled
 pub mod Related
 pub mod Places
+pub mod Whole

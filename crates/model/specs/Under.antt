@@ -4,8 +4,13 @@ use mathlib.Core.Path.{_≡_, refl, _∙_}
 use mathlib.Core.List.{List}
 use native.Mathlib.Omega.{arith}
 use lib.ListN.{length}
-use Rattle.model.specs.Tables.{word, appended}
+use Rattle.model.specs.EId
+use Rattle.model.specs.Tables.{word, appended, codeOf, kindOf, ELEMENT, Tree}
 use Rattle.model.specs.Theorems.Laws.{appended-old, appended-new}
+
+-- Node e is a text element.
+abbrev pub IsTextElement : Tree → ℕ → Type 0
+IsTextElement t e = (kindOf t e ≡ ELEMENT) × (codeOf t e ≡ EId.Text)
 
 -- Node i is node e, or its parent stands under e.
 pub data Under (ns : List ℕ) (e : ℕ) : ℕ → Type 0 where

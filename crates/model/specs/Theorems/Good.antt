@@ -1,20 +1,16 @@
 -- What holds of the tables and the notes of a build at all times, and what a trimming can reach.
 use Prim.Native.Nat.{ℕ, _+_, _*_, _≤_, _<_}
 use mathlib.Core.Path.{_≡_, refl, sym, _∙_}
-use mathlib.Core.Logic.{_⊎_, inl, inr}
+use mathlib.Core.Logic.{inl, inr}
 use mathlib.Core.List.{List, [], _∷_}
 use native.Mathlib.Omega.{arith}
 use native.Mathlib.Decide.{decLt}
 use lib.ListN.{length, getD}
 use Rattle.model.specs.EId
-use Rattle.model.specs.Tables.{Tree, ELEMENT, TEXT, word, kindOf, codeOf, fromOf, toOf, appended, Entry, addElement, addText}
-use Rattle.model.specs.Noted.{Note}
+use Rattle.model.specs.Tables.{Tree, ELEMENT, TEXT, word, kindOf, fromOf, toOf, appended, Entry, addElement, addText}
+use Rattle.model.specs.Noted.{Note, In}
 use Rattle.model.specs.Theorems.Laws.{appended-old, appended-new}
-use Rattle.model.specs.Under.{Under, under-appended, under-new}
-
-abbrev pub In : Note → List Note → Type 0
-In n [] = ⊥
-In n (m ∷ ms) = (n ≡ m) ⊎ In n ms
+use Rattle.model.specs.Under.{Under, under-appended, under-new, IsTextElement}
 
 -- The node of a note is a text node, and its text lies within its place.
 pub record Fits (n : Note) (t : Tree) : Type 0 where
@@ -27,10 +23,6 @@ pub record Fits (n : Note) (t : Tree) : Type 0 where
 abbrev pub Apart : List Note → Type 0
 Apart [] = Unit {0}
 Apart (n ∷ ns) = ((m : Note) → In m ns → (m .node < n .node) × (m .start + m .size ≤ n .start)) × Apart ns
-
--- Node e is a text element.
-abbrev pub IsTextElement : Tree → ℕ → Type 0
-IsTextElement t e = (kindOf t e ≡ ELEMENT) × (codeOf t e ≡ EId.Text)
 
 pub record Good (ns : List Note) (t : Tree) : Type 0 where
   pub fits : (n : Note) → In n ns → Fits n t

@@ -14,10 +14,10 @@ use Rattle.model.specs.Utf8.{isBlank}
 use Rattle.model.specs.Tables.{Tree, TEXT, word, kindOf, parentOf, fromOf, toOf, textOf, setText}
 use Rattle.model.specs.Text.{XmlSpace, isDefault, getXmlspace, Trimming, stop, look, cut, cutFrom, cutTo, cutText, run, TextNode, depthBelow, textNodes, ownTextNodes, beginsWithSpace, endsWithSpace, isEmpty, single, between, edges, lastEdge, pair, isNil, pairs, trimming}
 use Rattle.model.specs.Theorems.Sim.{Every}
-use Rattle.model.specs.Noted.{Note}
+use Rattle.model.specs.Noted.{Note, In}
 use Rattle.model.specs.Theorems.Agree.{Agree, agree-refl, agree-trans, agree-set, agree-sets, agree-out, agree-outs, agree-slice, set-cases}
 use Rattle.model.specs.Under.{under-keep}
-use Rattle.model.specs.Theorems.Good.{In, Fits, Good}
+use Rattle.model.specs.Theorems.Good.{Fits, Good}
 
 -- ONE CUT
 

@@ -17,13 +17,13 @@ use Rattle.model.specs.Element.{entriesOf, mostNodes, parseSvgElement}
 use Rattle.model.specs.Text.{XmlSpace, isDefault, SPACE, converted, trimTextAfter, trimText, spaceOf, sizeOf, joined, appendText, Trimming, run, TextNode, ownTextNodes, trimming, trimTextNodes}
 use Rattle.model.specs.Parse.{each, node, label, plain}
 use Rattle.model.specs.Theorems.Sim.{Rel, both, same, Every, Events, then-rel, Kept, inside-sim, top-sim}
-use Rattle.model.specs.Noted.{Note, Noted, noteOf, withNotes, noting}
+use Rattle.model.specs.Noted.{Note, Noted, noteOf, withNotes, noting, In}
 use Rattle.model.specs.Theorems.Agree.{Agree, agree-sym, agree-trans, agree-weak, agree-sets, agree-outs}
 use Rattle.model.specs.Theorems.Same.{Same, entries-same, space-same, own-nodes-same}
 use Rattle.model.specs.Theorems.SameRepair.{entry-by-words}
 use Rattle.model.specs.Theorems.Laws.{appended-agree, appended-new, room-fits}
-use Rattle.model.specs.Under.{Under, here, under-keep, under-parent, under-appended, under-new}
-use Rattle.model.specs.Theorems.Good.{In, IsTextElement, Good, old-element, good-element, good-text}
+use Rattle.model.specs.Under.{Under, here, under-keep, under-parent, under-appended, under-new, IsTextElement}
+use Rattle.model.specs.Theorems.Good.{Good, old-element, good-element, good-text}
 use Rattle.model.specs.Theorems.Reach.{good-run, run-unmoved, Within, run-out, run-both, within-trimming, own-collected}
 use Rattle.model.specs.Theorems.Spelled.{Safe, SpelledElement, safe-entries, add-safe}
 
