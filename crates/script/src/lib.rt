@@ -1,0 +1,2 @@
+// The reading side of a drawing: UTF-8, the commands of a script, check, and the walks over a checked drawing.
+pub mod utf8;
