@@ -1,2 +1,3 @@
 // The reading side of a drawing: UTF-8, the commands of a script, check, and the walks over a checked drawing.
+pub mod cursor;
 pub mod utf8;
