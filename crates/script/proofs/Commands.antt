@@ -5,7 +5,8 @@ use mathlib.Core.Bool.{Bool, true, false}
 use Prim.Native.Nat.{ℕ, zero, suc, _+_, _-_, _*_, _<_, _≤_}
 use native.Mathlib.Numerals.{add-one}
 use native.Mathlib.Omega.{arith}
-use borrow.Author.Tests.{le-leb, lt-leb, ne-eqb}
+use borrow.Author.Tests.{le-leb, lt-leb, ne-eqb, leb-true, leb-false, eqb-true}
+use lib.Dec.{eqb, leb}
 use lib.ListN.{length, getD, take, drop, length-take, length-drop, drop-of-length-le}
 use lib.Seq.{drop-cons, drop-drop, getD-drop, length-take-le}
 use Rattle.model.specs.Base.{pick}
@@ -13,7 +14,7 @@ use Rattle.model.specs.Drawing.{Command, opening, attribute, declaration, readi
 use Rattle.script.specs.declared.cursor.Cursor.{Cursor}
 use Rattle.script.specs.declared.cursor.Step.{Step}
 use Rattle.script.specs.declared.cursor.Step.the-variants.{Open, Attribute, Declaration, Reading, Text, Other, Close, Broken, End}
-use Rattle.script.specs.Step.{Fit, commandsAt, bytesOf, moved, toStep, stepOf, stepAt}
+use Rattle.script.specs.Step.{Fit, commandsAt, bytesOf, moved, toStep, stepOf, stepAt, Going}
 
 -- THE OPERANDS
 
@@ -151,3 +152,99 @@ fit-past s c n b l t f e h1 h2 h3 h4 = subst (Fit s) (sym e) (record {
   number = omega (arith, f .number);
   texts = omega (arith, f .texts);
 })
+
+-- WHAT A STEP TELLS
+
+pick-cases : {A : Type 0} (P : A → Type 0) (t : Bool) (f g : Unit {0} → A) → (t ≡ true → P (f tt)) → (t ≡ false → P (g tt)) → P (pick t f g)
+pick-cases P true f g a b = a refl
+pick-cases P false f g a b = b refl
+
+-- A command has its first byte and n bytes of operands.
+abbrev Sized : ℕ → Command → Type 0
+Sized n (opening c k) = suc n ≡ 3
+Sized n (attribute a k l) = suc n ≡ 7
+Sized n (declaration a i l) = suc n ≡ 7
+Sized n (reading k o l) = suc n ≡ 10
+Sized n (text l) = suc n ≡ 5
+Sized n other = suc n ≡ 1
+Sized n closing = suc n ≡ 1
+Sized n (broken b) = Unit {0}
+
+of : (b k : ℕ) → eqb b k ≡ true → operands b ≡ operands k
+of b k e = ap operands (eqb-true b k e)
+
+whole-sized : (b : ℕ) (t : List ℕ) → Sized (operands b) (whole b t)
+unfolding whole operands
+whole-sized b t =
+    pick-cases (Sized (operands b)) (eqb b 1) _ _ (λ e. ap suc (of b 1 e)) (λ _.
+    pick-cases (Sized (operands b)) (eqb b 2) _ _ (λ e. ap suc (of b 2 e)) (λ _.
+    pick-cases (Sized (operands b)) (eqb b 3) _ _ (λ e. ap suc (of b 3 e)) (λ _.
+    pick-cases (Sized (operands b)) (eqb b 4) _ _ (λ e. ap suc (of b 4 e)) (λ _.
+    pick-cases (Sized (operands b)) (eqb b 5) _ _ (λ e. ap suc (of b 5 e)) (λ _.
+    pick-cases (Sized (operands b)) (eqb b 6) _ _ (λ e. ap suc (of b 6 e)) (λ _.
+    pick-cases (Sized (operands b)) (eqb b 7) _ _ (λ e. ap suc (of b 7 e)) (λ _. tt)))))))
+
+command-sized : (b : ℕ) (t : List ℕ) → Sized (operands b) (command b t)
+unfolding command
+command-sized b t = pick-cases (Sized (operands b)) (leb (operands b) (length (take (operands b) t))) _ _ (λ _. whole-sized b t) (λ _. tt)
+
+skipped : (n : ℕ) (s : List ℕ) → commandsFrom n s ≡ commands (drop n s)
+unfolding commandsFrom commands
+skipped zero [] = refl
+skipped (suc n) [] = refl
+skipped zero (b ∷ t) = refl
+skipped (suc n) (b ∷ t) = skipped n t
+
+-- The command x stands at the cursor c, and n is the cursor behind it.
+pub record Here (s : List ℕ) (c : Cursor) (x : Command) (n : Cursor) : Type 0 where
+  pub more : commandsAt s c ≡ x ∷ commandsAt s n
+  pub next : n ≡ moved c x
+  pub further : c .at < n .at
+
+abbrev pub Told : List ℕ → Cursor → Step → Type 0
+Told s c (Open a b n) = Here s c (opening a b) n
+Told s c (Attribute a b l n) = Here s c (attribute a b l) n
+Told s c (Declaration a b l n) = Here s c (declaration a b l) n
+Told s c (Reading k o l n) = Here s c (reading k o l) n
+Told s c (Text l n) = Here s c (text l) n
+Told s c (Other n) = Here s c other n
+Told s c (Close n) = Here s c closing n
+Told s c (Broken b) = commandsAt s c ≡ broken b ∷ []
+Told s c End = commandsAt s c ≡ []
+
+module _ (s : List ℕ) (c : Cursor) where
+  behind : (b m : ℕ) → suc (operands b) ≡ m → commandsFrom (operands b) (drop (suc (c .at)) s) ≡ commands (drop (c .at + m) s)
+  behind b m e =
+      skipped (operands b) (drop (suc (c .at)) s)
+      ∙ ap commands (drop-drop (operands b) (suc (c .at)) s ∙ ap (λ k. drop k s) (let z : suc (c .at) + operands b ≡ c .at + m = omega (arith, e) in z))
+
+  at-command : (b : ℕ) (x : Command) → Sized (operands b) x → commandsAt s c ≡ follow x (λ u. commandsFrom (operands b) (drop (suc (c .at)) s))
+      → Told s c (toStep x (moved c x))
+  unfolding commandsAt
+  at-command b (opening a k) z e = record { more = e ∙ ap (λ l. opening a k ∷ l) (behind b 3 z); next = refl; further = omega arith }
+  at-command b (attribute a k l) z e = record { more = e ∙ ap (λ r. attribute a k l ∷ r) (behind b 7 z); next = refl; further = omega arith }
+  at-command b (declaration a k l) z e = record { more = e ∙ ap (λ r. declaration a k l ∷ r) (behind b 7 z); next = refl; further = omega arith }
+  at-command b (reading k o l) z e = record { more = e ∙ ap (λ r. reading k o l ∷ r) (behind b 10 z); next = refl; further = omega arith }
+  at-command b (text l) z e = record { more = e ∙ ap (λ r. text l ∷ r) (behind b 5 z); next = refl; further = omega arith }
+  at-command b other z e = record { more = e ∙ ap (λ r. other ∷ r) (behind b 1 z); next = refl; further = omega arith }
+  at-command b closing z e = record { more = e ∙ ap (λ r. closing ∷ r) (behind b 1 z); next = refl; further = omega arith }
+  at-command b (broken a) z e = e
+
+  told-of : Told s c (stepAt s c)
+  unfolding stepAt commandsAt commands commandsFrom
+  told-of = go (leb (length s) (c .at)) refl
+    where
+      go : (t : Bool) → leb (length s) (c .at) ≡ t → Told s c (stepAt s c)
+      go true e = subst (Told s c) (ended s c (leb-true (length s) (c .at) e)) (ap commands (drop-of-length-le s (leb-true (length s) (c .at) e)))
+      go false e =
+          let h : c .at < length s = leb-false (length s) (c .at) e in
+          let b : ℕ = getD s (c .at) 0 in
+          subst (Told s c) (here s c h)
+          (at-command b (command b (drop (suc (c .at)) s)) (command-sized b (drop (suc (c .at)) s)) (ap commands (drop-cons s (c .at) 0 h)))
+
+  pub told : (a b : Step) → a ≡ b → a ≡ stepAt s c → Told s c b
+  told a b f e = subst (Told s c) (sym e ∙ f) told-of
+
+-- The cursor of a step is in range.
+pub goes : (s : List ℕ) (a b : Step) → a ≡ b → Going s a → Going s b
+goes s a b e g = subst (Going s) e g

@@ -1,2 +1,5 @@
 pub mod Sequence
 pub mod Commands
+pub mod Mask
+pub mod Parts
+pub mod Judging

@@ -62,11 +62,11 @@ by-first b bs (r ∷ rs) = go (isWithin b (r .lead)) (by-first b bs rs)
 
 -- TESTS OVER ALL BYTES
 
-and-left : (a b : Bool) → and a b ≡ true → a ≡ true
+pub and-left : (a b : Bool) → and a b ≡ true → a ≡ true
 and-left true b e = refl
 and-left false b e = e
 
-and-right : (a b : Bool) → and a b ≡ true → b ≡ true
+pub and-right : (a b : Bool) → and a b ≡ true → b ≡ true
 and-right true b e = e
 and-right false true e = refl
 and-right false false e = e

@@ -59,6 +59,18 @@ fn word(s: &[u8], at: usize) -> u32
 }
 
 impl Cursor {
+    // Before the first command.
+    pub fn start() -> Cursor
+        ensures { λ r. ⌜ r ≡ record { at = 0; chars = 0; number = 0; texts = 0 } ⌝ }
+    {
+        Cursor {
+            at: 0,
+            chars: 0,
+            number: 0,
+            texts: 0,
+        }
+    }
+
     // The cursor behind a command of that many bytes, characters and texts.
     fn past(self, bytes: usize, chars: u32, texts: usize) -> Cursor
         requires { ⌜ (self .at + bytes ≤ 1048576) × (self .chars ≤ self .at * 4294967296) × (self .number ≤ self .at) × (self .texts ≤ self .at) × (texts ≤ 1) ⌝ }

@@ -1,3 +1,4 @@
 // The reading side of a drawing: UTF-8, the commands of a script, check, and the walks over a checked drawing.
+pub mod check;
 pub mod cursor;
 pub mod utf8;
