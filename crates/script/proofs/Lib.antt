@@ -3,3 +3,5 @@ pub mod Commands
 pub mod Mask
 pub mod Parts
 pub mod Judging
+pub mod Walks
+pub mod Along

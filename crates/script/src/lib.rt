@@ -2,3 +2,4 @@
 pub mod check;
 pub mod cursor;
 pub mod utf8;
+pub mod walk;
