@@ -1,5 +1,6 @@
 // The three tables of the tree, lent by the caller: the test that they are sound, and the questions.
 
+pub mod read;
 pub mod sound;
 pub mod word;
 
