@@ -1,0 +1,5 @@
+pub mod Bools
+pub mod Counted
+pub mod Entries
+pub mod Climbs
+pub mod Alike

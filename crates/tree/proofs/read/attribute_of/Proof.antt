@@ -1,0 +1,58 @@
+use mathlib.Core.Path.{refl, sym, _∙_, ap}
+use Prim.Native.Nat.{ℕ, zero-le}
+use native.Mathlib.Omega.{arith}
+use lib.ListN.{length}
+use Rattle.model.specs.Base.{and, sameBytes}
+use Rattle.model.specs.Names.{isPossibleNone, fixedBytes, fixedValues}
+use Rattle.model.specs.Tables.{entryAt, attributeId, valueAtEntry, attributeOf}
+use Rattle.tree.specs.Lent.{readOf}
+use Rattle.tree.proofs.Bools.{fails, passes}
+use Rattle.tree.proofs.Alike.{absent, held-value}
+use borrow.Author.Needs.{needs}
+use Rattle.tree.proofs.read.attribute_of.Statement.{statement}
+use Rattle.tree.proofs.read.attribute_of.Tie as tie
+
+attribute-id-requires : tie.Need-attribute-id-requires
+attribute-id-requires c κs = search needs
+
+returns : tie.Need-returns
+unfolding attributeOf
+returns c = (absent (and (isPossibleNone (c .before .before .before .before .before .args .a)) (sameBytes (valueAtEntry (c .before .before .before .before .before .args .characters .now) (readOf (c .before .before .before .before .before .args .nodes .now) (c .before .before .before .before .before .args .attributes .now)) (attributeId (readOf (c .before .before .before .before .before .args .nodes .now) (c .before .before .before .before .before .args .attributes .now)) (c .before .before .before .before .before .args .i) (c .before .before .before .before .before .args .a))) (fixedBytes 1))) (sym (c .before .attribute-id .ensures .0) ∙ c .if1 .taken), (record { element = λ h. absurd (h refl); last = zero-le }))
+
+is-possible-none-requires : tie.Need-is-possible-none-requires
+is-possible-none-requires c κs = search needs
+
+returns-2 : tie.Need-returns-2
+unfolding attributeOf
+returns-2 c = (rw (fails (c .before .is-possible-none .ensures) (c .if2 .taken)) (c .before .before .before .attribute-id .ensures .0), c .before .before .before .attribute-id .ensures .1)
+
+sub-has-value : tie.Need-sub-has-value
+sub-has-value c = search needs
+
+slice-aggregate-has-value : tie.Need-slice-aggregate-has-value
+slice-aggregate-has-value c = search needs
+
+has-value-requires : tie.Need-has-value-requires
+has-value-requires c κs = held-value (length (c .before .before .before .before .before .before .before .before .args .characters .now)) (readOf (c .before .before .before .before .before .before .before .before .args .nodes .now) (c .before .before .before .before .before .before .before .before .args .attributes .now)) (c .before .before .before .before .before .before .before .before .args .i) (c .before .before .before .before .attribute-id .result) (c .before .before .before .before .before .before .before .before .pre) (c .before .before .before .before .attribute-id .ensures .1) (c .before .before .before .if1 .left)
+
+returns-3 : tie.Need-returns-3
+unfolding attributeOf entryAt fixedBytes fixedValues
+returns-3 c = (rw (passes (c .before .before .before .before .is-possible-none .ensures) (c .before .before .before .if2 .left), sym (c .before .before .before .before .before .before .attribute-id .ensures .0), sym (c .before .has-value .ensures), c .if3 .taken), (record { element = λ h. absurd (h refl); last = zero-le }))
+
+returns-4 : tie.Need-returns-4
+unfolding attributeOf entryAt fixedBytes fixedValues
+returns-4 c = (rw (passes (c .before .before .before .before .is-possible-none .ensures) (c .before .before .before .if2 .left), sym (c .before .before .before .before .before .before .attribute-id .ensures .0), sym (c .before .has-value .ensures), c .if3 .left), c .before .before .before .before .before .before .attribute-id .ensures .1)
+
+pub attribute-of-spec : {M : Type 1} → statement M
+attribute-of-spec =
+    tie.close
+    (tie.spec
+    attribute-id-requires
+    returns
+    is-possible-none-requires
+    returns-2
+    sub-has-value
+    slice-aggregate-has-value
+    has-value-requires
+    returns-3
+    returns-4)

@@ -1,0 +1,82 @@
+-- The lent tables as the model's Tree, and what its answers are in the structs of this crate.
+use Prim.Native.Nat.{ℕ, _+_, _*_, _<_, _≤_}
+use mathlib.Core.Path.{_≡_}
+use mathlib.Core.Bool.{Bool, true, false}
+use mathlib.Core.List.{List, []}
+use lib.ListN.{length}
+use lib.Dec.{eqb, leb}
+use Rattle.model.specs.Base.{pick, and, or}
+use Rattle.model.specs.Tables.{Tree, ELEMENT, TEXT, word, kindOf, toOf, Entry, entryAt}
+use Rattle.model.specs.Questions as Q
+use Rattle.tree.specs.declared.Counts.{Counts}
+use Rattle.tree.specs.declared.Answer.{Answer}
+use Rattle.tree.specs.declared.Part.{Part}
+
+-- The three tables at their full length, with the counts.
+abbrev pub treeOf : List ℕ → List ℕ → List ℕ → Counts → Tree
+treeOf ns es bs c = record {
+  nodes = ns;
+  attributes = es;
+  text = bs;
+  nodeCount = c .nodes;
+  attributeCount = c .attributes;
+  textCount = c .text;
+}
+
+-- What a function sees that is lent the nodes and the counts alone.
+abbrev pub nodesOf : List ℕ → Counts → Tree
+nodesOf ns c = treeOf ns [] [] c
+
+-- What a function sees that is lent nodes and attributes alone.
+abbrev pub readOf : List ℕ → List ℕ → Tree
+readOf ns es = treeOf ns es [] (record { nodes = 0; attributes = 0; text = 0 })
+
+-- What a function sees that is lent the nodes alone.
+abbrev pub nodesRead : List ℕ → Tree
+nodesRead ns = readOf ns []
+
+-- What a function sees that is lent the attributes alone.
+abbrev pub entriesOf : List ℕ → Tree
+entriesOf es = readOf [] es
+
+-- An answer of the model; `found` is 0 or 1.
+abbrev pub answered : Q.Answer → Answer
+answered a = record { number = a .number; found = pick (a .found) (λ u. 1) (λ u. 0); index = a .index }
+
+-- A part of the text table.
+abbrev pub parted : Q.TextPart → Part
+parted p = record { start = p .start; size = p .size }
+
+-- The value of an entry is fixed, or lies within that many characters.
+abbrev pub Valued : ℕ → Entry → Type 0
+Valued size e = (e .command ≡ 0 → ⊥) → e .start + e .size ≤ size
+
+-- Node i stands in the table, and its parent, an index plus 1, is no larger.
+pub record Placed (ns : List ℕ) (i : ℕ) : Type 0 where
+  pub inside : 8 * i + 7 < length ns
+  pub falls : word ns i 1 ≤ i
+
+-- Node i stands in the table and, if it is an element, its range does in the attributes.
+pub record Readable (t : Tree) (i : ℕ) : Type 0 where
+  pub inside : 8 * i + 7 < length (t .nodes)
+  pub range : kindOf t i ≡ ELEMENT → 5 * toOf t i ≤ length (t .attributes)
+
+-- Node i and all before it can be read, and the way up falls.
+pub record Climbable (t : Tree) (i : ℕ) : Type 0 where
+  pub small : i < 4294967295
+  pub placed : (k : ℕ) → k ≤ i → Placed (t .nodes) k
+  pub readable : (k : ℕ) → k ≤ i → Readable t k
+
+-- Node i can be read, and the values of its attributes are fixed or lie within that many characters.
+pub record ReadableIn (size : ℕ) (t : Tree) (i : ℕ) : Type 0 where
+  pub readable : Readable t i
+  pub values : kindOf t i ≡ ELEMENT → (j : ℕ) → j < toOf t i → Valued size (entryAt t j)
+
+-- An attribute of node i, an entry's number plus 1, or 0: the node is an element with the entry in its range.
+pub record HeldBy (t : Tree) (i w : ℕ) : Type 0 where
+  pub element : (w ≡ 0 → ⊥) → kindOf t i ≡ ELEMENT
+  pub last : w ≤ toOf t i
+
+-- The test of a record behind the root: its kind, its parent and its index.
+abbrev pub isBelowRoot : ℕ → ℕ → ℕ → Bool
+isBelowRoot kind parent i = and (or (eqb kind ELEMENT) (eqb kind TEXT)) (and (leb 1 parent) (leb parent i))

@@ -1,0 +1,28 @@
+// The three tables of the tree, lent by the caller: the test that they are sound, and the questions.
+
+pub mod read;
+pub mod sound;
+pub mod word;
+
+// How many records, entries and bytes of the tables are taken.
+#[repr(C)]
+pub struct Counts {
+    pub nodes: u32,
+    pub attributes: u32,
+    pub text: u32,
+}
+
+// The answer of a question: a number, 0 if nothing stands against it; whether there is an index, 1 or 0; and the index.
+#[repr(C)]
+pub struct Answer {
+    pub number: u32,
+    pub found: u32,
+    pub index: u32,
+}
+
+// A part of the text table.
+#[repr(C)]
+pub struct Part {
+    pub start: u32,
+    pub size: u32,
+}
