@@ -3,3 +3,4 @@ pub mod Counted
 pub mod Entries
 pub mod Climbs
 pub mod Alike
+pub mod Facts

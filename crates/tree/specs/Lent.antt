@@ -4,9 +4,10 @@ use mathlib.Core.Path.{_≡_}
 use mathlib.Core.Bool.{Bool, true, false}
 use mathlib.Core.List.{List, []}
 use lib.ListN.{length}
+use lib.Seq.{slice}
 use lib.Dec.{eqb, leb}
 use Rattle.model.specs.Base.{pick, and, or}
-use Rattle.model.specs.Tables.{Tree, ELEMENT, TEXT, word, kindOf, toOf, Entry, entryAt}
+use Rattle.model.specs.Tables.{Tree, ELEMENT, TEXT, word, kindOf, fromOf, toOf, Entry, entryAt}
 use Rattle.model.specs.Questions as Q
 use Rattle.tree.specs.declared.Counts.{Counts}
 use Rattle.tree.specs.declared.Answer.{Answer}
@@ -47,6 +48,10 @@ answered a = record { number = a .number; found = pick (a .found) (λ u. 1) (λ 
 abbrev pub parted : Q.TextPart → Part
 parted p = record { start = p .start; size = p .size }
 
+-- The bytes of that part.
+abbrev pub bytesOf : Q.TextPart → List ℕ → List ℕ
+bytesOf p bs = slice (p .start) (p .start + p .size) bs
+
 -- The value of an entry is fixed, or lies within that many characters.
 abbrev pub Valued : ℕ → Entry → Type 0
 Valued size e = (e .command ≡ 0 → ⊥) → e .start + e .size ≤ size
@@ -71,6 +76,11 @@ pub record Climbable (t : Tree) (i : ℕ) : Type 0 where
 pub record ReadableIn (size : ℕ) (t : Tree) (i : ℕ) : Type 0 where
   pub readable : Readable t i
   pub values : kindOf t i ≡ ELEMENT → (j : ℕ) → j < toOf t i → Valued size (entryAt t j)
+
+-- Node i stands in the table, and a text's range is in order.
+pub record TextReadable (t : Tree) (i : ℕ) : Type 0 where
+  pub inside : 8 * i + 7 < length (t .nodes)
+  pub order : kindOf t i ≡ TEXT → fromOf t i ≤ toOf t i
 
 -- An attribute of node i, an entry's number plus 1, or 0: the node is an element with the entry in its range.
 pub record HeldBy (t : Tree) (i w : ℕ) : Type 0 where

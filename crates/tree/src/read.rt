@@ -120,12 +120,12 @@ fn self_or_parent(nodes: &[u32], attributes: &[u32], i: u32, a: u32) -> u32
     if attribute_id(nodes, attributes, i, a) != 0 {
         return i + 1;
     }
-    let w = parent_element(nodes, i);
-    if w == 0 {
+    let parent = parent_element(nodes, i);
+    if parent == 0 {
         return 0;
     }
-    if attribute_id(nodes, attributes, w - 1, a) != 0 {
-        return w;
+    if attribute_id(nodes, attributes, parent - 1, a) != 0 {
+        return parent;
     }
     0
 }

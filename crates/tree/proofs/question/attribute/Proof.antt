@@ -1,0 +1,32 @@
+use borrow.Author.Tests.{eq-eqb, ne-eqb}
+use mathlib.Core.Path.{sym, _∙_, ap}
+use Prim.Native.Nat.{ℕ}
+use Rattle.model.specs.Questions.{attributeQuestion, answerOf}
+use Rattle.tree.specs.Lent.{treeOf, answered}
+use Rattle.tree.proofs.Facts.{no-fault, readable-in}
+use Rattle.tree.proofs.Alike.{attribute-same}
+use borrow.Author.Needs.{needs}
+use Rattle.tree.proofs.question.attribute.Statement.{statement}
+use Rattle.tree.proofs.question.attribute.Tie as tie
+
+question-fault-requires : tie.Need-question-fault-requires
+question-fault-requires c κs = search needs
+
+returns : tie.Need-returns
+unfolding attributeQuestion
+returns c = rw (sym (c .before .question-fault .ensures), ne-eqb _ _ (c .if1 .taken))
+
+attribute-of-requires : tie.Need-attribute-of-requires
+attribute-of-requires c κs = readable-in (c .before .before .before .before .before .before .args .characters .now) (treeOf (c .before .before .before .before .before .before .args .nodes .now) (c .before .before .before .before .before .before .args .attributes .now) (c .before .before .before .before .before .before .args .text .now) (c .before .before .before .before .before .before .args .counts)) ((no-fault (c .before .before .before .before .before .before .args .characters .now) (treeOf (c .before .before .before .before .before .before .args .nodes .now) (c .before .before .before .before .before .before .args .attributes .now) (c .before .before .before .before .before .before .args .text .now) (c .before .before .before .before .before .before .args .counts)) (c .before .before .before .before .before .before .args .node) (c .before .before .before .before .before .before .args .name) (sym (c .before .question-fault .ensures) ∙ c .if1 .left)) .0) (c .before .before .before .before .before .before .args .node) ((no-fault (c .before .before .before .before .before .before .args .characters .now) (treeOf (c .before .before .before .before .before .before .args .nodes .now) (c .before .before .before .before .before .before .args .attributes .now) (c .before .before .before .before .before .before .args .text .now) (c .before .before .before .before .before .before .args .counts)) (c .before .before .before .before .before .before .args .node) (c .before .before .before .before .before .before .args .name) (sym (c .before .question-fault .ensures) ∙ c .if1 .left)) .1)
+
+answer-of-requires : tie.Need-answer-of-requires
+answer-of-requires c κs = search needs
+
+returns-2 : tie.Need-returns-2
+unfolding attributeQuestion
+returns-2 c = rw (sym (c .before .before .before .question-fault .ensures), eq-eqb _ _ (c .before .before .if1 .left)) (c .answer-of .ensures ∙ ap (λ (n : ℕ). answered (answerOf n)) (c .before .attribute-of .ensures .0 ∙ attribute-same (treeOf (c .before .before .before .before .before .before .before .before .args .nodes .now) (c .before .before .before .before .before .before .before .before .args .attributes .now) (c .before .before .before .before .before .before .before .before .args .text .now) (c .before .before .before .before .before .before .before .before .args .counts)) (c .before .before .before .before .before .before .before .before .args .characters .now) (c .before .before .before .before .before .before .before .before .args .node) (c .before .before .before .before .before .before .before .before .args .name)))
+
+pub attribute-spec : {M : Type 1} → statement M
+attribute-spec =
+    tie.close
+    (tie.spec question-fault-requires returns attribute-of-requires answer-of-requires returns-2)

@@ -1,0 +1,49 @@
+use mathlib.Core.Path.{_≡_, sym, _∙_, ap}
+use native.Mathlib.Omega.{arith}
+use Prim.Native.Nat.{ℕ, _+_}
+use lib.Seq.{slice}
+use Rattle.model.specs.Questions.{textQuestion}
+use Rattle.tree.specs.Lent.{treeOf, parted, bytesOf}
+use Rattle.tree.specs.declared.Part.{Part}
+use Rattle.tree.proofs.Facts.{part-within}
+use Rattle.tree.proofs.Entries.{part-of}
+use borrow.Author.Needs.{needs}
+use Rattle.tree.proofs.question.text.Statement.{statement}
+use Rattle.tree.proofs.question.text.Tie as tie
+
+text-part-requires : tie.Need-text-part-requires
+text-part-requires c κs = search needs
+
+cast-from : tie.Need-cast-from
+cast-from c = search needs
+
+cast-to : tie.Need-cast-to
+cast-to c = search needs
+
+add-to : tie.Need-add-to
+add-to c = search needs
+
+sub-result : tie.Need-sub-result
+sub-result c = search needs
+
+part-result-start : tie.Need-part-result-start
+part-result-start c = search needs
+
+part-result-end : tie.Need-part-result-end
+part-result-end c = omega (arith, part-within (c .before .before .before .before .before .before .before .args .characters .now) (treeOf (c .before .before .before .before .before .before .before .args .nodes .now) (c .before .before .before .before .before .before .before .args .attributes .now) (c .before .before .before .before .before .before .before .args .text .now) (c .before .before .before .before .before .before .before .args .counts)) (c .before .before .before .before .before .before .before .args .node), (ap (λ (p : Part). p .start) (c .before .before .text-part .ensures)), (ap (λ (p : Part). p .size) (c .before .before .text-part .ensures)))
+
+returns : tie.Need-returns
+returns c = part-of (c .before .before .before .text-part .result .start) (c .before .before .before .text-part .result .size) (c .before .before .before .before .before .before .before .before .args .text .now) ∙ ap (λ (p : Part). slice (p .start) (p .start + p .size) (c .before .before .before .before .before .before .before .before .args .text .now)) (c .before .before .before .text-part .ensures)
+
+pub text-spec : {M : Type 1} → statement M
+text-spec =
+    tie.close
+    (tie.spec
+    text-part-requires
+    cast-from
+    cast-to
+    add-to
+    sub-result
+    part-result-start
+    part-result-end
+    returns)
