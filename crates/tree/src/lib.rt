@@ -1,6 +1,5 @@
 // The three tables of the tree, lent by the caller: the test that they are sound, and the questions.
 
-pub mod exports;
 pub mod question;
 pub mod read;
 pub mod sound;

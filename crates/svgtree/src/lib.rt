@@ -1,11 +1,22 @@
-// The questions for C.
-use crate::Answer;
-use crate::Counts;
-use crate::Part;
-use crate::question;
+// The operations for a host, by the C calling convention: a slice is a pointer and a length. include/svgtree.h declares them.
+use tree::Answer;
+use tree::Counts;
+use tree::Part;
+use tree::question;
 ghost use mathlib.Core.Path.{_≡_};
+ghost use Rattle.model.specs.Check.{check};
 ghost use Rattle.model.specs.Questions.{attributeQuestion, findAttributeQuestion, elementByIdQuestion, textQuestion};
 ghost use Rattle.tree.specs.Lent.{treeOf, answered, parted};
+
+// One number for a script and its characters, 0 if they are accepted.
+#[no_mangle]
+pub extern "C" fn svgtree_check(script: &[u8], characters: &[u8]) -> u32
+    ensures { λ r. ⌜ r ≡ check (now (script .entry)) (now (characters .entry)) ⌝ }
+{
+    script::check::check(script, characters)
+}
+
+// The attribute question: the entry that `attribute` reads.
 
 #[no_mangle]
 pub extern "C" fn svgtree_attribute(
@@ -22,6 +33,7 @@ pub extern "C" fn svgtree_attribute(
     question::attribute(nodes, attributes, text, characters, counts, node, name)
 }
 
+// The find attribute question: `find_attribute_impl`, and then `attribute` of the node found.
 #[no_mangle]
 pub extern "C" fn svgtree_find_attribute(
     nodes: &[u32],
@@ -37,6 +49,7 @@ pub extern "C" fn svgtree_find_attribute(
     question::find_attribute(nodes, attributes, text, characters, counts, node, name)
 }
 
+// The id question: the last element with that id.
 #[no_mangle]
 pub extern "C" fn svgtree_element_by_id(
     nodes: &[u32],
@@ -51,7 +64,7 @@ pub extern "C" fn svgtree_element_by_id(
     question::element_by_id(nodes, attributes, text, characters, counts, id)
 }
 
-// The text as a start and a size in the text table.
+// The text question: where the text lies in the text table.
 #[no_mangle]
 pub extern "C" fn svgtree_text(
     nodes: &[u32],

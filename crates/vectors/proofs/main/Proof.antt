@@ -1,0 +1,62 @@
+use native.Mathlib.Omega.{arith}
+use borrow.Author.Needs.{needs}
+use Prim.Native.Nat.{_-_, _≤_}
+use Rattle.vectors.proofs.main.Statement.{statement}
+use Rattle.vectors.proofs.main.Tie as tie
+use Rattle.vectors.proofs.main.Reads as reads
+use Rattle.vectors.proofs.main.Lts as lts
+use Rattle.vectors.proofs.input.number.Reads as number-reads
+use Rattle.vectors.proofs.run_vector.Reads as run-vector-reads
+
+abbrev Inv-loop : tie.InvT-loop
+Inv-loop n i₀ i = i ≤ n
+
+abbrev μ-loop : tie.MeasureT-loop
+μ-loop n i₀ i = n - i
+
+-- src/main.rt:20:9
+number-requires : tie.Need-number-requires Inv-loop μ-loop
+number-requires c κs = search needs
+
+-- src/main.rt:22:5
+loop-holds : tie.Need-loop-holds Inv-loop μ-loop
+loop-holds c = omega arith
+
+-- src/main.rt:23:20
+number-requires-2 : tie.Need-number-requires-2 Inv-loop μ-loop
+number-requires-2 c κs = search needs
+
+-- src/main.rt:23:9
+run-vector-requires : tie.Need-run-vector-requires Inv-loop μ-loop
+run-vector-requires c κs = search needs
+
+-- src/main.rt:24:9
+add-i : tie.Need-add-i Inv-loop μ-loop
+add-i c = omega arith
+
+-- src/main.rt:22:5
+loop-less : tie.Need-loop-less Inv-loop μ-loop
+loop-less c = omega arith
+
+-- src/main.rt:22:5
+loop-again : tie.Need-loop-again Inv-loop μ-loop
+loop-again c = omega arith
+
+-- src/main.rt:19:1
+returns : tie.Need-returns Inv-loop μ-loop
+returns c = search needs
+
+pub main-spec : {M : Type 1} → statement M
+main-spec =
+    tie.close
+    (tie.spec
+    Inv-loop
+    μ-loop
+    number-requires
+    loop-holds
+    number-requires-2
+    run-vector-requires
+    add-i
+    loop-less
+    loop-again
+    returns)
