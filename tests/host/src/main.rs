@@ -1,6 +1,6 @@
 //! Tests from outside: the port's library beside plain Rust. See the text that `host` without a command prints.
 use host::json::Json;
-use host::questions::{Answer, Flaw, Part, Tables};
+use host::questions::{Answer, Counts, Flaw, Part, Tables};
 use host::random::Random;
 use host::scripts::{self, Drawing};
 use host::{check::check, edges, library, tables};
@@ -13,7 +13,9 @@ const USAGE: &str = "usage: host COMMAND
   check-random N SEED        N random drawings, likewise
   questions-edges            a small tree with every word changed, and every name, likewise
   questions-random N SEED    N random tables, likewise
-The last line is 'N agree, M differ' (without the library: that nothing was compared); the status is 0 if none differ.";
+  write-check N SEED         the same drawings with the answers of plain Rust, as vectors
+  write-questions N SEED     the same tables with the answers of plain Rust, as vectors
+The last line of the others is 'N agree, M differ' (without the library: that nothing was compared); the status is 0 if none differ.";
 
 /// How many answers of each sort were given, and how many were the same on both sides.
 #[derive(Default)]
@@ -43,8 +45,8 @@ impl Tally {
         }
     }
 
-    /// The table of what was reached, and the last line.
-    fn end(&self, title: &str) -> ExitCode {
+    /// The table of what was reached, and the last line; `compared` unless plain Rust ran alone.
+    fn end(&self, title: &str, compared: bool) -> ExitCode {
         println!("{title}");
         let mut question = "";
         for ((asked, outcome), count) in &self.reached {
@@ -55,10 +57,10 @@ impl Tally {
             print!("  {outcome} x {count}");
         }
         println!();
-        if self.agree + self.differ == 0 {
-            println!("no library is linked: plain Rust ran alone, nothing was compared");
-        } else {
+        if compared {
             println!("{} agree, {} differ", self.agree, self.differ);
+        } else {
+            println!("no library is linked: plain Rust ran alone, nothing was compared");
         }
         if self.differ == 0 { ExitCode::SUCCESS } else { ExitCode::FAILURE }
     }
@@ -98,7 +100,7 @@ fn check_all(title: &str, each: impl FnOnce(&mut dyn FnMut(&[u8], &[u8]))) -> Ex
     for (number, count) in numbers.iter().enumerate() {
         tally.reached.insert(("check", number.to_string()), *count);
     }
-    tally.end(title)
+    tally.end(title, library::CHECK)
 }
 
 fn check_random(count: u64, seed: u64) -> ExitCode {
@@ -229,7 +231,7 @@ fn questions_edges() -> ExitCode {
         note_flaw(&mut tally, t);
         (0..9).for_each(|node| ask(&mut tally, t, Question::Attribute(node, name)));
     });
-    tally.end("a small tree with every word changed, every name at every node of another")
+    tally.end("a small tree with every word changed, every name at every node of another", library::QUESTIONS)
 }
 
 fn questions_random(count: u64, seed: u64) -> ExitCode {
@@ -245,7 +247,7 @@ fn questions_random(count: u64, seed: u64) -> ExitCode {
         ask(&mut tally, &t, Question::Id(&tables::id(r, &lent)));
         ask(&mut tally, &t, Question::Text(tables::node(r, &lent)));
     }
-    tally.end(&format!("{count} random tables, seed {seed}"))
+    tally.end(&format!("{count} random tables, seed {seed}"), library::QUESTIONS)
 }
 
 /// A recorded answer beside plain Rust and, where it is linked, the library.
@@ -285,7 +287,7 @@ fn questions_vector(tally: &mut Tally, what: &str, line: &Json) -> Result<(), St
         attributes: line.words("attributes")?,
         text: line.bytes("text")?,
         characters: line.bytes("characters")?,
-        counts: host::questions::Counts { nodes, attributes, text },
+        counts: Counts { nodes, attributes, text },
     };
     let t = &lent.tables();
     note_flaw(tally, t);
@@ -341,7 +343,58 @@ fn vectors(files: &[&str]) -> Result<ExitCode, String> {
         (false, true) => "plain Rust and the library's questions",
         (false, false) => "plain Rust alone, no library is linked",
     };
-    Ok(tally.end(&format!("recorded answers of {}, beside {sides}", files.join(" "))))
+    if tally.agree + tally.differ == 0 {
+        return Err("no recorded answer to compare with".to_string());
+    }
+    Ok(tally.end(&format!("recorded answers of {}, beside {sides}", files.join(" ")), true))
+}
+
+/// Random drawings as lines of vectors.
+fn write_check(count: u64, seed: u64) -> ExitCode {
+    let mut d = Drawing::default();
+    for input in 0..count {
+        scripts::random(&mut Random::new(seed, input), &mut d);
+        let number = check(&d.script, &d.characters);
+        println!(r#"{{"script": "{}", "characters": "{}", "number": {number}}}"#, hex(&d.script), hex(&d.characters));
+    }
+    ExitCode::SUCCESS
+}
+
+/// An answer as the vectors have it.
+fn as_vector(answer: Answer) -> String {
+    let index = if answer.found == 1 { answer.index.to_string() } else { "null".to_string() };
+    format!("[{}, {index}]", answer.number)
+}
+
+/// Random tables as lines of vectors.
+fn write_questions(count: u64, seed: u64) -> ExitCode {
+    for input in 0..count {
+        let r = &mut Random::new(seed, input);
+        let lent = tables::random(r);
+        let t = lent.tables();
+        let mut asked = Vec::new();
+        for _ in 0..3 {
+            let (node, name) = (tables::node(r, &lent), tables::name(r, &lent));
+            let (own, found) = (as_vector(t.attribute(node, name)), as_vector(t.find_attribute(node, name)));
+            asked.push(format!(r#"{{"node": {node}, "code": {name}, "attribute": {own}, "find_attribute": {found}}}"#));
+        }
+        let id = tables::id(r, &lent);
+        asked.push(format!(r#"{{"id": "{}", "element_by_id": {}}}"#, hex(&id), as_vector(t.element_by_id(&id))));
+        let node = tables::node(r, &lent);
+        let Part { start, length } = t.text(node);
+        let text = hex(&t.text[start as usize..][..length as usize]);
+        asked.push(format!(r#"{{"node": {node}, "text": "{text}"}}"#));
+        let Counts { nodes, attributes, text } = lent.counts;
+        println!(
+            r#"{{"nodes": {:?}, "attributes": {:?}, "text": "{}", "counts": [{nodes}, {attributes}, {text}], "characters": "{}", "asked": [{}]}}"#,
+            lent.nodes,
+            lent.attributes,
+            hex(&lent.text),
+            hex(&lent.characters),
+            asked.join(", ")
+        );
+    }
+    ExitCode::SUCCESS
 }
 
 fn number(word: &str) -> Result<u64, String> {
@@ -355,6 +408,8 @@ fn run(words: &[&str]) -> Result<ExitCode, String> {
         ["check-random", count, seed] => Ok(check_random(number(count)?, number(seed)?)),
         ["questions-edges"] => Ok(questions_edges()),
         ["questions-random", count, seed] => Ok(questions_random(number(count)?, number(seed)?)),
+        ["write-check", count, seed] => Ok(write_check(number(count)?, number(seed)?)),
+        ["write-questions", count, seed] => Ok(write_questions(number(count)?, number(seed)?)),
         _ => Err(USAGE.to_string()),
     }
 }
