@@ -122,8 +122,9 @@ pub fn questions_edges() -> ExitCode {
     }
     edges::names(&mut |t, name| {
         note_flaw(&mut tally, t);
-        (0..9).for_each(|node| ask(&mut tally, t, Question::Attribute(node, name)));
+        (0..10).for_each(|node| ask(&mut tally, t, Question::Attribute(node, name)));
     });
+    edges::fixed(&mut |t, id| ask(&mut tally, t, Question::Id(id)));
     tally.end("a small tree with every word changed, every name at every node of another", library::QUESTIONS)
 }
 

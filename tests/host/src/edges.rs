@@ -1,7 +1,7 @@
 //! Fixed inputs at every edge of check and of the questions.
 use crate::check::{DEEPEST, LIMIT};
 use crate::names::AId::{ClipPath, Fill, Id, Opacity, Stroke};
-use crate::names::NAMES;
+use crate::names::{FIXED, NAMES};
 use crate::questions::{Counts, Tables};
 use crate::scripts::Drawing;
 use crate::tables::Lent;
@@ -215,7 +215,7 @@ pub fn drawings(see: See) {
     utf8(see);
 }
 
-/// A small tree as build leaves it: elements, texts, names of every class, a fixed value.
+/// A small tree as build leaves it: elements, texts, names of every class, a fixed value; and an entry in no range.
 pub fn small_tree() -> Lent {
     Lent {
         nodes: [
@@ -237,41 +237,54 @@ pub fn small_tree() -> Lent {
             [Id as u32, 0, 0, 1, 9],
             [Id as u32, 0, 1, 1, 10],
             [Opacity as u32, 0, 13, 0, 0],
+            [Fill as u32, 0, 8, 0, 12],
         ]
         .concat(),
         text: b"hi".to_vec(),
         characters: b"arednone".to_vec(),
-        counts: Counts { nodes: 7, attributes: 8, text: 2 },
+        counts: Counts { nodes: 7, attributes: 9, text: 2 },
     }
 }
 
-/// For one name: a holder, two elements below it, and a text below a text.
-fn one_holder(name: u32, value: [u32; 3]) -> Lent {
+/// An svg with the value a under one name, a group in it with a value under another, two elements below, and texts below
+/// texts.
+fn holders(upper: u32, lower: u32, value: [u32; 3]) -> Lent {
     let [start, length, command] = value;
     Lent {
         nodes: [
             [1, 0, 0, 2, 2, 0, 0, 0],
-            [2, 1, 0, 3, 3, 45, 0, 1],
-            [2, 2, 0, 4, 4, 31, 1, 1],
-            [2, 3, 0, 5, 5, 31, 1, 1],
-            [3, 4, 0, 6, 6, 0, 0, 0],
-            [3, 5, 0, 0, 0, 0, 0, 0],
-            [3, 2, 0, 8, 8, 0, 0, 0],
-            [3, 7, 0, 0, 0, 0, 0, 0],
+            [2, 1, 0, 3, 8, 45, 0, 1],
+            [2, 2, 8, 4, 4, 31, 1, 2],
+            [2, 3, 0, 5, 5, 31, 2, 2],
+            [2, 4, 0, 6, 6, 31, 2, 2],
+            [3, 5, 0, 7, 7, 0, 0, 0],
+            [3, 6, 0, 0, 0, 0, 0, 0],
+            [3, 2, 0, 9, 9, 0, 0, 0],
+            [3, 8, 0, 0, 0, 0, 0, 0],
         ]
         .concat(),
-        attributes: vec![name, 0, start, length, command],
+        attributes: vec![upper, 0, 5, 1, 1, lower, 0, start, length, command],
         text: vec![],
         characters: b"none a".to_vec(),
-        counts: Counts { nodes: 8, attributes: 1, text: 0 },
+        counts: Counts { nodes: 9, attributes: 2, text: 0 },
     }
 }
 
-/// Every name with the value none, written or fixed, and with others.
+/// Every name with the value none, written or fixed, and with others, alone and below a holder of the same name.
 pub fn names(see: &mut dyn FnMut(&Tables, u32)) {
     for name in 0..NAMES as u32 {
         for value in [[0, 4, 1], [0, 3, 1], [0, 5, 1], [1, 0, 0], [2, 0, 0], [5, 1, 1], [6, 0, 1]] {
-            see(&one_holder(name, value).tables(), name);
+            see(&holders(name, name, value).tables(), name);
+            see(&holders((name + 1) % NAMES as u32, name, value).tables(), name);
+        }
+    }
+}
+
+/// Every fixed value as an id, asked for by the bytes of every one.
+pub fn fixed(see: &mut dyn FnMut(&Tables, &[u8])) {
+    for number in 1..=FIXED.len() as u32 {
+        for value in FIXED {
+            see(&holders(Fill as u32, Id as u32, [number, 0, 0]).tables(), value.as_bytes());
         }
     }
 }
