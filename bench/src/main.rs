@@ -26,13 +26,13 @@ fn times<const N: usize>(calls: [&dyn Fn(); N]) -> [f64; N] {
     };
     let counts = calls.map(|call| {
         let mut count = 1;
-        while run(call, count) < Duration::from_millis(4) {
+        while run(call, count) < Duration::from_micros(1500) {
             count *= 2;
         }
         count
     });
     let mut least = [f64::INFINITY; N];
-    for _ in 0..20 {
+    for _ in 0..150 {
         for k in 0..N {
             let each = run(calls[k], counts[k]).as_secs_f64() * 1e6 / counts[k] as f64;
             least[k] = least[k].min(each);
