@@ -22,6 +22,9 @@ Mask = 36
 abbrev pub Pattern : ℕ
 Pattern = 38
 
+abbrev pub Rect : ℕ
+Rect = 42
+
 abbrev pub Style : ℕ
 Style = 44
 

@@ -12,3 +12,16 @@ pub mod Parse
 pub mod Repair
 pub mod Build
 pub mod Questions
+pub mod Sim
+pub mod Agree
+pub mod Same
+pub mod SameRepair
+pub mod Noted
+pub mod Laws
+pub mod Under
+pub mod Good
+pub mod Reach
+pub mod Spelled
+pub mod Related
+pub mod Places
+pub mod Cases

@@ -35,6 +35,27 @@ unfoldable pub firstFound : (ℕ → ℕ) → List ℕ → ℕ
 firstFound f [] = 0
 firstFound f (i ∷ is) = let r : ℕ = f i in pick (eqb r 0) (λ u. firstFound f is) (λ u. r)
 
+-- Node j, its index plus 1, if it passes.
+abbrev pub ifPasses : (ℕ → Bool) → ℕ → ℕ
+ifPasses f j = pick (f j) (λ u. j + 1) (λ u. 0)
+
+-- The first node that passes, among node w - 1 and those below it; none where w is 0.
+abbrev pub firstBelow : Tree → (ℕ → Bool) → ℕ → ℕ
+firstBelow t f w = pick (eqb w 0) (λ u. 0) (λ u. firstFound (ifPasses f) (descendants t (w - 1)))
+
+-- The kind of reading by which an attribute leads to a node: an IRI for href, else a FuncIRI.
+abbrev pub linkKind : ℕ → ℕ
+linkKind a = pick (eqb a AId.Href) (λ u. 1) (λ u. 2)
+
+-- Is one of the readings of that kind and has these bytes?
+unfoldable pub anyReading : ℕ → List ℕ → List Reading → Bool
+anyReading k id [] = false
+anyReading k id (r ∷ rs) = pick (and (eqb (r .kind) k) (sameBytes (r .part .bytes) id)) (λ u. true) (λ u. anyReading k id rs)
+
+-- `element_id`, "" where there is none.
+unfoldable pub elementId : List ℕ → Tree → ℕ → List ℕ
+elementId chars t i = pick (hasAttribute t i AId.Id) (λ u. valueAtEntry chars t (attributeId t i AId.Id)) (λ u. [])
+
 -- `values` are those of the drawing, whose readings are asked for by the command of an entry.
 module _ (chars : List ℕ) (values : List Value) where
   -- The readings of node i's attribute; none where it counts as absent.
@@ -47,29 +68,13 @@ module _ (chars : List ℕ) (values : List Value) where
   abbrev pub linkOf : ℕ → Tree → ℕ → ℕ → Option Part
   linkOf k t a i = readingOf k (readingsAt t a i)
 
-  -- `element_id`, "" where there is none.
-  unfoldable pub elementId : Tree → ℕ → List ℕ
-  elementId t i = pick (hasAttribute t i AId.Id) (λ u. valueAtEntry chars t (attributeId t i AId.Id)) (λ u. [])
-
   -- Does node i's attribute lead to the id, by its Paint?
   unfoldable pub paintsWith : Tree → ℕ → List ℕ → ℕ → Bool
   paintsWith t a id i = given (linkOf 3 t a i) (λ v. sameBytes (v .bytes) id) (λ u. false)
 
-  -- The kind of reading by which an attribute leads to a node: an IRI for href, else a FuncIRI.
-  abbrev pub linkKind : ℕ → ℕ
-  linkKind a = pick (eqb a AId.Href) (λ u. 1) (λ u. 2)
-
   -- `node_attribute`: the node that node i's attribute leads to, its index plus 1.
   unfoldable pub nodeAttribute : Tree → ℕ → ℕ → ℕ
   nodeAttribute t a i = given (linkOf (linkKind a) t a i) (λ v. elementById chars t (v .bytes)) (λ u. 0)
-
-  -- Node j, its index plus 1, if it passes.
-  abbrev pub ifPasses : (ℕ → Bool) → ℕ → ℕ
-  ifPasses f j = pick (f j) (λ u. j + 1) (λ u. 0)
-
-  -- The first node that passes, among node w - 1 and those below it; none where w is 0.
-  abbrev pub firstBelow : Tree → (ℕ → Bool) → ℕ → ℕ
-  firstBelow t f w = pick (eqb w 0) (λ u. 0) (λ u. firstFound (ifPasses f) (descendants t (w - 1)))
 
   -- `find_recursive_pattern`: what the node `child` below a pattern with that id gives.
   unfoldable pub recursivePatternAt : Tree → ℕ → List ℕ → ℕ → ℕ
@@ -80,7 +85,7 @@ module _ (chars : List ℕ) (values : List Value) where
 
   unfoldable pub findRecursivePattern : ℕ → Tree → ℕ
   findRecursivePattern a t =
-      firstFound (λ i. firstFound (recursivePatternAt t a (elementId t i)) (descendants t i)) (allNamed t EId.Pattern (upFrom 0 (t .nodeCount)))
+      firstFound (λ i. firstFound (recursivePatternAt t a (elementId chars t i)) (descendants t i)) (allNamed t EId.Pattern (upFrom 0 (t .nodeCount)))
 
   -- `find_recursive_link`: what the node `child` below the node i gives.
   unfoldable pub recursiveLinkAt : Tree → ℕ → ℕ → ℕ → ℕ
@@ -91,16 +96,11 @@ module _ (chars : List ℕ) (values : List Value) where
   unfoldable pub findRecursiveLink : ℕ → ℕ → Tree → ℕ
   findRecursiveLink c a t = firstFound (λ i. firstFound (recursiveLinkAt t a i) (descendants t i)) (allNamed t c (upFrom 0 (t .nodeCount)))
 
-  -- Is one of the readings of that kind and has these bytes?
-  unfoldable pub anyReading : ℕ → List ℕ → List Reading → Bool
-  anyReading k id [] = false
-  anyReading k id (r ∷ rs) = pick (and (eqb (r .kind) k) (sameBytes (r .part .bytes) id)) (λ u. true) (λ u. anyReading k id rs)
-
   -- `fix_recursive_fe_image`: the node that the feImage i leads to, its index plus 1, where that node's filters lead to i's parent.
   unfoldable pub recursiveFeImage : Tree → ℕ → ℕ
   recursiveFeImage t i =
       let w : ℕ = nodeAttribute t AId.Href i in
-      pick (and (leb 1 w) (anyReading 4 (elementId t (parentOf t i - 1)) (readingsAt t AId.Filter (w - 1)))) (λ u. w) (λ u. 0)
+      pick (and (leb 1 w) (anyReading 4 (elementId chars t (parentOf t i - 1)) (readingsAt t AId.Filter (w - 1)))) (λ u. w) (λ u. 0)
 
   -- Each such node once, in the order of the feImage elements; `is` are those found before.
   unfoldable pub feImageLinks : Tree → List ℕ → List ℕ → List ℕ
