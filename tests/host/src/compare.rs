@@ -3,6 +3,7 @@ use crate::tally::{Tally, hex, note_flaw, shown, sort_of};
 use host::questions::{Part, Tables};
 use host::random::Random;
 use host::scripts::{self, Drawing};
+use host::smaller::smaller;
 use host::{check::check, edges, library, tables};
 use std::process::ExitCode;
 
@@ -12,7 +13,7 @@ fn check_both(tally: &mut Tally, script: &[u8], characters: &[u8]) -> u32 {
     if let Some(given) = library::check(script, characters) {
         tally.compare(wanted, given, || {
             let differs = |s: &[u8], c: &[u8]| library::check(s, c) != Some(check(s, c));
-            let (s, c) = scripts::smaller(script, characters, differs);
+            let (s, c) = smaller(script, characters, differs);
             let given = library::check(&s, &c).unwrap_or(0);
             format!("script {} characters {}: plain Rust {}, library {given}", shown(&s), shown(&c), check(&s, &c))
         });

@@ -7,4 +7,5 @@ pub mod names;
 pub mod questions;
 pub mod random;
 pub mod scripts;
+pub mod smaller;
 pub mod tables;

@@ -354,33 +354,3 @@ pub fn random(r: &mut Random, d: &mut Drawing) {
         _ => any_order(r, d),
     }
 }
-
-/// A smaller drawing of which `wrong` holds too: parts are removed as long as any can be, until that has
-/// read so many bytes.
-pub fn smaller(script: &[u8], characters: &[u8], wrong: impl Fn(&[u8], &[u8]) -> bool) -> (Vec<u8>, Vec<u8>) {
-    let mut both = [script.to_vec(), characters.to_vec()];
-    let mut size = script.len().max(characters.len());
-    let mut left: usize = 500_000_000;
-    while size > 0 {
-        let mut removed = false;
-        for side in 0..2 {
-            let mut at = 0;
-            while at < both[side].len() && left > 0 {
-                left = left.saturating_sub(both[0].len() + both[1].len());
-                let mut next = both.clone();
-                next[side].drain(at..(at + size).min(both[side].len()));
-                if wrong(&next[0], &next[1]) {
-                    both = next;
-                    removed = true;
-                } else {
-                    at += size;
-                }
-            }
-        }
-        if !removed {
-            size /= 2;
-        }
-    }
-    let [script, characters] = both;
-    (script, characters)
-}
