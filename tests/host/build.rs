@@ -1,0 +1,11 @@
+//! Where the port's static library lies, if it is asked for.
+use std::env::var;
+
+fn main() {
+    println!("cargo::rerun-if-changed=build.rs");
+    if var("CARGO_FEATURE_CHECK").is_ok() || var("CARGO_FEATURE_QUESTIONS").is_ok() {
+        let folder = format!("{}/../../target/staticlib", var("CARGO_MANIFEST_DIR").unwrap());
+        println!("cargo::rerun-if-changed={folder}/libsvgtree.a");
+        println!("cargo::rustc-link-search=native={folder}");
+    }
+}
