@@ -5,8 +5,18 @@
 pub const CHECK: bool = cfg!(feature = "check");
 pub const QUESTIONS: bool = cfg!(feature = "questions");
 
+/// With the variable HOST_EXACT every call is made on copies in allocations of just their length, so that a memory checker
+/// sees a read past an end.
+#[cfg(any(feature = "check", feature = "questions"))]
+static EXACT: std::sync::LazyLock<bool> = std::sync::LazyLock::new(|| std::env::var_os("HOST_EXACT").is_some());
+
 #[cfg(feature = "check")]
 pub fn check(script: &[u8], characters: &[u8]) -> Option<u32> {
+    if *EXACT { call_check(&script.to_vec(), &characters.to_vec()) } else { call_check(script, characters) }
+}
+
+#[cfg(feature = "check")]
+fn call_check(script: &[u8], characters: &[u8]) -> Option<u32> {
     #[link(name = "svgtree", kind = "static")]
     unsafe extern "C" {
         fn svgtree_check(script: *const u8, script_length: usize, characters: *const u8, characters_length: usize) -> u32;
@@ -41,28 +51,35 @@ mod questions {
             characters: *const u8, characters_length: usize, counts: Counts, node: u32) -> Part;
     }
 
+    /// Calls with the tables, or with copies of them.
+    fn lent<R>(t: &Tables, call: impl Fn(&Tables) -> R) -> Option<R> {
+        if !*super::EXACT { return Some(call(t)); }
+        let (nodes, attributes, text, characters) = (t.nodes.to_vec(), t.attributes.to_vec(), t.text.to_vec(), t.characters.to_vec());
+        Some(call(&Tables { nodes: &nodes, attributes: &attributes, text: &text, characters: &characters, counts: t.counts }))
+    }
+
     // SAFETY, for all calls: as for check.
 
     pub fn attribute(t: &Tables, node: u32, name: u32) -> Option<Answer> {
-        Some(unsafe { svgtree_attribute(
+        lent(t, |t| unsafe { svgtree_attribute(
             t.nodes.as_ptr(), t.nodes.len(), t.attributes.as_ptr(), t.attributes.len(), t.text.as_ptr(), t.text.len(),
             t.characters.as_ptr(), t.characters.len(), t.counts, node, name) })
     }
 
     pub fn find_attribute(t: &Tables, node: u32, name: u32) -> Option<Answer> {
-        Some(unsafe { svgtree_find_attribute(
+        lent(t, |t| unsafe { svgtree_find_attribute(
             t.nodes.as_ptr(), t.nodes.len(), t.attributes.as_ptr(), t.attributes.len(), t.text.as_ptr(), t.text.len(),
             t.characters.as_ptr(), t.characters.len(), t.counts, node, name) })
     }
 
     pub fn element_by_id(t: &Tables, id: &[u8]) -> Option<Answer> {
-        Some(unsafe { svgtree_element_by_id(
+        lent(t, |t| unsafe { svgtree_element_by_id(
             t.nodes.as_ptr(), t.nodes.len(), t.attributes.as_ptr(), t.attributes.len(), t.text.as_ptr(), t.text.len(),
             t.characters.as_ptr(), t.characters.len(), t.counts, id.as_ptr(), id.len()) })
     }
 
     pub fn text(t: &Tables, node: u32) -> Option<Part> {
-        Some(unsafe { svgtree_text(
+        lent(t, |t| unsafe { svgtree_text(
             t.nodes.as_ptr(), t.nodes.len(), t.attributes.as_ptr(), t.attributes.len(), t.text.as_ptr(), t.text.len(),
             t.characters.as_ptr(), t.characters.len(), t.counts, node) })
     }
