@@ -10,3 +10,4 @@ pub mod Spelled
 pub mod Related
 pub mod Places
 pub mod Whole
+pub mod Unused

@@ -186,7 +186,7 @@ module _ (one two : List ℕ) where
       place : (w : ℕ) → 5 * suc k + w ≡ suc (suc (suc (suc (suc (5 * k + w)))))
       place w = omega arith
 
-  entries-long : (es : List Entry) → length (entriesWords es) ≡ 5 * length es
+  pub entries-long : (es : List Entry) → length (entriesWords es) ≡ 5 * length es
   unfolding entriesWords
   entries-long [] = refl
   entries-long (e ∷ es) = let h : length (entriesWords es) ≡ 5 * length es = entries-long es in omega arith
