@@ -10,9 +10,11 @@ abbrev pub pick : {A : Type 0} → Bool → (Unit {0} → A) → (Unit {0} → A
 pick true f g = f tt
 pick false f g = g tt
 
+-- Both.
 abbrev pub and : Bool → Bool → Bool
 and a b = cond a b false
 
+-- One of two, or both.
 abbrev pub or : Bool → Bool → Bool
 or a b = cond a true b
 
@@ -54,6 +56,7 @@ pub record Pair : Type 0 where
   pub value : ℕ
 
 infix 90 _gives_
+-- A row, written as a table shows it.
 abbrev pub _gives_ : ℕ → ℕ → Pair
 k gives v = record { key = k; value = v }
 

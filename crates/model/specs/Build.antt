@@ -26,6 +26,7 @@ parsed chars all t = each (node (plain chars) all 1025) (childrenFrom zero all) 
 unfoldable pub hasSvg : Tree → Bool
 hasSvg t = and (not (eqb (firstChildOf t 0) 0)) (isNamed t EId.Svg (firstChildOf t 0 - 1))
 
+-- The end of `parse`: the test of the first element, then the repairs.
 unfoldable pub finished : List ℕ → List Event → Tree → Out Tree
 finished chars all t = pick (hasSvg t) (λ u. done (repaired chars (valuesIn all) t)) (λ u. refused 21)
 

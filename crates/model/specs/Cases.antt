@@ -42,6 +42,7 @@ pub record Piece : Type 0 where
 abbrev pub short : ℕ → List ℕ
 short n = n ∷ 0 ∷ 0 ∷ 0 ∷ []
 
+-- One piece after another.
 unfoldable pub joinedPieces : List Piece → Piece
 joinedPieces [] = record { script = []; chars = [] }
 joinedPieces (p ∷ ps) = let q : Piece = joinedPieces ps in record { script = p .script ++ q .script; chars = p .chars ++ q .chars }
@@ -54,12 +55,15 @@ elementIn n c ps = let q : Piece = joinedPieces ps in record { script = (1 ∷ c
 abbrev pub el : ℕ → List Piece → Piece
 el c ps = elementIn 1 c ps
 
+-- An attribute of that namespace and name.
 abbrev pub attrIn : ℕ → ℕ → String → Piece
 attrIn n a s = record { script = 2 ∷ a ∷ n ∷ short (length (ascii s)); chars = ascii s }
 
+-- An attribute in no namespace.
 abbrev pub attr : ℕ → String → Piece
 attr a s = attrIn 0 a s
 
+-- A declaration: its name and its importance.
 abbrev pub decl : ℕ → ℕ → String → Piece
 decl a i s = record { script = 3 ∷ a ∷ i ∷ short (length (ascii s)); chars = ascii s }
 
@@ -67,9 +71,11 @@ decl a i s = record { script = 3 ∷ a ∷ i ∷ short (length (ascii s)); chars
 abbrev pub read : ℕ → ℕ → ℕ → Piece
 read k o l = record { script = (4 ∷ k ∷ []) ++ short o ++ short l; chars = [] }
 
+-- A text.
 abbrev pub say : String → Piece
 say s = record { script = 5 ∷ short (length (ascii s)); chars = ascii s }
 
+-- A comment.
 abbrev pub comment : Piece
 comment = record { script = 6 ∷ []; chars = [] }
 
@@ -81,9 +87,11 @@ pub data Look : Type 0 where
   values : ℕ → Look
   names : Look
 
+-- One more in front, if the test passes.
 abbrev pub withFirst : Bool → (Unit {0} → List ℕ) → List (List ℕ) → List (List ℕ)
 withFirst b x r = pick b (λ u. x tt ∷ r) (λ u. r)
 
+-- What is seen in the n nodes from i on.
 unfoldable pub seenFrom : Look → List ℕ → Tree → ℕ → ℕ → List (List ℕ)
 seenFrom l chars t i zero = []
 seenFrom texts chars t i (suc n) = withFirst (eqb (kindOf t i) TEXT) (λ u. textOf t i) (seenFrom texts chars t (i + 1) n)
@@ -96,6 +104,7 @@ abbrev pub seen : Look → Result → List (List ℕ)
 seen l r =
     pick (eqb (r .number) 0) (λ u. seenFrom l (r .characters) (r .tree) 0 (r .tree .nodeCount)) (λ u. (r .number ∷ []) ∷ [])
 
+-- A drawing, what is looked at in its build, and what is wanted there.
 pub record Case : Type 0 where
   pub drawing : Piece
   pub look : Look
@@ -105,15 +114,18 @@ pub record Case : Type 0 where
 abbrev pub given-room : Piece → Result
 given-room d = build (d .script) (d .chars) 96 60 24
 
+-- Are two lists of strings the same?
 unfoldable pub sameLists : List (List ℕ) → List (List ℕ) → Bool
 sameLists [] [] = true
 sameLists [] (y ∷ ys) = false
 sameLists (x ∷ xs) [] = false
 sameLists (x ∷ xs) (y ∷ ys) = pick (sameBytes x y) (λ u. sameLists xs ys) (λ u. false)
 
+-- Does a case come out as wanted?
 unfoldable pub comesOut : Case → Bool
 comesOut c = sameLists (seen (c .look) (given-room (c .drawing))) (c .wanted)
 
+-- Do all?
 unfoldable pub allComeOut : List Case → Bool
 allComeOut [] = true
 allComeOut (c ∷ cs) = pick (comesOut c) (λ u. allComeOut cs) (λ u. false)
@@ -124,6 +136,7 @@ allComeOut (c ∷ cs) = pick (comesOut c) (λ u. allComeOut cs) (λ u. false)
 abbrev pub svg : List Piece → Piece
 svg ps = el EId.Svg ps
 
+-- The table of cases; a star marks those that document 01 marks.
 unfoldable pub cases : List Case
 cases =
     -- * One text " a " becomes "a"; with preserve it remains " a ".
@@ -206,6 +219,7 @@ unfoldable pub nested : ℕ → Piece → Piece
 nested zero p = p
 nested (suc n) p = elementIn 1 EId.G (nested n p ∷ [])
 
+-- The number of what came out.
 abbrev pub numberOut : Out ℕ → ℕ
 numberOut (refused k) = k
 numberOut (done n) = 0

@@ -27,18 +27,21 @@ pub record State : Type 0 where
   pub at : ℕ  -- how many characters are taken
   pub last : Last
 
+-- Before the first command.
 unfoldable pub starting : State
 starting = record { depth = 0; stage = children; begun = false; at = 0; last = nothing }
 
--- One test after another: the number of the first that applies, else 0.
+-- A test: the number that it gives, and whether it applies.
 pub record Test : Type 0 where
   pub number : ℕ
   pub applies : Bool
 
 infix 90 _if_
+-- A test, written as its number and its condition.
 abbrev pub _if_ : ℕ → Bool → Test
 n if b = record { number = n; applies = b }
 
+-- The number of the first test that applies, 0 for none.
 unfoldable pub firstOf : List Test → ℕ
 firstOf [] = 0
 firstOf (t ∷ ts) = pick (t .applies) (λ u. t .number) (λ u. firstOf ts)
@@ -55,6 +58,7 @@ isHalfFont (value a n ks) = and (anyPart ks) (not (and (among 9 ks) (among 10 ks
 abbrev pub isElementCode : ℕ → Bool
 isElementCode c = or (isElement c) (eqb c 255)
 
+-- The same for an attribute.
 abbrev pub isAttributeCode : ℕ → Bool
 isAttributeCode a = or (isAttribute a) (eqb a 255)
 
@@ -62,11 +66,13 @@ isAttributeCode a = or (isAttribute a) (eqb a 255)
 abbrev pub isDeclarationCode : ℕ → Bool
 isDeclarationCode a = or (isAttributeCode a) (eqb a 254)
 
+-- May an attribute come?
 abbrev pub mayAttribute : Stage → Bool
 mayAttribute attributes = true
 mayAttribute declarations = false
 mayAttribute children = false
 
+-- May a declaration come?
 abbrev pub mayDeclare : Stage → Bool
 mayDeclare attributes = true
 mayDeclare declarations = true
@@ -77,14 +83,17 @@ abbrev pub isNothing : Last → Bool
 isNothing nothing = true
 isNothing (value a n ks) = false
 
+-- Where the value begins.
 abbrev pub startOf : Last → ℕ
 startOf nothing = 0
 startOf (value a n ks) = a
 
+-- Its length.
 abbrev pub sizeOf : Last → ℕ
 sizeOf nothing = 0
 sizeOf (value a n ks) = n
 
+-- The kinds of its readings so far.
 abbrev pub kindsOf : Last → List ℕ
 kindsOf nothing = []
 kindsOf (value a n ks) = ks
@@ -137,6 +146,7 @@ module _ (chars : List ℕ) (size : ℕ) where
 abbrev pub mostBytes : ℕ
 mostBytes = 1048576
 
+-- The operation check.
 unfoldable pub check : List ℕ → List ℕ → ℕ
 check script chars =
     pick (or (ltb mostBytes (length script)) (ltb mostBytes (length chars))) (λ u. 1) (λ u. checkFrom chars (length chars) starting (commands script))

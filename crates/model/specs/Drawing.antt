@@ -86,11 +86,13 @@ pub record Value : Type 0 where
   pub part : Part
   pub readings : List Reading
 
+-- An attribute: the code of its name, its namespace, its value.
 pub record Attribute : Type 0 where
   pub name : ℕ
   pub namespace : ℕ
   pub value : Value
 
+-- A declaration: the code of its name, its importance, its value.
 pub record Declaration : Type 0 where
   pub name : ℕ
   pub important : ℕ
@@ -145,10 +147,12 @@ counted Command.other = 0
 counted closing = 0
 counted (broken b) = 0
 
+-- The mark behind a command.
 abbrev pub past : Mark → Command → Mark
 past m c = record { number = m .number + 1; at = m .at + taken c; texts = m .texts + counted c }
 
 module _ (chars : List ℕ) where
+  -- The n characters from a on.
   unfoldable pub partAt : ℕ → ℕ → Part
   partAt a n = record { start = a; size = n; bytes = slice a (a + n) chars }
 
@@ -194,6 +198,7 @@ module _ (chars : List ℕ) where
   declarationsAt m (closing ∷ cs) = []
   declarationsAt m (broken b ∷ cs) = []
 
+  -- The element that is opened at the mark, with cs behind its open.
   unfoldable pub elementAt : Mark → ℕ → ℕ → List Command → Element
   elementAt m c n cs = record {
     number = m .number + 1;
@@ -203,9 +208,11 @@ module _ (chars : List ℕ) where
     declarations = declarationsAt (past m (opening c n)) cs;
   }
 
+  -- The text of l characters at the mark.
   abbrev pub sourceAt : Mark → ℕ → Source
   sourceAt m l = record { number = m .texts + 1; start = m .at; size = l }
 
+  -- The events of the commands behind a mark.
   unfoldable pub eventsFrom : Mark → List Command → List Event
   eventsFrom m [] = []
   eventsFrom m (opening c n ∷ cs) = begin (elementAt m c n cs) ∷ eventsFrom (past m (opening c n)) cs

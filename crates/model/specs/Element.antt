@@ -105,6 +105,7 @@ fontParts =
     10 gives AId.FontFamily ∷ []
 
 module _ (t : Tree) (p : ℕ) (tag : ℕ) (d : Declaration) where
+  -- `insert_attribute` of a value under the declaration's command.
   abbrev pub insertAttribute : List Entry → ℕ → Part → List Entry
   insertAttribute es a v = insertEntry a es (appendAttribute t p tag a (d .important) v (d .value .command))
 
@@ -116,6 +117,7 @@ module _ (t : Tree) (p : ℕ) (tag : ℕ) (d : Declaration) where
   abbrev pub insertPart : List Entry → Pair → List Entry
   insertPart es k = given (readingOf (k .key) (d .value .readings)) (λ v. insertAttribute es (k .value) v) (λ u. es)
 
+  -- Is there a reading of that kind?
   abbrev pub isRead : ℕ → Bool
   isRead k = given (readingOf k (d .value .readings)) (λ v. true) (λ u. false)
 

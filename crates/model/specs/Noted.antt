@@ -36,6 +36,7 @@ In n (m ∷ ms) = (n ≡ m) ⊎ In n ms
 abbrev pub noteOf : ℕ → List Source → ℕ → ℕ → Note
 noteOf e from i j = record { node = i; elem = e; start = j; size = sizeOf from; sources = map (λ a. a .number) from }
 
+-- A step of the plain build, with these notes beside what it makes.
 abbrev pub withNotes : List Note → Out Tree → Out Noted
 withNotes ns o = then o (λ t. done (record { tree = t; notes = ns }))
 
@@ -55,9 +56,11 @@ notedParsed chars all t = each (node (noting (plain chars)) all 1025) (childrenF
 
 -- FORGETTING THE NOTES
 
+-- The tree of a noted state.
 abbrev pub Forgets : Noted → Tree → Type 0
 Forgets s t = s .tree ≡ t
 
+-- What holds of everything.
 abbrev Any : {A : Type 0} → A → Type 0
 Any a = Unit {0}
 
@@ -102,6 +105,7 @@ module _ (o : Ops Tree) (all : List Event) where
 unfoldable pub notedTree : List ℕ → List Event → Tree → Out Noted
 notedTree chars all t = then (withRoot t) (λ r. then (notedParsed chars all r) (λ s. withNotes (s .notes) (finished chars all (s .tree))))
 
+-- The notes of a build, none where it is refused.
 unfoldable pub notesOf : Out Noted → List Note
 notesOf (refused k) = []
 notesOf (done s) = s .notes

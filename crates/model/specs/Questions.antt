@@ -44,6 +44,7 @@ isFilled t i =
     pick (eqb (kindOf t i) ELEMENT) (λ u. and (isElement (codeOf t i)) (isRange t (t .attributeCount) i))
     (λ u. or (not (eqb (kindOf t i) TEXT)) (isRange t (t .textCount) i))
 
+-- All tests of record i.
 abbrev pub isNode : Tree → ℕ → Bool
 isNode t i = and (isPlaced t i) (and (isLinked t i) (isFilled t i))
 
@@ -121,9 +122,11 @@ pub record TextPart : Type 0 where
   pub start : ℕ
   pub size : ℕ
 
+-- The empty part of the named cases.
 abbrev pub emptyPart : TextPart
 emptyPart = record { start = 0; size = 0 }
 
+-- The text of node i, if it is a text node.
 abbrev pub textOfNode : Tree → ℕ → TextPart
 textOfNode t i = pick (eqb (kindOf t i) TEXT) (λ u. record { start = fromOf t i; size = toOf t i - fromOf t i }) (λ u. emptyPart)
 

@@ -83,6 +83,7 @@ module _ (chars : List ℕ) (values : List Value) where
       (λ v. pick (sameBytes (v .bytes) id) (λ u. child + 1) (λ u. firstBelow t (paintsWith t a id) (elementById chars t (v .bytes))))
       (λ u. 0)
 
+  -- `find_recursive_pattern`: the first pattern, and below it the first node, that gives anything.
   unfoldable pub findRecursivePattern : ℕ → Tree → ℕ
   findRecursivePattern a t =
       firstFound (λ i. firstFound (recursivePatternAt t a (elementId chars t i)) (descendants t i)) (allNamed t EId.Pattern (upFrom 0 (t .nodeCount)))
@@ -93,6 +94,7 @@ module _ (chars : List ℕ) (values : List Value) where
       let w : ℕ = nodeAttribute t a child in
       pick (eqb w (i + 1)) (λ u. child + 1) (λ u. firstBelow t (λ j. eqb (nodeAttribute t a j) (i + 1)) w)
 
+  -- `find_recursive_link`: the first element of that name, and below it the first node, that gives anything.
   unfoldable pub findRecursiveLink : ℕ → ℕ → Tree → ℕ
   findRecursiveLink c a t = firstFound (λ i. firstFound (recursiveLinkAt t a i) (descendants t i)) (allNamed t c (upFrom 0 (t .nodeCount)))
 
@@ -146,6 +148,7 @@ module _ (chars : List ℕ) (values : List Value) where
       pick (leb k 5) (λ u. cutsFrom k (t .attributeCount) t)
       (λ u. map (λ i. record { pass = k; node = i }) (feImageLinks chars values t [] (allNamed t EId.FeImage (upFrom 0 (t .nodeCount)))))
 
+  -- The cuts of passes, each on the tree as the ones before left it.
   unfoldable pub cutsOfAll : List ℕ → Tree → List Cut
   cutsOfAll [] t = []
   cutsOfAll (k ∷ ks) t = let cs : List Cut = cutsOf k t in cs ++ cutsOfAll ks (folded applyCut t cs)
@@ -154,5 +157,6 @@ module _ (chars : List ℕ) (values : List Value) where
   unfoldable pub repairs : Tree → List Cut
   repairs t = cutsOfAll (1 ∷ 2 ∷ 3 ∷ 4 ∷ 5 ∷ 6 ∷ []) t
 
+  -- The tree with its repairs.
   unfoldable pub repaired : Tree → Tree
   repaired t = folded applyCut t (repairs t)

@@ -30,13 +30,15 @@ then (done s) f = f s
 
 -- NODES
 
--- The kinds of node.
+-- The kinds of node: the root.
 abbrev pub ROOT : ℕ
 ROOT = 1
 
+-- An element.
 abbrev pub ELEMENT : ℕ
 ELEMENT = 2
 
+-- A text.
 abbrev pub TEXT : ℕ
 TEXT = 3
 
@@ -44,31 +46,39 @@ TEXT = 3
 abbrev pub word : List ℕ → ℕ → ℕ → ℕ
 word ns i k = getD ns (8 * i + k) 0
 
+-- The table with another word there.
 abbrev pub setWord : List ℕ → ℕ → ℕ → ℕ → List ℕ
 setWord ns i k v = set ns (8 * i + k) v
 
+-- The kind of node i.
 abbrev pub kindOf : Tree → ℕ → ℕ
 kindOf t i = word (t .nodes) i 0
 
--- Links are an index plus 1, 0 for none.
+-- The parent. Links are an index plus 1, 0 for none.
 abbrev pub parentOf : Tree → ℕ → ℕ
 parentOf t i = word (t .nodes) i 1
 
+-- The next sibling.
 abbrev pub nextSiblingOf : Tree → ℕ → ℕ
 nextSiblingOf t i = word (t .nodes) i 2
 
+-- The first child.
 abbrev pub firstChildOf : Tree → ℕ → ℕ
 firstChildOf t i = word (t .nodes) i 3
 
+-- The last child.
 abbrev pub lastChildOf : Tree → ℕ → ℕ
 lastChildOf t i = word (t .nodes) i 4
 
+-- The element code.
 abbrev pub codeOf : Tree → ℕ → ℕ
 codeOf t i = word (t .nodes) i 5
 
+-- The first entry, or the first byte of a text.
 abbrev pub fromOf : Tree → ℕ → ℕ
 fromOf t i = word (t .nodes) i 6
 
+-- Behind the last entry, or behind the last byte of a text.
 abbrev pub toOf : Tree → ℕ → ℕ
 toOf t i = word (t .nodes) i 7
 
@@ -102,12 +112,15 @@ pub record Entry : Type 0 where
   pub size : ℕ
   pub command : ℕ
 
+-- The fixed value numbered n under that name and importance.
 abbrev pub fixedEntry : ℕ → ℕ → ℕ → Entry
 fixedEntry a i n = record { name = a; important = i; start = n; size = 0; command = 0 }
 
+-- The words of a record.
 abbrev pub entryWords : Entry → List ℕ
 entryWords e = e .name ∷ e .important ∷ e .start ∷ e .size ∷ e .command ∷ []
 
+-- The words of records, one after another.
 unfoldable pub entriesWords : List Entry → List ℕ
 entriesWords [] = []
 entriesWords (e ∷ es) = entryWords e ++ entriesWords es
@@ -116,6 +129,7 @@ entriesWords (e ∷ es) = entryWords e ++ entriesWords es
 abbrev pub entryWord : Tree → ℕ → ℕ → ℕ
 entryWord t j k = getD (t .attributes) (5 * j + k) 0
 
+-- Entry j.
 unfoldable pub entryAt : Tree → ℕ → Entry
 entryAt t j = record
     { name = entryWord t j 0; important = entryWord t j 1; start = entryWord t j 2; size = entryWord t j 3; command = entryWord t j 4 }
@@ -133,6 +147,7 @@ findEntry t a j (suc n) = pick (eqb (entryWord t j 0) a) (λ u. j + 1) (λ u. fi
 unfoldable pub attributeId : Tree → ℕ → ℕ → ℕ
 attributeId t i a = pick (eqb (kindOf t i) ELEMENT) (λ u. findEntry t a (fromOf t i) (toOf t i - fromOf t i)) (λ u. 0)
 
+-- `has_attribute`
 abbrev pub hasAttribute : Tree → ℕ → ℕ → Bool
 hasAttribute t i a = not (eqb (attributeId t i a) 0)
 
@@ -157,29 +172,34 @@ holderFrom t a (suc n) w =
 abbrev pub holderOf : Tree → ℕ → ℕ → ℕ
 holderOf t a i = holderFrom t a (i + 1) (i + 1)
 
--- `element_by_id`: the last of the first n nodes that is an element with that id; its index plus 1, 0 for none.
+-- Is node i an element whose first id is this?
 unfoldable pub hasIdBytes : List ℕ → Tree → List ℕ → ℕ → Bool
 hasIdBytes chars t id i = and (hasAttribute t i AId.Id) (sameBytes (valueAtEntry chars t (attributeId t i AId.Id)) id)
 
+-- The last of the first n nodes with that id; its index plus 1, 0 for none.
 unfoldable pub lastWithId : List ℕ → Tree → List ℕ → ℕ → ℕ
 lastWithId chars t id zero = 0
 lastWithId chars t id (suc n) = pick (hasIdBytes chars t id n) (λ u. n + 1) (λ u. lastWithId chars t id n)
 
+-- `element_by_id` over all counted nodes.
 unfoldable pub elementById : List ℕ → Tree → List ℕ → ℕ
 elementById chars t id = lastWithId chars t id (t .nodeCount)
 
 -- ROOM
 
--- Entries and bytes past the 4,294,967,295th are no room, nor are the words left over behind the last whole record.
+-- Entries and bytes past this number are no room, nor are the words left over behind the last whole record.
 abbrev pub most : ℕ
 most = 4294967295
 
+-- How many node records there is room for.
 unfoldable pub nodeRoom : Tree → ℕ
 nodeRoom t = min (length (t .nodes) / 8) most
 
+-- How many attribute entries there is room for.
 unfoldable pub attributeRoom : Tree → ℕ
 attributeRoom t = min (length (t .attributes) / 5) most
 
+-- How many text bytes there is room for.
 unfoldable pub textRoom : Tree → ℕ
 textRoom t = min (length (t .text)) most
 

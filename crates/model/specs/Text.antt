@@ -19,6 +19,7 @@ pub data XmlSpace : Type 0 where
 abbrev pub preserveWord : List ℕ
 preserveWord = 112 ∷ 114 ∷ 101 ∷ 115 ∷ 101 ∷ 114 ∷ 118 ∷ 101 ∷ []
 
+-- Is it Default?
 abbrev pub isDefault : XmlSpace → Bool
 isDefault default = true
 isDefault preserve = false
@@ -37,6 +38,7 @@ spaceOf chars t i =
 
 -- TRIM_TEXT
 
+-- U+0020.
 abbrev pub SPACE : ℕ
 SPACE = 32
 
@@ -51,6 +53,7 @@ trimTextAfter w prev (b ∷ bs) =
     let c : ℕ = converted b in
     pick (and (isDefault w) (and (eqb c SPACE) (eqb c prev))) (λ u. trimTextAfter w prev bs) (λ u. c ∷ trimTextAfter w c bs)
 
+-- `trim_text`: before the first character stands none that is a space.
 unfoldable pub trimText : XmlSpace → List ℕ → List ℕ
 trimText w bs = trimTextAfter w 48 bs
 
@@ -82,16 +85,19 @@ pub data Trimming : Type 0 where
   look : ℕ → (List ℕ → Trimming) → Trimming
   cut : ℕ → ℕ → ℕ → Trimming → Trimming  -- the node, bytes in front, bytes at the end
 
--- Node i without f bytes in front and b bytes at the end, as far as it has them.
+-- Where a text begins without f bytes in front and b bytes at the end, as far as it has them.
 abbrev pub cutFrom : ℕ → ℕ → ℕ → ℕ
 cutFrom from to f = min (from + f) to
 
+-- Where the text ends then.
 abbrev pub cutTo : ℕ → ℕ → ℕ → ℕ → ℕ
 cutTo from to f b = max (cutFrom from to f) (to - b)
 
+-- The tree with that cut made.
 unfoldable pub cutText : ℕ → ℕ → ℕ → Tree → Tree
 cutText i f b t = setText i (cutFrom (fromOf t i) (toOf t i) f) (cutTo (fromOf t i) (toOf t i) f b) t
 
+-- The tree that a program leaves.
 unfoldable pub run : Trimming → Tree → Tree
 run stop t = t
 run (look i k) t = run (k (textOf t i)) t
@@ -120,21 +126,26 @@ textNodes chars t w e i (suc n) =
 unfoldable pub ownTextNodes : List ℕ → Tree → XmlSpace → ℕ → ℕ → List TextNode
 ownTextNodes chars t w e n = textNodes chars t w e (e + 1) (n - (e + 1))
 
+-- Is the first byte a space?
 abbrev pub beginsWithSpace : List ℕ → Bool
 beginsWithSpace [] = false
 beginsWithSpace (b ∷ bs) = eqb b SPACE
 
+-- Is the last byte a space?
 abbrev pub endsWithSpace : List ℕ → Bool
 endsWithSpace [] = false
 endsWithSpace (b ∷ bs) = eqb (getD (b ∷ bs) (length bs) 0) SPACE
 
+-- Is there no byte?
 abbrev pub isEmpty : List ℕ → Bool
 isEmpty [] = true
 isEmpty (b ∷ bs) = false
 
+-- `remove_first_space`
 abbrev pub removeFirstSpace : TextNode → Trimming → Trimming
 removeFirstSpace a k = cut (a .node) 1 0 k
 
+-- `remove_last_space`
 abbrev pub removeLastSpace : TextNode → Trimming → Trimming
 removeLastSpace a k = cut (a .node) 0 1 k
 
@@ -166,6 +177,7 @@ abbrev pub lastEdge : Bool → TextNode → TextNode → List ℕ → Trimming �
 lastEdge isLast a b v k = look (a .node) (λ x. look (b .node) (λ y.
     onlyIf (and (and isLast (endsWithSpace v)) (and (isEmpty y) (endsWithSpace x))) (removeLastSpace a) k))
 
+-- One pair whole; `deeper` says that the second stands deeper than the first.
 abbrev pub pair : Bool → Bool → Bool → TextNode → TextNode → Trimming → Trimming
 pair deeper isFirst isLast a b k = look (a .node) (λ v. look (b .node) (λ w.
     between deeper a b v w (edges isFirst isLast a b v w (lastEdge isLast a b v k))))
@@ -174,6 +186,7 @@ pair deeper isFirst isLast a b k = look (a .node) (λ v. look (b .node) (λ w.
 abbrev pub standsFor : List ℕ → TextNode → Bool → TextNode → TextNode
 standsFor v a known last = pick (and (isEmpty v) known) (λ u. last) (λ u. a)
 
+-- Is it the last pair?
 abbrev pub isNil : List TextNode → Bool
 isNil [] = true
 isNil (a ∷ more) = false
@@ -186,6 +199,7 @@ pairs isFirst known last a (b ∷ more) = look (a .node) (λ v.
     pair (ltb (a .depth) (b .depth)) isFirst (isNil more) c b
     (look (c .node) (λ x. pick (isBlank x) (λ u. pairs false known last b more) (λ u. pairs false true c b more))))
 
+-- The program for the text nodes of an element: none, a single one, or pairs.
 unfoldable pub trimming : XmlSpace → List TextNode → Trimming
 trimming w [] = stop
 trimming w (a ∷ []) = pick (isDefault w) (λ u. single a) (λ u. stop)

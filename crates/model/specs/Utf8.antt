@@ -12,9 +12,11 @@ pub record Range : Type 0 where
   pub last : ℕ
 
 infix 90 _to_
+-- A range, written as the tables show it.
 abbrev pub _to_ : ℕ → ℕ → Range
 a to b = record { first = a; last = b }
 
+-- Is the number in the range?
 abbrev pub isWithin : ℕ → Range → Bool
 isWithin b r = and (leb (r .first) b) (leb b (r .last))
 
@@ -73,6 +75,7 @@ whiteSpaces =
     0x0009 to 0x000D ∷ 0x0020 to 0x0020 ∷ 0x0085 to 0x0085 ∷ 0x00A0 to 0x00A0 ∷ 0x1680 to 0x1680 ∷ 0x2000 to 0x200A ∷
     0x2028 to 0x2029 ∷ 0x202F to 0x202F ∷ 0x205F to 0x205F ∷ 0x3000 to 0x3000 ∷ []
 
+-- Is it in one of the ranges?
 unfoldable pub isWithinAny : ℕ → List Range → Bool
 isWithinAny c [] = false
 isWithinAny c (r ∷ rs) = pick (isWithin c r) (λ u. true) (λ u. isWithinAny c rs)
