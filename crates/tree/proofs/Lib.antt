@@ -4,3 +4,4 @@ pub mod Entries
 pub mod Climbs
 pub mod Alike
 pub mod Facts
+pub mod Stores
