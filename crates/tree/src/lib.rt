@@ -3,6 +3,7 @@
 pub mod exports;
 pub mod question;
 pub mod read;
+pub mod room;
 pub mod sound;
 pub mod word;
 pub mod write;
