@@ -5,3 +5,4 @@ pub mod Climbs
 pub mod Alike
 pub mod Facts
 pub mod Stores
+pub mod Keeping
