@@ -1,20 +1,19 @@
 -- What the 40 test tells of tables that pass it, and what reading them asks. Assumes nothing.
 use mathlib.Core.Path.{_≡_, refl, sym, ap, _∙_}
-use mathlib.Core.Logic.{_⊎_, inl, inr, ⊎-elim}
 use mathlib.Core.Bool.{Bool, true, false, not, false≢true}
-use mathlib.Core.List.{List, [], _∷_}
+use mathlib.Core.List.{List}
 use Prim.Native.Nat.{ℕ, zero, suc, _+_, _-_, _*_, _<_, _≤_}
 use native.Mathlib.Omega.{arith}
 use native.Mathlib.Nat.{not-suc-le-zero}
 use lib.ListN.{length}
 use lib.Dec.{eqb, leb, ltb}
-use borrow.Author.Tests.{leb-true, leb-false, eqb-true, eqb-false, eq-eqb, ne-eqb, not-false, ltb-true}
+use borrow.Author.Tests.{leb-true, leb-false, eqb-true, eqb-false, eq-eqb, ne-eqb, ltb-true}
 use Rattle.model.specs.Base.{pick, and, or}
 use Rattle.model.specs.Names.{isElement, isAttribute}
 use Rattle.model.specs.Tables.{Tree, ROOT, ELEMENT, TEXT, kindOf, parentOf, nextSiblingOf, firstChildOf, lastChildOf, codeOf, fromOf, toOf, Entry, entryAt}
-use Rattle.model.specs.Check.{_if_, firstOf}
+use Rattle.model.specs.Check.{firstOf}
 use Rattle.model.specs.Questions.{countsFit, isPlaced, isLater, isLinked, isRange, isFilled, isNode, isEntry, allBelow, isSound, questionFault, TextPart, textOfNode, textAt, textQuestion}
-use Rattle.tree.specs.Lent.{readOf, entriesOf, nodesRead, Placed, Readable, ReadableIn, Climbable, TextReadable, Valued}
+use Rattle.tree.specs.Lent.{readOf, nodesRead, Readable, ReadableIn, Climbable, TextReadable, Valued}
 use Rattle.tree.proofs.Counted.{both, fitting}
 use Rattle.tree.specs.Kept.{KeptNode, Kept}
 

@@ -13,7 +13,7 @@ use borrow.Author.Tests.{eqb-true, eqb-false, ltb-true, ltb-false}
 use Rattle.model.specs.Base.{pick}
 use Rattle.model.specs.Tables.{Tree, ELEMENT, TEXT, word, setWord, kindOf, fromOf, toOf, nextLinked, firstLinked, linked, appended, Entry, entryWords, entriesWords, entryAt, addElement, addText, setText, setNone, cleared, rooted}
 use Rattle.tree.specs.Lent.{Valued}
-use Rattle.tree.specs.Kept.{Fitting, KeptNode, Kept}
+use Rattle.tree.specs.Kept.{KeptNode, Kept}
 use Rattle.tree.proofs.Stores.{before-run}
 
 -- LISTS

@@ -1,5 +1,5 @@
 use lib.ListN.{length}
-use mathlib.Core.Path.{sym, _∙_, ap}
+use mathlib.Core.Path.{_∙_, ap}
 use Prim.Native.Nat.{ℕ}
 use Rattle.model.specs.Check.{firstOf}
 use Rattle.model.specs.Tables.{elementById}

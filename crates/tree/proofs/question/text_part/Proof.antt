@@ -1,6 +1,5 @@
 use lib.ListN.{length}
 use borrow.Author.Tests.{lt-ltb, le-ltb}
-use mathlib.Core.Path.{sym, _∙_}
 use native.Mathlib.Omega.{arith}
 use Prim.Native.Nat.{_-_}
 use Rattle.model.specs.Tables.{firstChildOf}

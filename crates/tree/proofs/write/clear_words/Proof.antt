@@ -1,7 +1,7 @@
-use borrow.Author.Fill.{fill-none, fill-more}
-use mathlib.Core.Path.{_≡_, refl, sym, ap, _∙_}
+use borrow.Author.Fill.{fill-more}
+use mathlib.Core.Path.{_≡_, refl, ap, _∙_}
 use mathlib.Core.List.{_++_, append-nil}
-use Prim.Native.Nat.{ℕ, _≤_, _-_, zero-le}
+use Prim.Native.Nat.{_≤_, _-_, zero-le}
 use native.Mathlib.Omega.{arith}
 use lib.ListN.{length, replicate, drop, set, length-set}
 use lib.Seq.{drop-length}

@@ -1,6 +1,5 @@
 use borrow.Author.Tests.{eq-eqb, ne-eqb}
 use mathlib.Core.Path.{sym}
-use native.Mathlib.Omega.{arith}
 use Rattle.model.specs.Tables.{firstLinked}
 use borrow.Author.Needs.{needs}
 use Rattle.tree.proofs.write.link_first.Statement.{statement}

@@ -1,10 +1,6 @@
-use mathlib.Core.Path.{_≡_, refl, sym, ap, _∙_}
-use mathlib.Core.List.{List}
-use Prim.Native.Nat.{ℕ, _≤_, _-_, _+_, zero-le}
+use Prim.Native.Nat.{_-_}
 use native.Mathlib.Omega.{arith}
-use lib.ListN.{length, replicate, set, length-set}
-use lib.Seq.{sets}
-use Rattle.tree.proofs.Stores.{zero-more, Zeroed, zeroed-none, zeroed-more, zeroed-all}
+use Rattle.tree.proofs.Stores.{Zeroed, zeroed-none, zeroed-more, zeroed-all}
 use Rattle.tree.proofs.write.zero_bytes.Statement.{statement}
 use Rattle.tree.proofs.write.zero_bytes.Tie as tie
 
