@@ -11,7 +11,7 @@ use Rattle.model.specs.Names.{fixedBytes, isPossibleNone, isInheritable}
 use Rattle.model.specs.Tables.{Tree, ELEMENT, kindOf, parentOf, fromOf, toOf, entryAt, entryWord, findEntry, attributeId, hasAttribute, valueAtEntry, attributeOf, holderFrom, holderOf, hasIdBytes, lastWithId}
 use Rattle.model.specs.Questions.{elementFrom, selfOrParent, findAttributeImpl}
 use Rattle.tree.specs.Lent.{readOf, entriesOf, nodesRead, Valued, ReadableIn, HeldBy}
-use Rattle.tree.proofs.Climbs.{climb, climb-same, holder-climbs, element-climbs}
+use Rattle.tree.proofs.Climbs.{climb-same, holder-climbs, element-climbs}
 
 pub else-same : (b : Bool) (z : ℕ) {x y : ℕ} → x ≡ y → pick b (λ u. z) (λ u. x) ≡ pick b (λ u. z) (λ u. y)
 else-same true z e = refl

@@ -1,12 +1,10 @@
 -- Laws of tests. Assumes nothing.
 use mathlib.Core.Path.{_≡_, refl, sym, ap, _∙_}
 use mathlib.Core.Bool.{Bool, true, false, not}
-use mathlib.Core.List.{List}
-use Prim.Native.Nat.{ℕ, suc, _+_, _-_, _<_, _≤_}
-use native.Mathlib.Numerals.{add-one}
+use Prim.Native.Nat.{ℕ, suc, _-_, _<_, _≤_}
 use native.Mathlib.Omega.{arith}
 use borrow.Author.Tests.{not-true, not-false}
-use Rattle.model.specs.Base.{pick, and, or}
+use Rattle.model.specs.Base.{pick, and}
 use Rattle.model.specs.Questions.{allBelow}
 
 pub and-false : (b : Bool) → false ≡ and b false

@@ -1,24 +1,18 @@
 -- What the test of the counts tells. Assumes nothing.
 use mathlib.Core.Path.{_≡_, refl}
 use mathlib.Core.Bool.{Bool, true, false, false≢true}
-use Prim.Native.Nat.{ℕ, _*_, _≤_}
+use Prim.Native.Nat.{_*_}
 use lib.ListN.{length}
 use lib.Dec.{leb}
 use borrow.Author.Tests.{leb-true}
 use Rattle.model.specs.Base.{and}
 use Rattle.model.specs.Tables.{Tree}
 use Rattle.model.specs.Questions.{countsFit}
+use Rattle.tree.specs.Kept.{Fitting}
 
 pub both : (a b : Bool) → and a b ≡ true → (a ≡ true) × (b ≡ true)
 both true b e = (refl, e)
 both false b e = absurd (false≢true e)
-
--- Counts that fit their tables.
-pub record Fitting (t : Tree) : Type 0 where
-  pub one : 1 ≤ t .nodeCount
-  pub nodes : 8 * t .nodeCount ≤ length (t .nodes)
-  pub entries : 5 * t .attributeCount ≤ length (t .attributes)
-  pub bytes : t .textCount ≤ length (t .text)
 
 pub fitting : (t : Tree) → countsFit t ≡ true → Fitting t
 fitting t e =

@@ -1,21 +1,21 @@
 -- What the 40 test tells of tables that pass it, and what reading them asks. Assumes nothing.
 use mathlib.Core.Path.{_≡_, refl, sym, ap, _∙_}
-use mathlib.Core.Logic.{_⊎_, inl, inr, ⊎-elim}
 use mathlib.Core.Bool.{Bool, true, false, not, false≢true}
-use mathlib.Core.List.{List, [], _∷_}
+use mathlib.Core.List.{List}
 use Prim.Native.Nat.{ℕ, zero, suc, _+_, _-_, _*_, _<_, _≤_}
 use native.Mathlib.Omega.{arith}
 use native.Mathlib.Nat.{not-suc-le-zero}
 use lib.ListN.{length}
 use lib.Dec.{eqb, leb, ltb}
-use borrow.Author.Tests.{leb-true, leb-false, eqb-true, eqb-false, eq-eqb, ne-eqb, not-false, ltb-true}
+use borrow.Author.Tests.{leb-true, leb-false, eqb-true, eqb-false, eq-eqb, ne-eqb, ltb-true}
 use Rattle.model.specs.Base.{pick, and, or}
 use Rattle.model.specs.Names.{isElement, isAttribute}
 use Rattle.model.specs.Tables.{Tree, ROOT, ELEMENT, TEXT, kindOf, parentOf, nextSiblingOf, firstChildOf, lastChildOf, codeOf, fromOf, toOf, Entry, entryAt}
-use Rattle.model.specs.Check.{_if_, firstOf}
+use Rattle.model.specs.Check.{firstOf}
 use Rattle.model.specs.Questions.{countsFit, isPlaced, isLater, isLinked, isRange, isFilled, isNode, isEntry, allBelow, isSound, questionFault, TextPart, textOfNode, textAt, textQuestion}
-use Rattle.tree.specs.Lent.{readOf, entriesOf, nodesRead, Placed, Readable, ReadableIn, Climbable, TextReadable, Valued}
-use Rattle.tree.proofs.Counted.{both, Fitting, fitting}
+use Rattle.tree.specs.Lent.{readOf, nodesRead, Readable, ReadableIn, Climbable, TextReadable, Valued}
+use Rattle.tree.proofs.Counted.{both, fitting}
+use Rattle.tree.specs.Kept.{KeptNode, Kept}
 
 then-of : (b : Bool) (x y : Unit {0} → Bool) → b ≡ true → pick b x y ≡ true → x tt ≡ true
 then-of true x y e h = h
@@ -40,13 +40,6 @@ all-below f (suc n) h i l =
     last true e at below = ap f (eqb-true i n e) ∙ at
     last false e at below = below (let d : (i ≡ n → ⊥) = eqb-false i n e in omega arith)
 
--- A node of tables that pass.
-pub record NodeSound (t : Tree) (i : ℕ) : Type 0 where
-  pub falls : parentOf t i ≤ i
-  pub first : firstChildOf t i ≤ t .nodeCount
-  pub range : kindOf t i ≡ ELEMENT → toOf t i ≤ t .attributeCount
-  pub bytes : kindOf t i ≡ TEXT → (fromOf t i ≤ toOf t i) × (toOf t i ≤ t .textCount)
-
 placed-falls : (t : Tree) (i : ℕ) → isPlaced t i ≡ true → parentOf t i ≤ i
 placed-falls t i h = go (eqb i 0) h
   where
@@ -64,13 +57,14 @@ later-within t i w h = go (eqb w 0) refl h
     go true e h = let z : w ≡ 0 = eqb-true w 0 e in omega arith
     go false e h = leb-true w (t .nodeCount) (both (leb (i + 2) w) (leb w (t .nodeCount)) h .1)
 
-linked-within : (t : Tree) (i : ℕ) → isLinked t i ≡ true → firstChildOf t i ≤ t .nodeCount
+linked-within : (t : Tree) (i : ℕ) → isLinked t i ≡ true → (firstChildOf t i ≤ t .nodeCount) × (lastChildOf t i ≤ t .nodeCount)
 linked-within t i h =
     let n : Bool = isLater t i (nextSiblingOf t i) in
     let f : Bool = isLater t i (firstChildOf t i) in
     let l : Bool = isLater t i (lastChildOf t i) in
     let b : Bool = pick (eqb (firstChildOf t i) 0) (λ u. eqb (lastChildOf t i) 0) (λ u. not (eqb (lastChildOf t i) 0)) in
-    later-within t i (firstChildOf t i) (both f l (both n (and f l) (both (and n (and f l)) b h .0) .1) .0)
+    let p : (f ≡ true) × (l ≡ true) = both f l (both n (and f l) (both (and n (and f l)) b h .0) .1) in
+    (later-within t i (firstChildOf t i) (p .0), later-within t i (lastChildOf t i) (p .1))
 
 range-in : (t : Tree) (n i : ℕ) → isRange t n i ≡ true → (fromOf t i ≤ toOf t i) × (toOf t i ≤ n)
 range-in t n i h =
@@ -96,13 +90,14 @@ text-filled t i h k = range-in t (t .textCount) i (inner (eqb (kindOf t i) TEXT)
     inner true e o = o
     inner false e o = absurd (false≢true e)
 
-node-sound : (t : Tree) (i : ℕ) → isNode t i ≡ true → NodeSound t i
+node-sound : (t : Tree) (i : ℕ) → isNode t i ≡ true → KeptNode t i
 node-sound t i h =
     let p : (isPlaced t i ≡ true) × (and (isLinked t i) (isFilled t i) ≡ true) = both (isPlaced t i) (and (isLinked t i) (isFilled t i)) h in
     let q : (isLinked t i ≡ true) × (isFilled t i ≡ true) = both (isLinked t i) (isFilled t i) (p .1) in
     record {
       falls = placed-falls t i (p .0);
-      first = linked-within t i (q .0);
+      first = linked-within t i (q .0) .0;
+      last = linked-within t i (q .0) .1;
       range = element-filled t i (q .1);
       bytes = text-filled t i (q .1);
     }
@@ -114,12 +109,7 @@ entry-valued size e h n =
     (ne-eqb (e .command) 0 n)
     (both (isAttribute (e .name)) (pick (eqb (e .command) 0) (λ u. and (and (leb 1 (e .start)) (leb (e .start) 18)) (eqb (e .size) 0)) (λ u. leb (e .start + e .size) size)) h .1))
 
-pub record Sound (chars : List ℕ) (t : Tree) : Type 0 where
-  pub fits : Fitting t
-  pub nodes : (i : ℕ) → i < t .nodeCount → NodeSound t i
-  pub entries : (j : ℕ) → j < t .attributeCount → Valued (length chars) (entryAt t j)
-
-pub sound : (chars : List ℕ) (t : Tree) → isSound chars t ≡ true → Sound chars t
+pub sound : (chars : List ℕ) (t : Tree) → isSound chars t ≡ true → Kept (length chars) t
 unfolding isSound
 sound chars t h =
     let ns : Bool = allBelow (isNode t) (t .nodeCount) in
@@ -133,30 +123,30 @@ sound chars t h =
     }
 
 -- What the reading functions ask.
-module _ (chars : List ℕ) (t : Tree) (s : Sound chars t) (i : ℕ) (l : i < t .nodeCount) where
+module _ (size : ℕ) (t : Tree) (s : Kept size t) (i : ℕ) (l : i < t .nodeCount) where
   inside : 8 * i + 7 < length (t .nodes)
   inside = omega (arith, s .fits .nodes)
 
   pub readable : Readable (readOf (t .nodes) (t .attributes)) i
   readable = record { inside = inside; range = λ k. omega (arith, s .fits .entries, s .nodes i l .range k) }
 
-  pub readable-in : ReadableIn (length chars) (readOf (t .nodes) (t .attributes)) i
+  pub readable-in : ReadableIn size (readOf (t .nodes) (t .attributes)) i
   unfolding entryAt
   readable-in = record { readable = readable; values = λ k j m. s .entries j (let b : toOf t i ≤ t .attributeCount = s .nodes i l .range k in omega arith) }
 
   pub text-readable : TextReadable (nodesRead (t .nodes)) i
   text-readable = record { inside = inside; order = λ k. s .nodes i l .bytes k .0 }
 
-pub climbable : (chars : List ℕ) (t : Tree) → Sound chars t → (i : ℕ) → i < t .nodeCount → t .nodeCount ≤ 4294967295
+pub climbable : (size : ℕ) (t : Tree) → Kept size t → (i : ℕ) → i < t .nodeCount → t .nodeCount ≤ 4294967295
     → Climbable (readOf (t .nodes) (t .attributes)) i
-climbable chars t s i l m = record {
+climbable size t s i l m = record {
   small = omega arith;
-  placed = λ k h. record { inside = readable chars t s k (omega arith) .inside; falls = s .nodes k (omega arith) .falls };
-  readable = λ k h. readable chars t s k (omega arith);
+  placed = λ k h. record { inside = readable size t s k (omega arith) .inside; falls = s .nodes k (omega arith) .falls };
+  readable = λ k h. readable size t s k (omega arith);
 }
 
 -- No number stands against the question.
-pub no-fault : (chars : List ℕ) (t : Tree) (i a : ℕ) → questionFault chars t i a ≡ 0 → Sound chars t × (i < t .nodeCount)
+pub no-fault : (chars : List ℕ) (t : Tree) (i a : ℕ) → questionFault chars t i a ≡ 0 → Kept (length chars) t × (i < t .nodeCount)
 unfolding questionFault firstOf
 no-fault chars t i a h =
     let p : (isSound chars t ≡ true) × (leb (t .nodeCount) i ≡ false) = go (isSound chars t) (leb (t .nodeCount) i) (not (isAttribute a)) h in
@@ -171,7 +161,7 @@ no-fault chars t i a h =
 abbrev Within : Tree → TextPart → Type 0
 Within t p = p .start + p .size ≤ length (t .text)
 
-node-within : (chars : List ℕ) (t : Tree) → Sound chars t → (i : ℕ) → i < t .nodeCount → Within t (textOfNode t i)
+node-within : (chars : List ℕ) (t : Tree) → Kept (length chars) t → (i : ℕ) → i < t .nodeCount → Within t (textOfNode t i)
 node-within chars t s i l = go (eqb (kindOf t i) TEXT) refl
   where
     go : (b : Bool) → eqb (kindOf t i) TEXT ≡ b
@@ -181,7 +171,7 @@ node-within chars t s i l = go (eqb (kindOf t i) TEXT) refl
         omega (arith, s .fits .bytes)
     go false e = omega arith
 
-first-within : (chars : List ℕ) (t : Tree) → Sound chars t → (w : ℕ) → w ≤ t .nodeCount
+first-within : (chars : List ℕ) (t : Tree) → Kept (length chars) t → (w : ℕ) → w ≤ t .nodeCount
     → Within t (pick (eqb w 0) (λ v. record { start = 0; size = 0 }) (λ v. textOfNode t (w - 1)))
 first-within chars t s w l = go (eqb w 0) refl
   where
@@ -189,7 +179,7 @@ first-within chars t s w l = go (eqb w 0) refl
     go true e = omega arith
     go false e = node-within chars t s (w - 1) (let d : (w ≡ 0 → ⊥) = eqb-false w 0 e in omega arith)
 
-text-within : (chars : List ℕ) (t : Tree) → Sound chars t → (i : ℕ) → i < t .nodeCount → Within t (textAt t i)
+text-within : (chars : List ℕ) (t : Tree) → Kept (length chars) t → (i : ℕ) → i < t .nodeCount → Within t (textAt t i)
 text-within chars t s i l = go (eqb (kindOf t i) ELEMENT)
   where
     go : (b : Bool) → Within t (pick b (λ u. pick (eqb (firstChildOf t i) 0) (λ v. record { start = 0; size = 0 }) (λ v. textOfNode t (firstChildOf t i - 1))) (λ u. textOfNode t i))

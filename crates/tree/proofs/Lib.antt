@@ -4,3 +4,5 @@ pub mod Entries
 pub mod Climbs
 pub mod Alike
 pub mod Facts
+pub mod Stores
+pub mod Keeping

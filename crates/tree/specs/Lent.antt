@@ -1,15 +1,17 @@
 -- The lent tables as the model's Tree, and what its answers are in the structs of this crate.
 use Prim.Native.Nat.{ℕ, _+_, _*_, _<_, _≤_}
 use mathlib.Core.Path.{_≡_}
-use mathlib.Core.Bool.{Bool, true, false}
+use mathlib.Core.Bool.{Bool}
 use mathlib.Core.List.{List, []}
 use lib.ListN.{length}
 use lib.Seq.{slice}
 use lib.Dec.{eqb, leb}
 use Rattle.model.specs.Base.{pick, and, or}
-use Rattle.model.specs.Tables.{Tree, ELEMENT, TEXT, word, kindOf, fromOf, toOf, Entry, entryAt}
+use Rattle.model.specs.Tables.{Tree, ELEMENT, TEXT, word, kindOf, fromOf, toOf, entryAt}
+use Rattle.model.specs.Tables as M
 use Rattle.model.specs.Questions as Q
 use Rattle.tree.specs.declared.Counts.{Counts}
+use Rattle.tree.specs.declared.Entry.{Entry}
 use Rattle.tree.specs.declared.Answer.{Answer}
 use Rattle.tree.specs.declared.Part.{Part}
 
@@ -40,6 +42,14 @@ nodesRead ns = readOf ns []
 abbrev pub entriesOf : List ℕ → Tree
 entriesOf es = readOf [] es
 
+-- What a function sees that is lent nodes and text alone.
+abbrev pub textsOf : List ℕ → List ℕ → Tree
+textsOf ns bs = treeOf ns [] bs (record { nodes = 0; attributes = 0; text = 0 })
+
+-- An attribute's record as the model has it.
+abbrev pub entryOf : Entry → M.Entry
+entryOf e = record { name = e .name; important = e .important; start = e .start; size = e .size; command = e .command }
+
 -- An answer of the model; `found` is 0 or 1.
 abbrev pub answered : Q.Answer → Answer
 answered a = record { number = a .number; found = pick (a .found) (λ u. 1) (λ u. 0); index = a .index }
@@ -53,7 +63,7 @@ abbrev pub bytesOf : Q.TextPart → List ℕ → List ℕ
 bytesOf p bs = slice (p .start) (p .start + p .size) bs
 
 -- The value of an entry is fixed, or lies within that many characters.
-abbrev pub Valued : ℕ → Entry → Type 0
+abbrev pub Valued : ℕ → M.Entry → Type 0
 Valued size e = (e .command ≡ 0 → ⊥) → e .start + e .size ≤ size
 
 -- Node i stands in the table, and its parent, an index plus 1, is no larger.

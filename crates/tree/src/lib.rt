@@ -2,8 +2,10 @@
 
 pub mod question;
 pub mod read;
+pub mod room;
 pub mod sound;
 pub mod word;
+pub mod write;
 
 // How many records, entries and bytes of the tables are taken.
 #[repr(C)]
@@ -26,4 +28,13 @@ pub struct Answer {
 pub struct Part {
     pub start: u32,
     pub size: u32,
+}
+
+// An attribute's record. A fixed value has command 0, its number as start, and size 0.
+pub struct Entry {
+    pub name: u32,
+    pub important: u32,
+    pub start: u32,
+    pub size: u32,
+    pub command: u32,
 }

@@ -1,6 +1,3 @@
-use mathlib.Core.Path.{refl, sym, _∙_, ap}
-use native.Mathlib.Omega.{arith}
-use Rattle.model.specs.Base.{sameBytes}
 use Rattle.model.specs.Names.{fixedBytes, fixedValues}
 use Rattle.names.proofs.Compared.{same-empty, no-fixed}
 use borrow.Author.Needs.{needs}

@@ -1,5 +1,5 @@
-use mathlib.Core.Path.{sym, _∙_, ap}
-use Rattle.model.specs.Base.{sameBytes, amongWords}
+use mathlib.Core.Path.{sym}
+use Rattle.model.specs.Base.{amongWords}
 use Rattle.model.specs.Names.{imageRenderingWords}
 use Rattle.names.proofs.Compared.{decided}
 use borrow.Author.Needs.{needs}

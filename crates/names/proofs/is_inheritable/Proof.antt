@@ -1,4 +1,4 @@
-use mathlib.Core.Path.{sym, _∙_}
+use mathlib.Core.Path.{sym}
 use Rattle.model.specs.Names.{isInheritable}
 use borrow.Author.Needs.{needs}
 use Rattle.names.proofs.is_inheritable.Statement.{statement}

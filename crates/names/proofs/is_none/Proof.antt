@@ -1,6 +1,4 @@
-use mathlib.Core.Path.{sym, _∙_, ap}
-use Rattle.model.specs.Base.{sameBytes, amongWords}
-use Rattle.model.specs.Names.{fixedBytes, fixedValues, imageRenderingWords}
+use Rattle.model.specs.Names.{fixedBytes, fixedValues}
 use borrow.Author.Needs.{needs}
 use Rattle.names.proofs.is_none.Statement.{statement}
 use Rattle.names.proofs.is_none.Tie as tie

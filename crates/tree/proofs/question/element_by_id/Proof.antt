@@ -1,4 +1,5 @@
-use mathlib.Core.Path.{sym, _∙_, ap}
+use lib.ListN.{length}
+use mathlib.Core.Path.{_∙_, ap}
 use Prim.Native.Nat.{ℕ}
 use Rattle.model.specs.Check.{firstOf}
 use Rattle.model.specs.Tables.{elementById}
@@ -19,7 +20,7 @@ unfolding elementByIdQuestion firstOf
 returns c = rw (fails (c .before .is-sound .ensures) (c .if1 .taken))
 
 last-with-id-requires : tie.Need-last-with-id-requires
-last-with-id-requires c κs = λ k l. readable-in (c .before .before .before .before .before .before .before .args .characters .now) (treeOf (c .before .before .before .before .before .before .before .args .nodes .now) (c .before .before .before .before .before .before .before .args .attributes .now) (c .before .before .before .before .before .before .before .args .text .now) (c .before .before .before .before .before .before .before .args .counts)) (sound (c .before .before .before .before .before .before .before .args .characters .now) (treeOf (c .before .before .before .before .before .before .before .args .nodes .now) (c .before .before .before .before .before .before .before .args .attributes .now) (c .before .before .before .before .before .before .before .args .text .now) (c .before .before .before .before .before .before .before .args .counts)) (passes (c .before .is-sound .ensures) (c .if1 .left))) k l
+last-with-id-requires c κs = λ k l. readable-in (length (c .before .before .before .before .before .before .before .args .characters .now)) (treeOf (c .before .before .before .before .before .before .before .args .nodes .now) (c .before .before .before .before .before .before .before .args .attributes .now) (c .before .before .before .before .before .before .before .args .text .now) (c .before .before .before .before .before .before .before .args .counts)) (sound (c .before .before .before .before .before .before .before .args .characters .now) (treeOf (c .before .before .before .before .before .before .before .args .nodes .now) (c .before .before .before .before .before .before .before .args .attributes .now) (c .before .before .before .before .before .before .before .args .text .now) (c .before .before .before .before .before .before .before .args .counts)) (passes (c .before .is-sound .ensures) (c .if1 .left))) k l
 
 answer-of-requires : tie.Need-answer-of-requires
 answer-of-requires c κs = search needs

@@ -1,3 +1,4 @@
+use lib.ListN.{length}
 use borrow.Author.Tests.{eq-eqb, ne-eqb}
 use mathlib.Core.Path.{sym, _∙_, ap}
 use Prim.Native.Nat.{ℕ, _-_}
@@ -18,7 +19,7 @@ unfolding findAttributeQuestion
 returns c = rw (sym (c .before .question-fault .ensures), ne-eqb _ _ (c .if1 .taken))
 
 find-attribute-impl-requires : tie.Need-find-attribute-impl-requires
-find-attribute-impl-requires c κs = climbable (c .before .before .before .before .before .before .args .characters .now) (treeOf (c .before .before .before .before .before .before .args .nodes .now) (c .before .before .before .before .before .before .args .attributes .now) (c .before .before .before .before .before .before .args .text .now) (c .before .before .before .before .before .before .args .counts)) ((no-fault (c .before .before .before .before .before .before .args .characters .now) (treeOf (c .before .before .before .before .before .before .args .nodes .now) (c .before .before .before .before .before .before .args .attributes .now) (c .before .before .before .before .before .before .args .text .now) (c .before .before .before .before .before .before .args .counts)) (c .before .before .before .before .before .before .args .node) (c .before .before .before .before .before .before .args .name) (sym (c .before .question-fault .ensures) ∙ c .if1 .left)) .0) (c .before .before .before .before .before .before .args .node) ((no-fault (c .before .before .before .before .before .before .args .characters .now) (treeOf (c .before .before .before .before .before .before .args .nodes .now) (c .before .before .before .before .before .before .args .attributes .now) (c .before .before .before .before .before .before .args .text .now) (c .before .before .before .before .before .before .args .counts)) (c .before .before .before .before .before .before .args .node) (c .before .before .before .before .before .before .args .name) (sym (c .before .question-fault .ensures) ∙ c .if1 .left)) .1) (omega arith)
+find-attribute-impl-requires c κs = climbable (length (c .before .before .before .before .before .before .args .characters .now)) (treeOf (c .before .before .before .before .before .before .args .nodes .now) (c .before .before .before .before .before .before .args .attributes .now) (c .before .before .before .before .before .before .args .text .now) (c .before .before .before .before .before .before .args .counts)) ((no-fault (c .before .before .before .before .before .before .args .characters .now) (treeOf (c .before .before .before .before .before .before .args .nodes .now) (c .before .before .before .before .before .before .args .attributes .now) (c .before .before .before .before .before .before .args .text .now) (c .before .before .before .before .before .before .args .counts)) (c .before .before .before .before .before .before .args .node) (c .before .before .before .before .before .before .args .name) (sym (c .before .question-fault .ensures) ∙ c .if1 .left)) .0) (c .before .before .before .before .before .before .args .node) ((no-fault (c .before .before .before .before .before .before .args .characters .now) (treeOf (c .before .before .before .before .before .before .args .nodes .now) (c .before .before .before .before .before .before .args .attributes .now) (c .before .before .before .before .before .before .args .text .now) (c .before .before .before .before .before .before .args .counts)) (c .before .before .before .before .before .before .args .node) (c .before .before .before .before .before .before .args .name) (sym (c .before .question-fault .ensures) ∙ c .if1 .left)) .1) (omega arith)
 
 answer-of-requires : tie.Need-answer-of-requires
 answer-of-requires c κs = search needs
@@ -31,7 +32,7 @@ sub-attribute-of : tie.Need-sub-attribute-of
 sub-attribute-of c = search needs
 
 attribute-of-requires : tie.Need-attribute-of-requires
-attribute-of-requires c κs = readable-in (c .before .before .before .before .before .before .before .before .args .characters .now) (treeOf (c .before .before .before .before .before .before .before .before .args .nodes .now) (c .before .before .before .before .before .before .before .before .args .attributes .now) (c .before .before .before .before .before .before .before .before .args .text .now) (c .before .before .before .before .before .before .before .before .args .counts)) ((no-fault (c .before .before .before .before .before .before .before .before .args .characters .now) (treeOf (c .before .before .before .before .before .before .before .before .args .nodes .now) (c .before .before .before .before .before .before .before .before .args .attributes .now) (c .before .before .before .before .before .before .before .before .args .text .now) (c .before .before .before .before .before .before .before .before .args .counts)) (c .before .before .before .before .before .before .before .before .args .node) (c .before .before .before .before .before .before .before .before .args .name) (sym (c .before .before .before .question-fault .ensures) ∙ c .before .before .if1 .left)) .0) ((c .before .find-attribute-impl .result) - 1) (omega (arith, c .before .find-attribute-impl .ensures .1, (no-fault (c .before .before .before .before .before .before .before .before .args .characters .now) (treeOf (c .before .before .before .before .before .before .before .before .args .nodes .now) (c .before .before .before .before .before .before .before .before .args .attributes .now) (c .before .before .before .before .before .before .before .before .args .text .now) (c .before .before .before .before .before .before .before .before .args .counts)) (c .before .before .before .before .before .before .before .before .args .node) (c .before .before .before .before .before .before .before .before .args .name) (sym (c .before .before .before .question-fault .ensures) ∙ c .before .before .if1 .left)) .1))
+attribute-of-requires c κs = readable-in (length (c .before .before .before .before .before .before .before .before .args .characters .now)) (treeOf (c .before .before .before .before .before .before .before .before .args .nodes .now) (c .before .before .before .before .before .before .before .before .args .attributes .now) (c .before .before .before .before .before .before .before .before .args .text .now) (c .before .before .before .before .before .before .before .before .args .counts)) ((no-fault (c .before .before .before .before .before .before .before .before .args .characters .now) (treeOf (c .before .before .before .before .before .before .before .before .args .nodes .now) (c .before .before .before .before .before .before .before .before .args .attributes .now) (c .before .before .before .before .before .before .before .before .args .text .now) (c .before .before .before .before .before .before .before .before .args .counts)) (c .before .before .before .before .before .before .before .before .args .node) (c .before .before .before .before .before .before .before .before .args .name) (sym (c .before .before .before .question-fault .ensures) ∙ c .before .before .if1 .left)) .0) ((c .before .find-attribute-impl .result) - 1) (omega (arith, c .before .find-attribute-impl .ensures .1, (no-fault (c .before .before .before .before .before .before .before .before .args .characters .now) (treeOf (c .before .before .before .before .before .before .before .before .args .nodes .now) (c .before .before .before .before .before .before .before .before .args .attributes .now) (c .before .before .before .before .before .before .before .before .args .text .now) (c .before .before .before .before .before .before .before .before .args .counts)) (c .before .before .before .before .before .before .before .before .args .node) (c .before .before .before .before .before .before .before .before .args .name) (sym (c .before .before .before .question-fault .ensures) ∙ c .before .before .if1 .left)) .1))
 
 answer-of-requires-2 : tie.Need-answer-of-requires-2
 answer-of-requires-2 c κs = search needs

@@ -1,9 +1,8 @@
-use mathlib.Core.Path.{_≡_, sym, _∙_, ap}
+use mathlib.Core.Path.{_∙_, ap}
 use native.Mathlib.Omega.{arith}
-use Prim.Native.Nat.{ℕ, _+_}
+use Prim.Native.Nat.{_+_}
 use lib.Seq.{slice}
-use Rattle.model.specs.Questions.{textQuestion}
-use Rattle.tree.specs.Lent.{treeOf, parted, bytesOf}
+use Rattle.tree.specs.Lent.{treeOf}
 use Rattle.tree.specs.declared.Part.{Part}
 use Rattle.tree.proofs.Facts.{part-within}
 use Rattle.tree.proofs.Entries.{part-of}

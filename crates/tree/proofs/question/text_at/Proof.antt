@@ -1,9 +1,7 @@
 use Rattle.model.specs.Tables.{kindOf}
 use borrow.Author.Tests.{eq-eqb, ne-eqb}
-use mathlib.Core.Path.{sym, _∙_, subst}
-use native.Mathlib.Omega.{arith}
-use Prim.Native.Nat.{ℕ, _-_}
-use Rattle.tree.specs.Lent.{TextReadable, nodesRead}
+use mathlib.Core.Path.{sym, _∙_}
+use Rattle.tree.specs.Lent.{nodesRead}
 use borrow.Author.Needs.{needs}
 use Rattle.tree.proofs.question.text_at.Statement.{statement}
 use Rattle.tree.proofs.question.text_at.Tie as tie

@@ -1,5 +1,5 @@
+use lib.ListN.{length}
 use borrow.Author.Tests.{lt-ltb, le-ltb}
-use mathlib.Core.Path.{sym, _∙_}
 use native.Mathlib.Omega.{arith}
 use Prim.Native.Nat.{_-_}
 use Rattle.model.specs.Tables.{firstChildOf}
@@ -23,7 +23,7 @@ unfolding textQuestion
 returns-2 c = rw (passes (c .before .before .before .is-sound .ensures) (c .before .before .if1 .left), le-ltb _ _ (c .if2 .taken))
 
 text-at-requires : tie.Need-text-at-requires
-text-at-requires c κs = (text-readable (c .before .before .before .before .before .before .before .before .args .characters .now) (treeOf (c .before .before .before .before .before .before .before .before .args .nodes .now) (c .before .before .before .before .before .before .before .before .args .attributes .now) (c .before .before .before .before .before .before .before .before .args .text .now) (c .before .before .before .before .before .before .before .before .args .counts)) (sound (c .before .before .before .before .before .before .before .before .args .characters .now) (treeOf (c .before .before .before .before .before .before .before .before .args .nodes .now) (c .before .before .before .before .before .before .before .before .args .attributes .now) (c .before .before .before .before .before .before .before .before .args .text .now) (c .before .before .before .before .before .before .before .before .args .counts)) (passes (c .before .before .before .is-sound .ensures) (c .before .before .if1 .left))) (c .before .before .before .before .before .before .before .before .args .node) (c .if2 .left), λ z. text-readable (c .before .before .before .before .before .before .before .before .args .characters .now) (treeOf (c .before .before .before .before .before .before .before .before .args .nodes .now) (c .before .before .before .before .before .before .before .before .args .attributes .now) (c .before .before .before .before .before .before .before .before .args .text .now) (c .before .before .before .before .before .before .before .before .args .counts)) (sound (c .before .before .before .before .before .before .before .before .args .characters .now) (treeOf (c .before .before .before .before .before .before .before .before .args .nodes .now) (c .before .before .before .before .before .before .before .before .args .attributes .now) (c .before .before .before .before .before .before .before .before .args .text .now) (c .before .before .before .before .before .before .before .before .args .counts)) (passes (c .before .before .before .is-sound .ensures) (c .before .before .if1 .left))) (firstChildOf (treeOf (c .before .before .before .before .before .before .before .before .args .nodes .now) (c .before .before .before .before .before .before .before .before .args .attributes .now) (c .before .before .before .before .before .before .before .before .args .text .now) (c .before .before .before .before .before .before .before .before .args .counts)) (c .before .before .before .before .before .before .before .before .args .node) - 1) (omega (arith, (sound (c .before .before .before .before .before .before .before .before .args .characters .now) (treeOf (c .before .before .before .before .before .before .before .before .args .nodes .now) (c .before .before .before .before .before .before .before .before .args .attributes .now) (c .before .before .before .before .before .before .before .before .args .text .now) (c .before .before .before .before .before .before .before .before .args .counts)) (passes (c .before .before .before .is-sound .ensures) (c .before .before .if1 .left))) .nodes (c .before .before .before .before .before .before .before .before .args .node) (c .if2 .left) .first, c .if2 .left)))
+text-at-requires c κs = (text-readable (length (c .before .before .before .before .before .before .before .before .args .characters .now)) (treeOf (c .before .before .before .before .before .before .before .before .args .nodes .now) (c .before .before .before .before .before .before .before .before .args .attributes .now) (c .before .before .before .before .before .before .before .before .args .text .now) (c .before .before .before .before .before .before .before .before .args .counts)) (sound (c .before .before .before .before .before .before .before .before .args .characters .now) (treeOf (c .before .before .before .before .before .before .before .before .args .nodes .now) (c .before .before .before .before .before .before .before .before .args .attributes .now) (c .before .before .before .before .before .before .before .before .args .text .now) (c .before .before .before .before .before .before .before .before .args .counts)) (passes (c .before .before .before .is-sound .ensures) (c .before .before .if1 .left))) (c .before .before .before .before .before .before .before .before .args .node) (c .if2 .left), λ z. text-readable (length (c .before .before .before .before .before .before .before .before .args .characters .now)) (treeOf (c .before .before .before .before .before .before .before .before .args .nodes .now) (c .before .before .before .before .before .before .before .before .args .attributes .now) (c .before .before .before .before .before .before .before .before .args .text .now) (c .before .before .before .before .before .before .before .before .args .counts)) (sound (c .before .before .before .before .before .before .before .before .args .characters .now) (treeOf (c .before .before .before .before .before .before .before .before .args .nodes .now) (c .before .before .before .before .before .before .before .before .args .attributes .now) (c .before .before .before .before .before .before .before .before .args .text .now) (c .before .before .before .before .before .before .before .before .args .counts)) (passes (c .before .before .before .is-sound .ensures) (c .before .before .if1 .left))) (firstChildOf (treeOf (c .before .before .before .before .before .before .before .before .args .nodes .now) (c .before .before .before .before .before .before .before .before .args .attributes .now) (c .before .before .before .before .before .before .before .before .args .text .now) (c .before .before .before .before .before .before .before .before .args .counts)) (c .before .before .before .before .before .before .before .before .args .node) - 1) (omega (arith, (sound (c .before .before .before .before .before .before .before .before .args .characters .now) (treeOf (c .before .before .before .before .before .before .before .before .args .nodes .now) (c .before .before .before .before .before .before .before .before .args .attributes .now) (c .before .before .before .before .before .before .before .before .args .text .now) (c .before .before .before .before .before .before .before .before .args .counts)) (passes (c .before .before .before .is-sound .ensures) (c .before .before .if1 .left))) .nodes (c .before .before .before .before .before .before .before .before .args .node) (c .if2 .left) .first, c .if2 .left)))
 
 returns-3 : tie.Need-returns-3
 unfolding textQuestion

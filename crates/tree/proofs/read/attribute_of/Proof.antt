@@ -1,6 +1,5 @@
-use mathlib.Core.Path.{refl, sym, _∙_, ap}
-use Prim.Native.Nat.{ℕ, zero-le}
-use native.Mathlib.Omega.{arith}
+use mathlib.Core.Path.{refl, sym, _∙_}
+use Prim.Native.Nat.{zero-le}
 use lib.ListN.{length}
 use Rattle.model.specs.Base.{and, sameBytes}
 use Rattle.model.specs.Names.{isPossibleNone, fixedBytes, fixedValues}

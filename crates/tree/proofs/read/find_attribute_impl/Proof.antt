@@ -1,4 +1,4 @@
-use mathlib.Core.Path.{_≡_, refl, sym, _∙_}
+use mathlib.Core.Path.{sym}
 use Rattle.model.specs.Questions.{findAttributeImpl}
 use borrow.Author.Needs.{needs}
 use Rattle.tree.proofs.read.find_attribute_impl.Statement.{statement}

@@ -1,8 +1,7 @@
 use mathlib.Core.Path.{_≡_, refl, sym, _∙_}
-use Prim.Native.Nat.{_≤_, _-_}
+use Prim.Native.Nat.{_-_}
 use native.Mathlib.Omega.{arith}
 use borrow.Author.Tests.{eq-eqb, ne-eqb}
-use lib.Dec.{eqb}
 use Rattle.model.specs.Tables.{findEntry}
 use Rattle.tree.specs.Lent.{entriesOf}
 use Rattle.tree.proofs.Entries.{find-step, find-end}

@@ -1,6 +1,5 @@
-use mathlib.Core.Path.{refl, sym, _∙_, ap}
+use mathlib.Core.Path.{_∙_, ap}
 use Prim.Native.Nat.{ℕ}
-use native.Mathlib.Omega.{arith}
 use lib.ListN.{length}
 use Rattle.model.specs.Base.{sameBytes}
 use Rattle.model.specs.Tables.{entryAt, valueAtEntry, hasIdBytes}

@@ -1,5 +1,4 @@
 use Rattle.tree.proofs.Bools.{fails, passes}
-use mathlib.Core.Path.{sym}
 use borrow.Author.Needs.{needs}
 use Rattle.tree.proofs.sound.is_node.Statement.{statement}
 use Rattle.tree.proofs.sound.is_node.Tie as tie

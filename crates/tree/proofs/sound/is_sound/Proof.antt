@@ -1,5 +1,4 @@
 use Rattle.tree.specs.Lent.{treeOf}
-use mathlib.Core.Path.{sym}
 use Rattle.model.specs.Tables.{entryAt}
 use Rattle.model.specs.Questions.{isSound}
 use Rattle.tree.proofs.Bools.{fails, passes}
