@@ -1,0 +1,166 @@
+-- A walk from node to node: what g says of the nodes from a cursor on, with k elements open. Assumes nothing.
+use mathlib.Core.Path.{_≡_, refl, sym, ap, _∙_, subst}
+use mathlib.Core.List.{List, [], _∷_}
+use mathlib.Core.Bool.{Bool, true, false}
+use Prim.Native.Nat.{ℕ, zero, suc, _+_, _-_, _<_, _≤_}
+use native.Mathlib.Numerals.{add-one, sub-one}
+use native.Mathlib.Omega.{arith}
+use Rattle.model.specs.Drawing as model
+use Rattle.model.specs.Drawing.{opening, reading, Event, begin, close, eventsFrom, elementAt, sourceAt, readingsAt, partAt, textsIn}
+use Rattle.script.specs.declared.cursor.Cursor.{Cursor}
+use Rattle.script.specs.declared.cursor.Step.{Step}
+use Rattle.script.specs.declared.cursor.Step.the-variants as step
+use Rattle.script.specs.declared.walk.Item.{Item}
+use Rattle.script.specs.declared.walk.Item.the-variants as item
+use Rattle.script.specs.declared.walk.Read.{Read}
+use Rattle.script.specs.declared.walk.Read.the-variants as read
+use Rattle.script.specs.declared.walk.TextIn.{TextIn}
+use Rattle.script.specs.declared.walk.TextIn.the-variants as textIn
+use Rattle.script.specs.Step.{Fit, commandsAt, markOf, moved, stepAt, Going}
+use Rattle.script.specs.Walk.{eventsAt, leave, eventsOf, ItemFit, Begun, Further, readingsOf, ReadFit, sourcesOf, TextFit}
+use Rattle.script.proofs.Commands.{told, Told, goes}
+use Rattle.script.proofs.Walks.{ItemIs, ended}
+
+pub item-told : (s : List ℕ) (c : Cursor) (r x : Item) → r ≡ x → ((chars : List ℕ) → eventsOf s chars r ≡ eventsAt s chars c) × (ItemFit s c r) → ItemIs s c x
+item-told s c r x e h = subst (ItemIs s c) e (record { same = h .0; fit = h .1 })
+
+-- v is what g says of the whole walk.
+pub record Along {A : Type 0} (g : List ℕ → ℕ → List Event → A) (v : List ℕ → A) (s : List ℕ) (from c : Cursor) (k : ℕ) : Type 0 where
+  pub fit : Fit s c
+  pub before : from .at ≤ c .at
+  pub low : k ≤ c .at
+  pub same : (chars : List ℕ) → g chars k (eventsAt s chars c) ≡ v chars
+
+pub along-none : {A : Type 0} (g : List ℕ → ℕ → List Event → A) (s : List ℕ) (c : Cursor) (k : ℕ) → Fit s c → k ≤ c .at
+    → Along g (λ chars. g chars k (eventsAt s chars c)) s c c k
+along-none g s c k f h = record { fit = f; before = omega arith; low = h; same = λ chars. refl }
+
+module _ {A : Type 0} (g : List ℕ → ℕ → List Event → A) (v : List ℕ → A) (s : List ℕ) (from c : Cursor) (k : ℕ) (w : Along g v s from c k) where
+  pub over-begin : (o : Cursor) (a b : ℕ) (n : Cursor) (k′ : ℕ) → ItemIs s c (item.Begin o a b n) → k′ ≤ k + 1
+      → ((chars : List ℕ) → g chars k (begin (elementAt chars (markOf o) a b (commandsAt s n)) ∷ eventsAt s chars n) ≡ g chars k′ (eventsAt s chars n)) → Along g v s from n k′
+  over-begin o a b n k′ i h e = record {
+    fit = i .fit .fit;
+    before = omega (arith, w .before, i .fit .further);
+    low = omega (arith, w .low, i .fit .further);
+    same = λ chars. sym (e chars) ∙ ap (g chars k) (i .same chars) ∙ w .same chars;
+  }
+
+  pub over-text : (o : Cursor) (l : ℕ) (n : Cursor) (k′ : ℕ) → ItemIs s c (item.Text o l n) → k′ ≤ k + 1
+      → ((chars : List ℕ) → g chars k (model.Event.text (sourceAt chars (markOf o) l) ∷ eventsAt s chars n) ≡ g chars k′ (eventsAt s chars n)) → Along g v s from n k′
+  over-text o l n k′ i h e = record {
+    fit = i .fit .1 .fit;
+    before = omega (arith, w .before, i .fit .1 .further);
+    low = omega (arith, w .low, i .fit .1 .further);
+    same = λ chars. sym (e chars) ∙ ap (g chars k) (i .same chars) ∙ w .same chars;
+  }
+
+  pub over-other : (n : Cursor) (k′ : ℕ) → ItemIs s c (item.Other n) → k′ ≤ k + 1
+      → ((chars : List ℕ) → g chars k (model.Event.other ∷ eventsAt s chars n) ≡ g chars k′ (eventsAt s chars n)) → Along g v s from n k′
+  over-other n k′ i h e = record {
+    fit = i .fit .fit;
+    before = omega (arith, w .before, i .fit .further);
+    low = omega (arith, w .low, i .fit .further);
+    same = λ chars. sym (e chars) ∙ ap (g chars k) (i .same chars) ∙ w .same chars;
+  }
+
+  pub over-close : (n : Cursor) (k′ : ℕ) → ItemIs s c (item.Close n) → k′ ≤ k + 1
+      → ((chars : List ℕ) → g chars k (close ∷ eventsAt s chars n) ≡ g chars k′ (eventsAt s chars n)) → Along g v s from n k′
+  over-close n k′ i h e = record {
+    fit = i .fit .fit;
+    before = omega (arith, w .before, i .fit .further);
+    low = omega (arith, w .low, i .fit .further);
+    same = λ chars. sym (e chars) ∙ ap (g chars k) (i .same chars) ∙ w .same chars;
+  }
+
+  -- The walk ends at an item.
+  pub at-item : (x : Item) → ItemIs s c x → (chars : List ℕ) → g chars k (eventsOf s chars x) ≡ v chars
+  at-item x i chars = ap (g chars k) (i .same chars) ∙ w .same chars
+
+-- LEAVE
+
+abbrev pub leaving : List ℕ → ℕ → List Event → List Event
+leaving chars k xs = leave k xs
+
+pub leave-begin : (k : ℕ) (e : model.Element) (xs : List Event) → leave k (begin e ∷ xs) ≡ leave (k + 1) xs
+unfolding leave
+leave-begin k e xs = ap (λ m. leave m xs) (sym (add-one k))
+
+pub leave-text : (k : ℕ) (a : model.Source) (xs : List Event) → leave k (model.Event.text a ∷ xs) ≡ leave k xs
+unfolding leave
+leave-text k a xs = refl
+
+pub leave-other : (k : ℕ) (xs : List Event) → leave k (model.Event.other ∷ xs) ≡ leave k xs
+unfolding leave
+leave-other k xs = refl
+
+pub leave-close : (k : ℕ) (xs : List Event) → (k ≡ 0 → ⊥) → leave k (close ∷ xs) ≡ leave (k - 1) xs
+unfolding leave
+leave-close zero xs h = absurd (h refl)
+leave-close (suc k) xs h = ap (λ m. leave m xs) (let z : k ≡ suc k - 1 = omega arith in z)
+
+pub leave-out : (k : ℕ) (xs : List Event) → k ≡ 0 → leave k (close ∷ xs) ≡ xs
+unfolding leave
+leave-out k xs e = rw e
+
+pub leave-end : (k : ℕ) → leave k [] ≡ []
+unfolding leave
+leave-end k = refl
+
+-- TEXTS
+
+abbrev pub reading-texts : List ℕ → ℕ → List Event → List model.Source
+reading-texts chars k xs = textsIn k xs
+
+pub texts-begin : (k : ℕ) (e : model.Element) (xs : List Event) → textsIn k (begin e ∷ xs) ≡ textsIn (k + 1) xs
+unfolding textsIn
+texts-begin k e xs = ap (λ m. textsIn m xs) (sym (add-one k))
+
+pub texts-text : (k : ℕ) (a : model.Source) (xs : List Event) → textsIn k (model.Event.text a ∷ xs) ≡ a ∷ textsIn k xs
+unfolding textsIn
+texts-text k a xs = refl
+
+pub texts-other : (k : ℕ) (xs : List Event) → textsIn k (model.Event.other ∷ xs) ≡ textsIn k xs
+unfolding textsIn
+texts-other k xs = refl
+
+pub texts-close : (k : ℕ) (xs : List Event) → (k ≡ 0 → ⊥) → textsIn k (close ∷ xs) ≡ textsIn (k - 1) xs
+unfolding textsIn
+texts-close zero xs h = absurd (h refl)
+texts-close (suc k) xs h = ap (λ m. textsIn m xs) (let z : k ≡ suc k - 1 = omega arith in z)
+
+pub texts-out : (k : ℕ) (xs : List Event) → k ≡ 0 → textsIn k (close ∷ xs) ≡ []
+unfolding textsIn
+texts-out k xs e = rw e
+
+pub texts-end : (k : ℕ) → textsIn k [] ≡ []
+unfolding textsIn
+texts-end k = refl
+
+-- READINGS
+
+abbrev pub ReadAt : List ℕ → Cursor → ℕ → Step → Type 0
+ReadAt s c a (step.Reading k o l n) = (chars : List ℕ) → readingsOf s chars a (read.At k (a + o) l n) ≡ readingsAt chars a (commandsAt s c)
+ReadAt s c a (step.Open x y n) = (chars : List ℕ) → readingsOf s chars a read.End ≡ readingsAt chars a (commandsAt s c)
+ReadAt s c a (step.Attribute x y l n) = (chars : List ℕ) → readingsOf s chars a read.End ≡ readingsAt chars a (commandsAt s c)
+ReadAt s c a (step.Declaration x y l n) = (chars : List ℕ) → readingsOf s chars a read.End ≡ readingsAt chars a (commandsAt s c)
+ReadAt s c a (step.Text l n) = (chars : List ℕ) → readingsOf s chars a read.End ≡ readingsAt chars a (commandsAt s c)
+ReadAt s c a (step.Other n) = (chars : List ℕ) → readingsOf s chars a read.End ≡ readingsAt chars a (commandsAt s c)
+ReadAt s c a (step.Close n) = (chars : List ℕ) → readingsOf s chars a read.End ≡ readingsAt chars a (commandsAt s c)
+ReadAt s c a (step.Broken b) = (chars : List ℕ) → readingsOf s chars a read.End ≡ readingsAt chars a (commandsAt s c)
+ReadAt s c a step.End = (chars : List ℕ) → readingsOf s chars a read.End ≡ readingsAt chars a (commandsAt s c)
+
+module _ (s : List ℕ) (c : Cursor) (a : ℕ) where
+  read-of : (x : Step) → Told s c x → ReadAt s c a x
+  unfolding readingsAt
+  read-of (step.Reading k o l n) h = λ chars. ap (readingsAt chars a) (sym (h .more))
+  read-of (step.Open x y n) h = λ chars. ap (readingsAt chars a) (sym (h .more))
+  read-of (step.Attribute x y l n) h = λ chars. ap (readingsAt chars a) (sym (h .more))
+  read-of (step.Declaration x y l n) h = λ chars. ap (readingsAt chars a) (sym (h .more))
+  read-of (step.Text l n) h = λ chars. ap (readingsAt chars a) (sym (h .more))
+  read-of (step.Other n) h = λ chars. ap (readingsAt chars a) (sym (h .more))
+  read-of (step.Close n) h = λ chars. ap (readingsAt chars a) (sym (h .more))
+  read-of (step.Broken b) h = λ chars. ap (readingsAt chars a) (sym h)
+  read-of step.End h = λ chars. ap (readingsAt chars a) (sym h)
+
+  pub read-at : (p x : Step) → p ≡ x → p ≡ stepAt s c → ReadAt s c a x
+  read-at p x e h = read-of x (told s c p x e h)

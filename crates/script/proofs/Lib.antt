@@ -1,0 +1,7 @@
+pub mod Sequence
+pub mod Commands
+pub mod Mask
+pub mod Parts
+pub mod Judging
+pub mod Walks
+pub mod Along

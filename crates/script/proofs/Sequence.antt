@@ -1,0 +1,367 @@
+-- The rows of table 3-7, read by the first byte. Assumes nothing.
+use mathlib.Core.Path.{_≡_, refl, sym, ap, ap₂, _∙_, subst}
+use mathlib.Core.List.{List, [], _∷_, map}
+use mathlib.Core.Bool.{Bool, true, false}
+use Prim.Native.Nat.{ℕ, zero, suc, _+_, _-_, _<_, _≤_}
+use native.Mathlib.Omega.{arith}
+use native.Mathlib.Numerals.{add-one}
+use borrow.Author.Tests.{eqb-true, eqb-false, leb-true, ne-eqb, lt-ltb, le-ltb, le-leb, lt-leb}
+use lib.Dec.{eqb, leb, ltb}
+use lib.Count.{leadingZeros}
+use lib.ListN.{length, getD, take, drop, length-drop, drop-of-length-le}
+use lib.Seq.{drop-cons, drop-drop, length-take-le}
+use Rattle.model.specs.Base.{pick, and, or}
+use Rattle.model.specs.Utf8.{Range, _to_, isWithin, wellFormed, begins, sequenceOf, isUtf8, isUtf8From}
+use Rattle.script.specs.Lead.{lengthOf, secondOf, restOf}
+
+-- A row, its first range apart.
+record Row : Type 0 where
+  pub lead : Range
+  pub rest : List Range
+
+infix 80 _then_
+abbrev _then_ : Range → List Range → Row
+r then rs = record { lead = r; rest = rs }
+
+abbrev rows : List Row
+rows =
+    (0x00 to 0x7F then []) ∷
+    (0xC2 to 0xDF then (0x80 to 0xBF ∷ [])) ∷
+    (0xE0 to 0xE0 then (0xA0 to 0xBF ∷ 0x80 to 0xBF ∷ [])) ∷
+    (0xE1 to 0xEC then (0x80 to 0xBF ∷ 0x80 to 0xBF ∷ [])) ∷
+    (0xED to 0xED then (0x80 to 0x9F ∷ 0x80 to 0xBF ∷ [])) ∷
+    (0xEE to 0xEF then (0x80 to 0xBF ∷ 0x80 to 0xBF ∷ [])) ∷
+    (0xF0 to 0xF0 then (0x90 to 0xBF ∷ 0x80 to 0xBF ∷ 0x80 to 0xBF ∷ [])) ∷
+    (0xF1 to 0xF3 then (0x80 to 0xBF ∷ 0x80 to 0xBF ∷ 0x80 to 0xBF ∷ [])) ∷
+    (0xF4 to 0xF4 then (0x80 to 0x8F ∷ 0x80 to 0xBF ∷ 0x80 to 0xBF ∷ [])) ∷
+    []
+
+abbrev joined : List Row → List (List Range)
+joined = map (λ r. r .lead ∷ r .rest)
+
+-- What may follow a first byte, row by row.
+abbrev behind : ℕ → List Row → List (List Range)
+behind b [] = []
+behind b (r ∷ rs) = pick (isWithin b (r .lead)) (λ u. r .rest ∷ behind b rs) (λ u. behind b rs)
+
+-- The sequence by what may follow.
+abbrev further : List (List Range) → List ℕ → ℕ
+further [] bs = 0
+further (r ∷ rs) bs = pick (begins r bs) (λ u. suc (length r)) (λ u. further rs bs)
+
+by-first : (b : ℕ) (bs : List ℕ) (rs : List Row) → sequenceOf (joined rs) (b ∷ bs) ≡ further (behind b rs) bs
+unfolding sequenceOf begins
+by-first b bs [] = refl
+by-first b bs (r ∷ rs) = go (isWithin b (r .lead)) (by-first b bs rs)
+  where
+    go : (t : Bool) → sequenceOf (joined rs) (b ∷ bs) ≡ further (behind b rs) bs
+        → pick (pick t (λ u. begins (r .rest) bs) (λ u. false)) (λ u. suc (length (r .rest))) (λ u. sequenceOf (joined rs) (b ∷ bs))
+        ≡ further (pick t (λ u. r .rest ∷ behind b rs) (λ u. behind b rs)) bs
+    go true e = ap (λ n. pick (begins (r .rest) bs) (λ u. suc (length (r .rest))) (λ u. n)) e
+    go false e = e
+
+-- TESTS OVER ALL BYTES
+
+pub and-left : (a b : Bool) → and a b ≡ true → a ≡ true
+and-left true b e = refl
+and-left false b e = e
+
+pub and-right : (a b : Bool) → and a b ≡ true → b ≡ true
+and-right true b e = e
+and-right false true e = refl
+and-right false false e = e
+
+-- Does the test hold of every number below n?
+abbrev pub allBelow : ℕ → (ℕ → Bool) → Bool
+allBelow zero p = true
+allBelow (suc n) p = and (p n) (allBelow n p)
+
+pub below : (n : ℕ) (p : ℕ → Bool) → allBelow n p ≡ true → (k : ℕ) → k < n → p k ≡ true
+below zero p e k h = absurd (omega arith)
+below (suc n) p e k h = go (eqb k n) refl (below n p (and-right (p n) (allBelow n p) e) k)
+  where
+    go : (t : Bool) → eqb k n ≡ t → (k < n → p k ≡ true) → p k ≡ true
+    go true f g = ap p (eqb-true k n f) ∙ and-left (p n) (allBelow n p) e
+    go false f g = let d : k ≡ n → ⊥ = eqb-false k n f in g (omega arith)
+
+sameRange : Range → Range → Bool
+sameRange r q = and (eqb (r .first) (q .first)) (eqb (r .last) (q .last))
+
+sameRow : List Range → List Range → Bool
+sameRow [] [] = true
+sameRow [] (q ∷ qs) = false
+sameRow (r ∷ rs) [] = false
+sameRow (r ∷ rs) (q ∷ qs) = and (sameRange r q) (sameRow rs qs)
+
+sameRows : List (List Range) → List (List Range) → Bool
+sameRows [] [] = true
+sameRows [] (q ∷ qs) = false
+sameRows (r ∷ rs) [] = false
+sameRows (r ∷ rs) (q ∷ qs) = and (sameRow r q) (sameRows rs qs)
+
+no : {A : Type 0} → false ≡ true → A
+no e = absurd (let z : _≡_ {A = ℕ} 0 1 = cc in omega arith)
+
+range-is : (r q : Range) → sameRange r q ≡ true → r ≡ q
+unfolding sameRange
+range-is r q e = ap₂ (λ a b. a to b) (eqb-true _ _ (and-left (eqb (r .first) (q .first)) _ e)) (eqb-true _ _ (and-right (eqb (r .first) (q .first)) _ e))
+
+row-is : (r q : List Range) → sameRow r q ≡ true → r ≡ q
+unfolding sameRow
+row-is [] [] e = refl
+row-is [] (q ∷ qs) e = no e
+row-is (r ∷ rs) [] e = no e
+row-is (r ∷ rs) (q ∷ qs) e = ap₂ (λ a b. a ∷ b) (range-is r q (and-left (sameRange r q) _ e)) (row-is rs qs (and-right (sameRange r q) _ e))
+
+rows-are : (r q : List (List Range)) → sameRows r q ≡ true → r ≡ q
+unfolding sameRows
+rows-are [] [] e = refl
+rows-are [] (q ∷ qs) e = no e
+rows-are (r ∷ rs) [] e = no e
+rows-are (r ∷ rs) (q ∷ qs) e = ap₂ (λ a b. a ∷ b) (row-is r q (and-left (sameRow r q) _ e)) (rows-are rs qs (and-right (sameRow r q) _ e))
+
+-- What the definitions of Lead say of what follows a byte.
+abbrev following : ℕ → ℕ → List (List Range)
+following zero b = []
+following (suc n) b = restOf (suc n) b ∷ []
+
+right : ℕ → Bool
+right b = sameRows (behind b rows) (following (lengthOf b) b)
+
+sized : ℕ → Bool
+sized b = leb (lengthOf b) 4
+
+ones-right : ℕ → Bool
+ones-right b = or (ltb b 0xC2) (or (ltb 0xF4 b) (eqb (leadingZeros 8 (255 - b)) (lengthOf b)))
+
+all-right : allBelow 256 right ≡ true
+unfolding right sameRows sameRow sameRange lengthOf secondOf restOf
+all-right = refl
+
+all-sized : allBelow 256 sized ≡ true
+unfolding sized lengthOf
+all-sized = refl
+
+all-ones : allBelow 256 ones-right ≡ true
+unfolding ones-right leadingZeros lengthOf
+all-ones = refl
+
+-- THE SEQUENCE AT A PLACE
+
+length-is : (n b : ℕ) → n ≤ 3 → length (restOf (suc n) b) ≡ n
+unfolding restOf
+length-is n b h = length-take-le (suc n - 1) (secondOf b ∷ 0x80 to 0xBF ∷ 0x80 to 0xBF ∷ []) (omega arith) ∙ omega arith
+
+-- By the length that the first byte tells: the bytes behind it decide.
+sequence-is : (b : ℕ) (bs : List ℕ) → b < 256 → sequenceOf wellFormed (b ∷ bs) ≡ pick (begins (restOf (lengthOf b) b) bs) (λ u. lengthOf b) (λ u. 0)
+unfolding wellFormed right sized restOf begins
+sequence-is b bs h =
+    by-first b bs rows ∙ ap (λ l. further l bs) (rows-are (behind b rows) (following (lengthOf b) b) (below 256 right all-right b h))
+    ∙ go (lengthOf b) (leb-true (lengthOf b) 4 (below 256 sized all-sized b h))
+  where
+    go : (n : ℕ) → n ≤ 4 → further (following n b) bs ≡ pick (begins (restOf n b) bs) (λ u. n) (λ u. 0)
+    go zero e = refl
+    go (suc n) e = ap (λ m. pick (begins (restOf (suc n) b) bs) (λ u. suc m) (λ u. 0)) (length-is n b (omega arith))
+
+length-most : (b : ℕ) → b < 256 → lengthOf b ≤ 4
+unfolding sized
+length-most b h = leb-true (lengthOf b) 4 (below 256 sized all-sized b h)
+
+-- The leading ones of a first byte are the length.
+pub ones-are : (b : ℕ) → b < 256 → 0xC2 ≤ b → b ≤ 0xF4 → leadingZeros 8 (255 - b) ≡ lengthOf b
+unfolding ones-right
+ones-are b h l m = eqb-true (leadingZeros 8 (255 - b)) (lengthOf b) (sym (simp (le-ltb b 0xC2 l, le-ltb 0xF4 b m)) ∙ below 256 ones-right all-ones b h)
+
+-- How far a sequence of n bytes is read: v is the sequence if the bytes from j on fit what is left of the ranges.
+abbrev Stage : ℕ → ℕ → ℕ → List Range → List ℕ → ℕ → Type 0
+Stage v n k rs s j = v ≡ pick (begins (take (n - k) rs) (drop j s)) (λ u. n) (λ u. 0)
+
+first-stage : (s : List ℕ) (i n : ℕ) → i < length s → getD s i 0 < 256 → n ≡ lengthOf (getD s i 0)
+    → Stage (sequenceOf wellFormed (drop i s)) n 1 (secondOf (getD s i 0) ∷ 0x80 to 0xBF ∷ 0x80 to 0xBF ∷ []) s (i + 1)
+unfolding restOf
+first-stage s i n h f e = rw (drop-cons s i 0 h, add-one, e) (sequence-is (getD s i 0) (drop (suc i) s) f)
+
+module _ (v n k : ℕ) (q : Range) (rs : List Range) (s : List ℕ) (j : ℕ) (st : Stage v n k (q ∷ rs) s j) (more : k < n) where
+  opened : v ≡ pick (begins (q ∷ take (n - (k + 1)) rs) (drop j s)) (λ u. n) (λ u. 0)
+  opened = st ∙ ap (λ m. pick (begins (take m (q ∷ rs)) (drop j s)) (λ u. n) (λ u. 0)) (let z : n - k ≡ suc (n - (k + 1)) = omega arith in z)
+
+  good : j < length s → q .first ≤ getD s j 0 → getD s j 0 ≤ q .last → Stage v n (k + 1) rs s (j + 1)
+  unfolding begins
+  good h a b = opened ∙ rw (drop-cons s j 0 h, le-leb (q .first) (getD s j 0) a, le-leb (getD s j 0) (q .last) b, add-one j)
+
+  low : getD s j 0 < q .first → j < length s → 0 ≡ v
+  unfolding begins
+  low a h = sym (opened ∙ rw (drop-cons s j 0 h, lt-leb (q .first) (getD s j 0) a))
+
+  high : q .last < getD s j 0 → j < length s → 0 ≡ v
+  unfolding begins
+  high a h = sym (opened ∙ rw (drop-cons s j 0 h) (go (leb (q .first) (getD s j 0))))
+    where
+      go : (t : Bool) → pick (pick (and t (leb (getD s j 0) (q .last))) (λ u. begins (take (n - (k + 1)) rs) (drop (suc j) s)) (λ u. false)) (λ u. n) (λ u. 0) ≡ 0
+      go true = rw (lt-leb (getD s j 0) (q .last) a)
+      go false = refl
+
+last-stage : (v n k : ℕ) (rs : List Range) (s : List ℕ) (j : ℕ) → Stage v n k rs s j → n ≤ k → n ≡ v
+unfolding begins
+last-stage v n k rs s j st h = sym (st ∙ ap (λ m. pick (begins (take m rs) (drop j s)) (λ u. n) (λ u. 0)) (let z : n - k ≡ 0 = omega arith in z))
+
+begins-length : (rs : List Range) (bs : List ℕ) → begins rs bs ≡ true → length rs ≤ length bs
+unfolding begins
+begins-length [] bs e = omega arith
+begins-length (r ∷ rs) [] e = no e
+begins-length (r ∷ rs) (b ∷ bs) e = go (isWithin b r) e (begins-length rs bs)
+  where
+    go : (t : Bool) → pick t (λ u. begins rs bs) (λ u. false) ≡ true → (begins rs bs ≡ true → length rs ≤ length bs) → suc (length rs) ≤ suc (length bs)
+    go true e ih = omega (arith, ih e)
+    go false e ih = no e
+
+cut-off : (v n : ℕ) (rs : List Range) (s : List ℕ) (j : ℕ) → Stage v n 1 rs s j → n - 1 ≤ length rs → length s < j + (n - 1) → j ≤ length s → 0 ≡ v
+cut-off v n rs s j st h l m = sym (st ∙ go (begins (take (n - 1) rs) (drop j s)) refl)
+  where
+    go : (t : Bool) → begins (take (n - 1) rs) (drop j s) ≡ t → pick t (λ u. n) (λ u. 0) ≡ 0
+    go true e = absurd (omega (arith, begins-length (take (n - 1) rs) (drop j s) e, length-take-le (n - 1) rs h, length-drop j s))
+    go false e = refl
+
+abbrev tail : Range
+tail = 0x80 to 0xBF
+
+-- The bytes of a sequence whose first byte tells the length n, one after another.
+module _ (s : List ℕ) (i n : ℕ) (h : i < length s) (f : getD s i 0 < 256) (e : n ≡ lengthOf (getD s i 0)) where
+  v : ℕ
+  v = sequenceOf wellFormed (drop i s)
+
+  q : Range
+  q = secondOf (getD s i 0)
+
+  -- What is known behind the second byte, the third and the fourth.
+  pub record Second : Type 0 where
+    pub room : i + n ≤ length s
+    pub size : 2 ≤ n
+    pub least : secondOf (getD s i 0) .first ≤ getD s (i + 1) 0
+    pub most : getD s (i + 1) 0 ≤ secondOf (getD s i 0) .last
+
+  pub record Third : Type 0 where
+    pub second : Second
+    pub size : 3 ≤ n
+    pub least : 0x80 ≤ getD s (i + 2) 0
+    pub most : getD s (i + 2) 0 ≤ 0xBF
+
+  pub record Fourth : Type 0 where
+    pub third : Third
+    pub size : 4 ≤ n
+    pub least : 0x80 ≤ getD s (i + 3) 0
+    pub most : getD s (i + 3) 0 ≤ 0xBF
+
+  stage1 : Stage v n 1 (q ∷ tail ∷ tail ∷ []) s (i + 1)
+  unfolding v q
+  stage1 = first-stage s i n h f e
+
+  stage2 : Second → Stage v n 2 (tail ∷ tail ∷ []) s (i + 2)
+  unfolding q
+  stage2 g = subst (λ j. Stage v n 2 (tail ∷ tail ∷ []) s j) (let z : i + 1 + 1 ≡ i + 2 = omega arith in z)
+      (good v n 1 q (tail ∷ tail ∷ []) s (i + 1) stage1 (omega (arith, g .size)) (omega (arith, g .room, g .size)) (g .least) (g .most))
+
+  stage3 : Third → Stage v n 3 (tail ∷ []) s (i + 3)
+  stage3 g = subst (λ j. Stage v n 3 (tail ∷ []) s j) (let z : i + 2 + 1 ≡ i + 3 = omega arith in z)
+      (good v n 2 tail (tail ∷ []) s (i + 2) (stage2 (g .second)) (omega (arith, g .size)) (omega (arith, g .second .room, g .size)) (g .least) (g .most))
+
+  stage4 : Fourth → Stage v n 4 [] s (i + 4)
+  stage4 g = subst (λ j. Stage v n 4 [] s j) (let z : i + 3 + 1 ≡ i + 4 = omega arith in z)
+      (good v n 3 tail [] s (i + 3) (stage3 (g .third)) (omega (arith, g .size)) (omega (arith, g .third .second .room, g .size)) (g .least) (g .most))
+
+  pub one : n < 2 → n ≡ sequenceOf wellFormed (drop i s)
+  unfolding v
+  one z = last-stage v n 1 (q ∷ tail ∷ tail ∷ []) s (i + 1) stage1 (omega arith)
+
+  pub two : Second → n < 3 → n ≡ sequenceOf wellFormed (drop i s)
+  unfolding v
+  two g z = last-stage v n 2 (tail ∷ tail ∷ []) s (i + 2) (stage2 g) (omega arith)
+
+  pub three : Third → n < 4 → n ≡ sequenceOf wellFormed (drop i s)
+  unfolding v
+  three g z = last-stage v n 3 (tail ∷ []) s (i + 3) (stage3 g) (omega arith)
+
+  pub four : Fourth → n ≡ sequenceOf wellFormed (drop i s)
+  unfolding v
+  four g = last-stage v n 4 [] s (i + 4) (stage4 g) (omega (arith, length-most (getD s i 0) f))
+
+  pub cut : length s < i + n → 0 ≡ sequenceOf wellFormed (drop i s)
+  unfolding v
+  cut l = cut-off v n (q ∷ tail ∷ tail ∷ []) s (i + 1) stage1 (omega (arith, length-most (getD s i 0) f)) (omega arith) (omega arith)
+
+  pub low-second : i + n ≤ length s → 2 ≤ n → getD s (i + 1) 0 < secondOf (getD s i 0) .first → 0 ≡ sequenceOf wellFormed (drop i s)
+  unfolding v q
+  low-second r m l = low v n 1 q (tail ∷ tail ∷ []) s (i + 1) stage1 (omega arith) l (omega arith)
+
+  pub high-second : i + n ≤ length s → 2 ≤ n → secondOf (getD s i 0) .last < getD s (i + 1) 0 → 0 ≡ sequenceOf wellFormed (drop i s)
+  unfolding v q
+  high-second r m l = high v n 1 q (tail ∷ tail ∷ []) s (i + 1) stage1 (omega arith) l (omega arith)
+
+  pub low-third : Second → 3 ≤ n → getD s (i + 2) 0 < 0x80 → 0 ≡ sequenceOf wellFormed (drop i s)
+  unfolding v
+  low-third g m l = low v n 2 tail (tail ∷ []) s (i + 2) (stage2 g) (omega arith) l (omega (arith, g .room))
+
+  pub high-third : Second → 3 ≤ n → 0xBF < getD s (i + 2) 0 → 0 ≡ sequenceOf wellFormed (drop i s)
+  unfolding v
+  high-third g m l = high v n 2 tail (tail ∷ []) s (i + 2) (stage2 g) (omega arith) l (omega (arith, g .room))
+
+  pub low-fourth : Third → 4 ≤ n → getD s (i + 3) 0 < 0x80 → 0 ≡ sequenceOf wellFormed (drop i s)
+  unfolding v
+  low-fourth g m l = low v n 3 tail [] s (i + 3) (stage3 g) (omega arith) l (omega (arith, g .second .room))
+
+  pub high-fourth : Third → 4 ≤ n → 0xBF < getD s (i + 3) 0 → 0 ≡ sequenceOf wellFormed (drop i s)
+  unfolding v
+  high-fourth g m l = high v n 3 tail [] s (i + 3) (stage3 g) (omega arith) l (omega (arith, g .second .room))
+
+-- THE WHOLE STRING
+
+sequence-most : (rs : List (List Range)) (bs : List ℕ) → sequenceOf rs bs ≤ length bs
+unfolding sequenceOf
+sequence-most [] bs = omega arith
+sequence-most (r ∷ rs) bs = go (begins r bs) refl (sequence-most rs bs)
+  where
+    go : (t : Bool) → begins r bs ≡ t → sequenceOf rs bs ≤ length bs → pick t (λ u. length r) (λ u. sequenceOf rs bs) ≤ length bs
+    go true e h = begins-length r bs e
+    go false e h = h
+
+utf8-drop : (n : ℕ) (s : List ℕ) → isUtf8From n s ≡ isUtf8From 0 (drop n s)
+unfolding isUtf8From
+utf8-drop zero [] = refl
+utf8-drop (suc n) [] = refl
+utf8-drop zero (b ∷ bs) = refl
+utf8-drop (suc n) (b ∷ bs) = utf8-drop n bs
+
+-- From i on the string is UTF-8 just if the whole is.
+pub record Read (s : List ℕ) (i : ℕ) : Type 0 where
+  pub within : i ≤ length s
+  pub same : isUtf8From 0 (drop i s) ≡ isUtf8 s
+
+pub read-none : (s : List ℕ) → Read s 0
+unfolding isUtf8
+read-none s = record { within = omega arith; same = refl }
+
+module _ (s : List ℕ) (i : ℕ) (h : i < length s) (r : Read s i) where
+  open-up : isUtf8 s ≡ pick (eqb (sequenceOf wellFormed (drop i s)) 0) (λ u. false) (λ u. isUtf8From (sequenceOf wellFormed (drop i s) - 1) (drop (suc i) s))
+  unfolding isUtf8From
+  open-up = sym (r .same) ∙ rw (drop-cons s i 0 h)
+
+  pub read-bad : (n : ℕ) → n ≡ sequenceOf wellFormed (drop i s) → n ≡ 0 → false ≡ isUtf8 s
+  read-bad n e z = sym (open-up ∙ rw (← e, z))
+
+  pub read-on : (n : ℕ) → n ≡ sequenceOf wellFormed (drop i s) → (n ≡ 0 → ⊥) → Read s (i + n)
+  read-on n e z = record {
+    within = omega (arith, e, sequence-most wellFormed (drop i s), length-drop i s);
+    same = ap (λ m. isUtf8From 0 (drop m s)) (let q : i + n ≡ suc i + (n - 1) = omega arith in q)
+        ∙ sym (ap (λ l. isUtf8From 0 l) (drop-drop (n - 1) (suc i) s)) ∙ sym (utf8-drop (n - 1) (drop (suc i) s))
+        ∙ sym (open-up ∙ rw (← e, ne-eqb n 0 z));
+  }
+
+  pub read-ascii : getD s i 0 < 0x80 → Read s (i + 1)
+  unfolding lengthOf restOf begins
+  read-ascii a =
+      let w : sequenceOf wellFormed (drop i s) ≡ 1 = rw (drop-cons s i 0 h) (sequence-is (getD s i 0) (drop (suc i) s) (omega arith) ∙ rw (lt-ltb (getD s i 0) 0x80 a)) in
+      read-on 1 (sym w) (λ e. omega arith)
+
+pub read-all : (s : List ℕ) (i : ℕ) → Read s i → length s ≤ i → true ≡ isUtf8 s
+unfolding isUtf8From
+read-all s i r h = sym (sym (r .same) ∙ rw (drop-of-length-le s h))

@@ -1,0 +1,4 @@
+pub mod Lead
+pub mod Step
+pub mod Known
+pub mod Walk
