@@ -1,4 +1,5 @@
 pub mod Sequence
+pub mod Ascii
 pub mod Commands
 pub mod Mask
 pub mod Parts

@@ -1,8 +1,9 @@
 // UTF-8: the Unicode Standard, table 3-7.
 ghost use mathlib.Core.Path.{_≡_};
-ghost use Prim.Native.Nat.{_<_};
-ghost use lib.ListN.{length, drop};
-ghost use Rattle.model.specs.Utf8.{sequenceOf, wellFormed, isUtf8};
+ghost use mathlib.Core.Bool.{true, false};
+ghost use Prim.Native.Nat.{ℕ, _+_, _<_, _≤_};
+ghost use lib.ListN.{length, drop, getD};
+ghost use Rattle.model.specs.Utf8.{sequenceOf, wellFormed, isUtf8, isUtf8From};
 ghost use Rattle.script.specs.Lead.{lengthOf, secondOf};
 
 // How many bytes a sequence has that begins with this byte, 0 where none does: as many as the byte has leading ones.
@@ -86,21 +87,95 @@ pub fn sequence_at(s: &[u8], i: usize) -> usize
     n
 }
 
-// Is the string UTF-8?
-pub fn is_utf8(s: &[u8]) -> bool
-    ensures { λ r. ⌜ r ≡ isUtf8 (now (s .entry)) ⌝ }
+// Are the 32 bytes from i on all ASCII? It counts them all, with no way out before the end: the compiler makes vector
+// instructions of that.
+fn is_ascii_block(s: &[u8], i: usize) -> bool
+    requires { ⌜ i + 32 ≤ length (now s) ⌝ }
+    ensures { λ r. ⌜ (r ≡ true → (k : ℕ) → k < 32 → getD (now (s .entry)) (i + k) 0 < 0x80)
+        × (((k : ℕ) → k < 32 → getD (now (s .entry)) (i + k) 0 < 0x80) → r ≡ true) ⌝ }
 {
-    let mut i = 0;
-    while i < s.len() {
+    let mut n: usize = 0;
+    let mut j = 0;
+    while j < 32 {
+        if s[i + j] < 0x80 {
+            n += 1;
+        }
+        j += 1;
+    }
+    n == 32
+}
+
+// The place behind the blocks of ASCII that stand from a place on.
+fn past_ascii(s: &[u8], from: usize) -> usize
+    requires { ⌜ from ≤ length (now s) ⌝ }
+    ensures { λ r. ⌜ (from ≤ r) × (r ≤ length (now (s .entry)))
+        × (isUtf8From 0 (drop r (now (s .entry))) ≡ isUtf8From 0 (drop from (now (s .entry)))) ⌝ }
+{
+    let mut i = from;
+    while 32 <= s.len() - i {
+        if !is_ascii_block(s, i) {
+            return i;
+        }
+        i += 32;
+    }
+    i
+}
+
+// The place behind the sequences that begin before stop; a place before stop where no sequence stands.
+fn past_sequences(s: &[u8], from: usize, stop: usize) -> usize
+    requires { ⌜ (from ≤ stop) × (stop ≤ length (now s)) ⌝ }
+    ensures { λ r. ⌜ (r ≤ length (now (s .entry)))
+        × (isUtf8From 0 (drop r (now (s .entry))) ≡ isUtf8From 0 (drop from (now (s .entry))))
+        × (r < stop → isUtf8From 0 (drop r (now (s .entry))) ≡ false) ⌝ }
+{
+    let mut i = from;
+    while i < stop {
         if s[i] < 0x80 {
             i += 1;
         } else {
             let n = sequence_at(s, i);
             if n == 0 {
-                return false;
+                return i;
             }
             i += n;
         }
+    }
+    i
+}
+
+// Is the string UTF-8 from a place on? Blocks of ASCII first, then the block behind them, sequence by sequence.
+fn is_utf8_from(s: &[u8], start: usize) -> bool
+    requires { ⌜ start ≤ length (now s) ⌝ }
+    ensures { λ r. ⌜ r ≡ isUtf8From 0 (drop start (now (s .entry))) ⌝ }
+{
+    let mut i = start;
+    while i < s.len() {
+        let from = past_ascii(s, i);
+        let mut stop = s.len();
+        if 32 < stop - from {
+            stop = from + 32;
+        }
+        i = past_sequences(s, from, stop);
+        if i < stop {
+            return false;
+        }
+    }
+    true
+}
+
+// Is the string UTF-8? A short one that is ASCII is read here, to be quick.
+pub fn is_utf8(s: &[u8]) -> bool
+    ensures { λ r. ⌜ r ≡ isUtf8 (now (s .entry)) ⌝ }
+{
+    if 32 <= s.len() {
+        return is_utf8_from(s, 0);
+    }
+    let mut i = 0;
+    while i < s.len() {
+        if 0x80 <= s[i] {
+            return is_utf8_from(s, i);
+        }
+        i += 1;
     }
     true
 }
