@@ -403,8 +403,8 @@ fn judge_close(s: State) -> Judgement
     ensures { λ r. ⌜ ((chars : List ℕ) (at : ℕ) (ks : List ℕ) → Held (s .last) ks → Judged chars s at ks (closing) r) ⌝ }
 {
     let depth = s.depth;
-    let last = s.last;
-    if is_half_font(last) {
+    let value = s.last;
+    if is_half_font(value) {
         return Judgement::Refused(7);
     }
     if depth == 0 {
@@ -444,13 +444,13 @@ fn judge_end(characters: &[u8], s: State, at: usize) -> u32
     if 1 <= depth {
         return 4;
     }
-    if !begun {
-        return 4;
+    if begun {
+        if at < characters.len() {
+            return 8;
+        }
+        return 0;
     }
-    if at < characters.len() {
-        return 8;
-    }
-    0
+    4
 }
 
 fn onward(j: Judgement, c: Cursor) -> Turn
