@@ -410,8 +410,9 @@ fn judge_close(s: State) -> Judgement
     if depth == 0 {
         return Judgement::Refused(4);
     }
+    let left = depth - 1;
     Judgement::Passed(State {
-        depth: depth - 1,
+        depth: left,
         stage: Stage::Children,
         begun: s.begun,
         last: Last::Nothing,

@@ -7,13 +7,15 @@ use super::walk::next_attribute;
 use super::walk::next_item;
 use super::walk::next_reading;
 ghost use mathlib.Core.Path.{_≡_};
-ghost use mathlib.Core.List.{List};
+ghost use mathlib.Core.List.{List, [], _∷_};
 ghost use Prim.Native.Nat.{ℕ, _+_, _-_, _≤_};
 ghost use lib.ListN.{length};
 ghost use lib.Seq.{slice};
-ghost use Rattle.model.specs.Base.{orElse, sameBytes};
-ghost use Rattle.model.specs.Drawing.{Element, events, useHref, trefHref, attributeIn, readingsAt, readingOf, iriOf, hasId, firstWithId, textNumbered, isInStyle};
+ghost use Rattle.model.specs.Base.{orElse, sameBytes, and, among};
+ghost use Rattle.model.specs.Drawing.{Element, events, linkedBy, numberOf, leadsBack, elementsIn, useHref, trefHref, attributeIn, readingsAt, readingOf, iriOf, hasId, firstWithId, textNumbered, isInStyle};
 ghost use Rattle.model.specs.AId;
+ghost use Rattle.model.specs.EId;
+ghost use lib.Dec.{eqb};
 ghost use Rattle.script.specs.Step.{Fit, commandsAt};
 ghost use Rattle.script.specs.Walk.{eventsAt, attributesIn};
 ghost use Rattle.script.specs.Find.{valueOf, ValueFit, partOf, PartFit, nodeOf, NodeFit, sourceOf, styleLevel};
@@ -301,6 +303,99 @@ pub fn is_in_style(script: &[u8], number: usize) -> bool
             Item::Close(n) => {
                 level = closed_level(level);
                 c = n;
+            }
+            Item::End => {
+                return false;
+            }
+        }
+    }
+}
+
+// The code of the element use.
+const USE: u8 = 52;
+
+// The element that a link leads to: the first with that id.
+pub fn linked(script: &[u8], characters: &[u8], link: Part) -> Node
+    requires { ⌜ length (now script) ≤ 1048576 ⌝ }
+    requires { ⌜ PartFit link ⌝ }
+    ensures same { λ r. ⌜ nodeOf (now (script .entry)) (now (characters .entry)) r ≡ linkedBy (events (now (script .entry)) (now (characters .entry))) (partOf (now (characters .entry)) link) ⌝ }
+    ensures fit { λ r. ⌜ NodeFit (now (script .entry)) r ⌝ }
+{
+    match link {
+        Part::At(start, len) => first_with_id(script, characters, part_at(characters, start, len)),
+        Part::Nothing => Node::Nothing,
+    }
+}
+
+// The number of an element, 0 where there is none.
+fn number_of(script: &[u8], node: Node) -> usize
+    requires { ⌜ NodeFit (now script) node ⌝ }
+    ensures { λ r. ⌜ ((chars : List ℕ) → r ≡ numberOf (nodeOf (now (script .entry)) chars node)) ⌝ }
+{
+    match node {
+        Node::At(own, _, _, _) => own.number + 1,
+        Node::Nothing => 0,
+    }
+}
+
+// Is the element a use in the SVG namespace that leads to the element numbered n or m?
+fn leads_to(
+    script: &[u8],
+    characters: &[u8],
+    name: u8,
+    space: u8,
+    inside: Cursor,
+    n: usize,
+    m: usize,
+) -> bool
+    requires { ⌜ Fit (now script) inside ⌝ }
+    ensures { λ r. ⌜ ((e : Element) → e .attributes ≡ attributesIn (now (script .entry)) (now (characters .entry)) inside → e .code ≡ name → e .namespace ≡ space
+        → r ≡ and (and (eqb (e .code) EId.Use) (eqb (e .namespace) 1)) (among (numberOf (linkedBy (events (now (script .entry)) (now (characters .entry))) (useHref e))) (n ∷ m ∷ []))) ⌝ }
+{
+    if name != USE {
+        return false;
+    }
+    if space != 1 {
+        return false;
+    }
+    let k = number_of(script, linked(script, characters, use_href(script, inside)));
+    if k == n {
+        return true;
+    }
+    if k == m {
+        return true;
+    }
+    false
+}
+
+// Does a use inside the element, whose inside begins at the cursor, lead to the element numbered n or m?
+pub fn leads_back(script: &[u8], characters: &[u8], from: Cursor, n: usize, m: usize) -> bool
+    requires { ⌜ Fit (now script) from ⌝ }
+    ensures { λ r. ⌜ r ≡ leadsBack (events (now (script .entry)) (now (characters .entry))) n m (elementsIn 0 (eventsAt (now (script .entry)) (now (characters .entry)) from)) ⌝ }
+{
+    let mut c = from;
+    let mut level: usize = 0;
+    loop {
+        match next_item(script, c) {
+            Item::Begin(_, name, space, inside) => {
+                if leads_to(script, characters, name, space, inside, n, m) {
+                    return true;
+                }
+                level += 1;
+                c = inside;
+            }
+            Item::Text(_, _, next) => {
+                c = next;
+            }
+            Item::Other(next) => {
+                c = next;
+            }
+            Item::Close(next) => {
+                if level == 0 {
+                    return false;
+                }
+                level -= 1;
+                c = next;
             }
             Item::End => {
                 return false;
