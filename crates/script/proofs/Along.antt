@@ -24,57 +24,57 @@ use Rattle.script.proofs.Walks.{ItemIs, ended}
 pub item-told : (s : List ℕ) (c : Cursor) (r x : Item) → r ≡ x → ((chars : List ℕ) → eventsOf s chars r ≡ eventsAt s chars c) × (ItemFit s c r) → ItemIs s c x
 item-told s c r x e h = subst (ItemIs s c) e (record { same = h .0; fit = h .1 })
 
--- v is what g says of the whole walk.
-pub record Along {A : Type 0} (g : List ℕ → ℕ → List Event → A) (v : List ℕ → A) (s : List ℕ) (from c : Cursor) (k : ℕ) : Type 0 where
+-- v is what g says of the whole walk, for the characters that ch gives: any characters, or certain ones.
+pub record Along {I A : Type 0} (ch : I → List ℕ) (g : I → ℕ → List Event → A) (v : I → A) (s : List ℕ) (from c : Cursor) (k : ℕ) : Type 0 where
   pub fit : Fit s c
   pub before : from .at ≤ c .at
   pub low : k ≤ c .at
-  pub same : (chars : List ℕ) → g chars k (eventsAt s chars c) ≡ v chars
+  pub same : (i : I) → g i k (eventsAt s (ch i) c) ≡ v i
 
-pub along-none : {A : Type 0} (g : List ℕ → ℕ → List Event → A) (s : List ℕ) (c : Cursor) (k : ℕ) → Fit s c → k ≤ c .at
-    → Along g (λ chars. g chars k (eventsAt s chars c)) s c c k
-along-none g s c k f h = record { fit = f; before = omega arith; low = h; same = λ chars. refl }
+pub along-none : {I A : Type 0} (ch : I → List ℕ) (g : I → ℕ → List Event → A) (s : List ℕ) (c : Cursor) (k : ℕ) → Fit s c → k ≤ c .at
+    → Along ch g (λ i. g i k (eventsAt s (ch i) c)) s c c k
+along-none ch g s c k f h = record { fit = f; before = omega arith; low = h; same = λ i. refl }
 
-module _ {A : Type 0} (g : List ℕ → ℕ → List Event → A) (v : List ℕ → A) (s : List ℕ) (from c : Cursor) (k : ℕ) (w : Along g v s from c k) where
+module _ {I A : Type 0} (ch : I → List ℕ) (g : I → ℕ → List Event → A) (v : I → A) (s : List ℕ) (from c : Cursor) (k : ℕ) (w : Along ch g v s from c k) where
   pub over-begin : (o : Cursor) (a b : ℕ) (n : Cursor) (k′ : ℕ) → ItemIs s c (item.Begin o a b n) → k′ ≤ k + 1
-      → ((chars : List ℕ) → g chars k (begin (elementAt chars (markOf o) a b (commandsAt s n)) ∷ eventsAt s chars n) ≡ g chars k′ (eventsAt s chars n)) → Along g v s from n k′
+      → ((j : I) → g j k (begin (elementAt (ch j) (markOf o) a b (commandsAt s n)) ∷ eventsAt s (ch j) n) ≡ g j k′ (eventsAt s (ch j) n)) → Along ch g v s from n k′
   over-begin o a b n k′ i h e = record {
     fit = i .fit .fit;
     before = omega (arith, w .before, i .fit .further);
     low = omega (arith, w .low, i .fit .further);
-    same = λ chars. sym (e chars) ∙ ap (g chars k) (i .same chars) ∙ w .same chars;
+    same = λ j. sym (e j) ∙ ap (g j k) (i .same (ch j)) ∙ w .same j;
   }
 
   pub over-text : (o : Cursor) (l : ℕ) (n : Cursor) (k′ : ℕ) → ItemIs s c (item.Text o l n) → k′ ≤ k + 1
-      → ((chars : List ℕ) → g chars k (model.Event.text (sourceAt chars (markOf o) l) ∷ eventsAt s chars n) ≡ g chars k′ (eventsAt s chars n)) → Along g v s from n k′
+      → ((j : I) → g j k (model.Event.text (sourceAt (ch j) (markOf o) l) ∷ eventsAt s (ch j) n) ≡ g j k′ (eventsAt s (ch j) n)) → Along ch g v s from n k′
   over-text o l n k′ i h e = record {
     fit = i .fit .1 .fit;
     before = omega (arith, w .before, i .fit .1 .further);
     low = omega (arith, w .low, i .fit .1 .further);
-    same = λ chars. sym (e chars) ∙ ap (g chars k) (i .same chars) ∙ w .same chars;
+    same = λ j. sym (e j) ∙ ap (g j k) (i .same (ch j)) ∙ w .same j;
   }
 
   pub over-other : (n : Cursor) (k′ : ℕ) → ItemIs s c (item.Other n) → k′ ≤ k + 1
-      → ((chars : List ℕ) → g chars k (model.Event.other ∷ eventsAt s chars n) ≡ g chars k′ (eventsAt s chars n)) → Along g v s from n k′
+      → ((j : I) → g j k (model.Event.other ∷ eventsAt s (ch j) n) ≡ g j k′ (eventsAt s (ch j) n)) → Along ch g v s from n k′
   over-other n k′ i h e = record {
     fit = i .fit .fit;
     before = omega (arith, w .before, i .fit .further);
     low = omega (arith, w .low, i .fit .further);
-    same = λ chars. sym (e chars) ∙ ap (g chars k) (i .same chars) ∙ w .same chars;
+    same = λ j. sym (e j) ∙ ap (g j k) (i .same (ch j)) ∙ w .same j;
   }
 
   pub over-close : (n : Cursor) (k′ : ℕ) → ItemIs s c (item.Close n) → k′ ≤ k + 1
-      → ((chars : List ℕ) → g chars k (close ∷ eventsAt s chars n) ≡ g chars k′ (eventsAt s chars n)) → Along g v s from n k′
+      → ((j : I) → g j k (close ∷ eventsAt s (ch j) n) ≡ g j k′ (eventsAt s (ch j) n)) → Along ch g v s from n k′
   over-close n k′ i h e = record {
     fit = i .fit .fit;
     before = omega (arith, w .before, i .fit .further);
     low = omega (arith, w .low, i .fit .further);
-    same = λ chars. sym (e chars) ∙ ap (g chars k) (i .same chars) ∙ w .same chars;
+    same = λ j. sym (e j) ∙ ap (g j k) (i .same (ch j)) ∙ w .same j;
   }
 
   -- The walk ends at an item.
-  pub at-item : (x : Item) → ItemIs s c x → (chars : List ℕ) → g chars k (eventsOf s chars x) ≡ v chars
-  at-item x i chars = ap (g chars k) (i .same chars) ∙ w .same chars
+  pub at-item : (x : Item) → ItemIs s c x → (j : I) → g j k (eventsOf s (ch j) x) ≡ v j
+  at-item x i j = ap (g j k) (i .same (ch j)) ∙ w .same j
 
 -- LEAVE
 

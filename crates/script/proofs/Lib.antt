@@ -6,3 +6,5 @@ pub mod Parts
 pub mod Judging
 pub mod Walks
 pub mod Along
+pub mod Finding
+pub mod Search

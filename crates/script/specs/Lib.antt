@@ -2,3 +2,4 @@ pub mod Lead
 pub mod Step
 pub mod Known
 pub mod Walk
+pub mod Find

@@ -100,3 +100,7 @@ pub record TextAt (script : List ℕ) (from c n : Cursor) (k : ℕ) : Type 0 whe
 abbrev pub TextFit : List ℕ → Cursor → TextIn → Type 0
 TextFit script from (textIn.At c l n k) = TextAt script from c n k
 TextFit script from textIn.End = Unit {0}
+
+-- The attributes of the element whose inside begins at the cursor.
+abbrev pub attributesIn : List ℕ → List ℕ → Cursor → List Attribute
+attributesIn script chars c = attributesAt chars (markOf c) (commandsAt script c)

@@ -403,15 +403,16 @@ fn judge_close(s: State) -> Judgement
     ensures { λ r. ⌜ ((chars : List ℕ) (at : ℕ) (ks : List ℕ) → Held (s .last) ks → Judged chars s at ks (closing) r) ⌝ }
 {
     let depth = s.depth;
-    let last = s.last;
-    if is_half_font(last) {
+    let value = s.last;
+    if is_half_font(value) {
         return Judgement::Refused(7);
     }
     if depth == 0 {
         return Judgement::Refused(4);
     }
+    let left = depth - 1;
     Judgement::Passed(State {
-        depth: depth - 1,
+        depth: left,
         stage: Stage::Children,
         begun: s.begun,
         last: Last::Nothing,
@@ -444,13 +445,13 @@ fn judge_end(characters: &[u8], s: State, at: usize) -> u32
     if 1 <= depth {
         return 4;
     }
-    if !begun {
-        return 4;
+    if begun {
+        if at < characters.len() {
+            return 8;
+        }
+        return 0;
     }
-    if at < characters.len() {
-        return 8;
-    }
-    0
+    4
 }
 
 fn onward(j: Judgement, c: Cursor) -> Turn

@@ -1,0 +1,232 @@
+-- Searches from node to node: the first id, a text by its number, texts inside style. Assumes nothing.
+use mathlib.Core.Path.{_≡_, refl, sym, ap, _∙_, subst}
+use mathlib.Core.List.{List, [], _∷_}
+use mathlib.Core.Bool.{Bool, true, false}
+use mathlib.Core.Option.{Option, none, some}
+use Prim.Native.Nat.{ℕ, zero, suc, _+_, _-_, _<_, _≤_}
+use native.Mathlib.Numerals.{add-one}
+use native.Mathlib.Omega.{arith}
+use borrow.Author.Tests.{eq-eqb, ne-eqb, eqb-false}
+use lib.Dec.{eqb, eqb·suc-zero}
+use lib.ListN.{length, drop}
+use lib.Seq.{slice}
+use Rattle.model.specs.Base.{pick, and, among}
+use Rattle.model.specs.EId
+use Rattle.model.specs.Drawing as model
+use Rattle.model.specs.Drawing.{Mark, Command, Event, begin, close, events, eventsFrom, elementAt, sourceAt, hasId, firstWithId, textNumbered, isInStyle, partAt, useHref, linkedBy, numberOf, leadsBack, elementsIn}
+use Rattle.script.specs.declared.cursor.Cursor.{Cursor}
+use Rattle.script.specs.declared.find.Part.{Part}
+use Rattle.script.specs.declared.find.Part.the-variants as part
+use Rattle.script.specs.declared.find.Node.{Node}
+use Rattle.script.specs.declared.find.Node.the-variants as node
+use Rattle.script.specs.Step.{Fit, commandsAt, markOf}
+use Rattle.script.specs.Walk.{eventsAt}
+use Rattle.script.specs.Find.{styleLevel, partOf, PartFit, nodeOf, NodeFit}
+use Rattle.script.proofs.Along.{Along}
+
+-- A walk over the whole document.
+pub along-start : {I A : Type 0} (ch : I → List ℕ) (g : I → ℕ → List Event → A) (s : List ℕ) (c : Cursor) → length s ≤ 1048576
+    → c ≡ record { at = 0; chars = 0; number = 0; texts = 0 } → Along ch g (λ i. g i 0 (events s (ch i))) s c c 0
+unfolding events commandsAt
+along-start ch g s c h e = subst (λ c. Along ch g (λ i. g i 0 (events s (ch i))) s c c 0) (sym e) (record {
+  fit = record { size = h; at = omega arith; chars = omega arith; number = omega arith; texts = omega arith };
+  before = omega arith;
+  low = omega arith;
+  same = λ i. refl;
+})
+
+-- THE FIRST ID
+
+module _ (id : List ℕ) (xs : List Event) where
+  pub id-miss : (e : model.Element) → hasId id e ≡ false → firstWithId id (begin e ∷ xs) ≡ firstWithId id xs
+  unfolding firstWithId
+  id-miss e h = rw h
+
+  pub id-hit : (e : model.Element) → hasId id e ≡ true → firstWithId id (begin e ∷ xs) ≡ begin e ∷ xs
+  unfolding firstWithId
+  id-hit e h = rw h
+
+  pub id-text : (a : model.Source) → firstWithId id (model.Event.text a ∷ xs) ≡ firstWithId id xs
+  unfolding firstWithId
+  id-text a = refl
+
+  pub id-other : firstWithId id (model.Event.other ∷ xs) ≡ firstWithId id xs
+  unfolding firstWithId
+  id-other = refl
+
+  pub id-close : firstWithId id (close ∷ xs) ≡ firstWithId id xs
+  unfolding firstWithId
+  id-close = refl
+
+pub id-none : (id : List ℕ) → firstWithId id [] ≡ []
+unfolding firstWithId
+id-none id = refl
+
+-- A TEXT BY ITS NUMBER
+
+module _ (t : ℕ) (xs : List Event) where
+  pub numbered-begin : (e : model.Element) → textNumbered t (begin e ∷ xs) ≡ textNumbered t xs
+  unfolding textNumbered
+  numbered-begin e = refl
+
+  pub numbered-miss : (a : model.Source) → (a .number ≡ t → ⊥) → textNumbered t (model.Event.text a ∷ xs) ≡ textNumbered t xs
+  unfolding textNumbered
+  numbered-miss a h = rw (ne-eqb (a .number) t h)
+
+  pub numbered-hit : (a : model.Source) → a .number ≡ t → textNumbered t (model.Event.text a ∷ xs) ≡ some a
+  unfolding textNumbered
+  numbered-hit a h = rw (eq-eqb (a .number) t h)
+
+  pub numbered-other : textNumbered t (model.Event.other ∷ xs) ≡ textNumbered t xs
+  unfolding textNumbered
+  numbered-other = refl
+
+  pub numbered-close : textNumbered t (close ∷ xs) ≡ textNumbered t xs
+  unfolding textNumbered
+  numbered-close = refl
+
+pub numbered-none : (t : ℕ) → textNumbered t [] ≡ none
+unfolding textNumbered
+numbered-none t = refl
+
+-- TEXTS INSIDE STYLE
+
+module _ (t : ℕ) (xs : List Event) where
+  at-open : (k : ℕ) (chars : List ℕ) (m : Mark) (a b : ℕ) (cs : List Command) → isInStyle t k (begin (elementAt chars m a b cs) ∷ xs) ≡ isInStyle t (styleLevel k a) xs
+  unfolding isInStyle elementAt
+  at-open zero chars m a b cs = go (eqb a EId.Style)
+    where
+      go : (p : Bool) → pick p (λ u. isInStyle t 1 xs) (λ u. isInStyle t zero xs) ≡ isInStyle t (pick p (λ u. 1) (λ u. 0)) xs
+      go true = refl
+      go false = refl
+  at-open (suc k) chars m a b cs = rw (eqb·suc-zero k) (ap (λ n. isInStyle t n xs) (sym (add-one (suc k))))
+
+  pub style-begin : (k k′ : ℕ) (chars : List ℕ) (m : Mark) (a b : ℕ) (cs : List Command) → k′ ≡ styleLevel k a → isInStyle t k (begin (elementAt chars m a b cs) ∷ xs) ≡ isInStyle t k′ xs
+  style-begin k k′ chars m a b cs e = at-open k chars m a b cs ∙ ap (λ n. isInStyle t n xs) (sym e)
+
+  pub style-outside : (k : ℕ) (a : model.Source) → k ≡ 0 → isInStyle t k (model.Event.text a ∷ xs) ≡ isInStyle t k xs
+  unfolding isInStyle
+  style-outside k a e = rw e
+
+  pub style-miss : (k : ℕ) (a : model.Source) → (a .number ≡ t → ⊥) → isInStyle t k (model.Event.text a ∷ xs) ≡ isInStyle t k xs
+  unfolding isInStyle
+  style-miss zero a h = refl
+  style-miss (suc k) a h = rw (ne-eqb (a .number) t h)
+
+  pub style-hit : (k : ℕ) (a : model.Source) → (k ≡ 0 → ⊥) → a .number ≡ t → isInStyle t k (model.Event.text a ∷ xs) ≡ true
+  unfolding isInStyle
+  style-hit zero a h e = absurd (h refl)
+  style-hit (suc k) a h e = rw (eq-eqb (a .number) t e)
+
+  pub style-other : (k : ℕ) → isInStyle t k (model.Event.other ∷ xs) ≡ isInStyle t k xs
+  unfolding isInStyle
+  style-other zero = refl
+  style-other (suc k) = refl
+
+  at-close : (k : ℕ) → isInStyle t k (close ∷ xs) ≡ isInStyle t (k - 1) xs
+  unfolding isInStyle
+  at-close zero = refl
+  at-close (suc k) = ap (λ n. isInStyle t n xs) (let z : k ≡ suc k - 1 = omega arith in z)
+
+  pub style-close : (k k′ : ℕ) → k′ ≡ k - 1 → isInStyle t k (close ∷ xs) ≡ isInStyle t k′ xs
+  style-close k k′ e = at-close k ∙ ap (λ n. isInStyle t n xs) (sym e)
+
+pub style-none : (t k : ℕ) → isInStyle t k [] ≡ false
+unfolding isInStyle
+style-none t k = refl
+
+pub style-low : (k a : ℕ) → styleLevel k a ≤ k + 1
+style-low k a = go (eqb k 0) (eqb a EId.Style)
+  where
+    go : (p q : Bool) → pick p (λ u. pick q (λ v. 1) (λ v. 0)) (λ u. k + 1) ≤ k + 1
+    go true true = omega arith
+    go true false = omega arith
+    go false true = omega arith
+    go false false = omega arith
+
+-- WHERE A LINK LEADS
+
+module _ (chars : List ℕ) (all : List Event) (link : Part) where
+  pub linked-at : (o l : ℕ) → link ≡ part.At o l → (p : List ℕ) → p ≡ slice o (o + l) chars → (r : List Event) → r ≡ firstWithId p all → r ≡ linkedBy all (partOf chars link)
+  unfolding partAt
+  linked-at o l e p f r h = h ∙ ap (λ q. firstWithId q all) f ∙ ap (λ k. linkedBy all (partOf chars k)) (sym e)
+
+  pub linked-nowhere : link ≡ part.Nothing → [] ≡ linkedBy all (partOf chars link)
+  linked-nowhere e = ap (λ k. linkedBy all (partOf chars k)) (sym e)
+
+pub part-fit : (link : Part) (o l : ℕ) → link ≡ part.At o l → PartFit link → o ≤ 9007199254740992
+part-fit link o l e f = subst PartFit e f
+
+module _ (s : List ℕ) (v : Node) where
+  pub number-at : (o : Cursor) (a b : ℕ) (n : Cursor) → v ≡ node.At o a b n → (chars : List ℕ) → o .number + 1 ≡ numberOf (nodeOf s chars v)
+  unfolding elementAt
+  number-at o a b n e chars = ap (λ w. numberOf (nodeOf s chars w)) (sym e)
+
+  pub number-nowhere : v ≡ node.Nothing → (chars : List ℕ) → 0 ≡ numberOf (nodeOf s chars v)
+  number-nowhere e chars = ap (λ w. numberOf (nodeOf s chars w)) (sym e)
+
+  pub node-own : (o : Cursor) (a b : ℕ) (n : Cursor) → v ≡ node.At o a b n → NodeFit s v → Fit s o
+  node-own o a b n e f = subst (NodeFit s) e f .own
+
+-- Is the element a use in the SVG namespace that leads to n or m?
+abbrev pub leadsTo : List Event → ℕ → ℕ → model.Element → Bool
+leadsTo all n m e = and (and (eqb (e .code) EId.Use) (eqb (e .namespace) 1)) (among (numberOf (linkedBy all (useHref e))) (n ∷ m ∷ []))
+
+module _ (all : List Event) (n m : ℕ) (e : model.Element) (a b : ℕ) (h : e .code ≡ a) (g : e .namespace ≡ b) where
+  pub no-use : (a ≡ 52 → ⊥) → false ≡ leadsTo all n m e
+  no-use z = rw (h, ne-eqb a 52 z)
+
+  pub no-svg : a ≡ 52 → (b ≡ 1 → ⊥) → false ≡ leadsTo all n m e
+  no-svg y z = rw (h, g, eq-eqb a 52 y, ne-eqb b 1 z)
+
+  module _ (y : a ≡ 52) (z : b ≡ 1) (p : Option model.Part) (k : ℕ) (f : p ≡ useHref e) (q : k ≡ numberOf (linkedBy all p)) where
+    asked : pick (eqb k n) (λ u. true) (λ u. pick (eqb k m) (λ v. true) (λ v. false)) ≡ leadsTo all n m e
+    unfolding among useHref
+    asked = rw (h, g, eq-eqb a 52 y, eq-eqb b 1 z, ← f, ← q)
+
+    pub to-first : k ≡ n → true ≡ leadsTo all n m e
+    to-first t = sym (rw (eq-eqb k n t)) ∙ asked
+
+    pub to-second : (k ≡ n → ⊥) → k ≡ m → true ≡ leadsTo all n m e
+    to-second t w = sym (rw (ne-eqb k n t, eq-eqb k m w)) ∙ asked
+
+    pub to-neither : (k ≡ n → ⊥) → (k ≡ m → ⊥) → false ≡ leadsTo all n m e
+    to-neither t w = sym (rw (ne-eqb k n t, ne-eqb k m w)) ∙ asked
+
+pub element-code : (chars : List ℕ) (m : Mark) (a b : ℕ) (cs : List Command) → elementAt chars m a b cs .code ≡ a
+unfolding elementAt
+element-code chars m a b cs = refl
+
+pub element-space : (chars : List ℕ) (m : Mark) (a b : ℕ) (cs : List Command) → elementAt chars m a b cs .namespace ≡ b
+unfolding elementAt
+element-space chars m a b cs = refl
+
+module _ (all : List Event) (n m : ℕ) (k : ℕ) (xs : List Event) where
+  pub back-miss : (e : model.Element) → leadsTo all n m e ≡ false → leadsBack all n m (elementsIn k (begin e ∷ xs)) ≡ leadsBack all n m (elementsIn (k + 1) xs)
+  unfolding leadsBack elementsIn
+  back-miss e h = rw h (ap (λ j. leadsBack all n m (elementsIn j xs)) (sym (add-one k)))
+
+  pub back-hit : (e : model.Element) → leadsTo all n m e ≡ true → leadsBack all n m (elementsIn k (begin e ∷ xs)) ≡ true
+  unfolding leadsBack elementsIn
+  back-hit e h = rw h
+
+  pub back-text : (a : model.Source) → leadsBack all n m (elementsIn k (model.Event.text a ∷ xs)) ≡ leadsBack all n m (elementsIn k xs)
+  unfolding elementsIn
+  back-text a = refl
+
+  pub back-other : leadsBack all n m (elementsIn k (model.Event.other ∷ xs)) ≡ leadsBack all n m (elementsIn k xs)
+  unfolding elementsIn
+  back-other = refl
+
+  pub back-out : k ≡ 0 → leadsBack all n m (elementsIn k (close ∷ xs)) ≡ false
+  unfolding leadsBack elementsIn
+  back-out h = rw h
+
+pub back-close : (all : List Event) (n m k : ℕ) (xs : List Event) → (k ≡ 0 → ⊥) → leadsBack all n m (elementsIn k (close ∷ xs)) ≡ leadsBack all n m (elementsIn (k - 1) xs)
+unfolding elementsIn
+back-close all n m zero xs h = absurd (h refl)
+back-close all n m (suc k) xs h = ap (λ j. leadsBack all n m (elementsIn j xs)) (let z : k ≡ suc k - 1 = omega arith in z)
+
+pub back-end : (all : List Event) (n m k : ℕ) → leadsBack all n m (elementsIn k []) ≡ false
+unfolding leadsBack elementsIn
+back-end all n m k = refl
