@@ -1,4 +1,4 @@
-// The three tables of the tree, lent by the caller: the test that they are sound, and the questions.
+// The three tables of the tree, lent by the caller: the test that they are sound, the questions, and what a build writes.
 
 pub mod question;
 pub mod read;
