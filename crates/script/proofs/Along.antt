@@ -6,7 +6,7 @@ use Prim.Native.Nat.{ℕ, zero, suc, _+_, _-_, _<_, _≤_}
 use native.Mathlib.Numerals.{add-one, sub-one}
 use native.Mathlib.Omega.{arith}
 use Rattle.model.specs.Drawing as model
-use Rattle.model.specs.Drawing.{opening, reading, Event, begin, close, eventsFrom, elementAt, sourceAt, readingsAt, partAt, textsIn}
+use Rattle.model.specs.Drawing.{opening, reading, Event, begin, close, eventsFrom, elementAt, sourceAt, readingsAt, partAt, textsIn, childrenFrom}
 use Rattle.script.specs.declared.cursor.Cursor.{Cursor}
 use Rattle.script.specs.declared.cursor.Step.{Step}
 use Rattle.script.specs.declared.cursor.Step.the-variants as step
@@ -105,6 +105,17 @@ leave-out k xs e = rw e
 pub leave-end : (k : ℕ) → leave k [] ≡ []
 unfolding leave
 leave-end k = refl
+
+-- The children behind one that is an element are those behind its close.
+pub children-behind : (k : ℕ) (xs : List Event) → childrenFrom (suc k) xs ≡ childrenFrom 0 (leave k xs)
+unfolding childrenFrom leave
+children-behind zero [] = refl
+children-behind (suc k) [] = refl
+children-behind k (begin e ∷ xs) = children-behind (suc k) xs
+children-behind k (model.Event.text a ∷ xs) = children-behind k xs
+children-behind k (model.Event.other ∷ xs) = children-behind k xs
+children-behind zero (close ∷ xs) = refl
+children-behind (suc k) (close ∷ xs) = children-behind k xs
 
 -- TEXTS
 

@@ -1,19 +1,20 @@
 -- Searches from node to node: the first id, a text by its number, texts inside style. Assumes nothing.
 use mathlib.Core.Path.{_≡_, refl, sym, ap, _∙_, subst}
 use mathlib.Core.List.{List, [], _∷_}
-use mathlib.Core.Bool.{Bool, true, false}
+use mathlib.Core.Bool.{Bool, true, false, not}
 use mathlib.Core.Option.{Option, none, some}
 use Prim.Native.Nat.{ℕ, zero, suc, _+_, _-_, _<_, _≤_}
 use native.Mathlib.Numerals.{add-one}
 use native.Mathlib.Omega.{arith}
 use borrow.Author.Tests.{eq-eqb, ne-eqb, eqb-false}
-use lib.Dec.{eqb, eqb·suc-zero}
+use lib.Dec.{eqb, leb, eqb·suc-zero}
 use lib.ListN.{length, drop}
 use lib.Seq.{slice}
-use Rattle.model.specs.Base.{pick, and, among}
+use Rattle.model.specs.Base.{pick, and, or, among}
+use Rattle.model.specs.Names.{isElement}
 use Rattle.model.specs.EId
 use Rattle.model.specs.Drawing as model
-use Rattle.model.specs.Drawing.{Mark, Command, Event, begin, close, events, eventsFrom, elementAt, sourceAt, hasId, firstWithId, textNumbered, isInStyle, partAt, useHref, linkedBy, numberOf, leadsBack, elementsIn}
+use Rattle.model.specs.Drawing.{Mark, Command, Event, begin, close, events, eventsFrom, elementAt, sourceAt, hasId, firstWithId, textNumbered, isInStyle, partAt, useHref, linkedBy, numberOf, leadsBack, elementsIn, isSvg, copied, useTarget, trefHref, quotedFrom, quoted, textsIn}
 use Rattle.script.specs.declared.cursor.Cursor.{Cursor}
 use Rattle.script.specs.declared.find.Part.{Part}
 use Rattle.script.specs.declared.find.Part.the-variants as part
@@ -21,7 +22,7 @@ use Rattle.script.specs.declared.find.Node.{Node}
 use Rattle.script.specs.declared.find.Node.the-variants as node
 use Rattle.script.specs.Step.{Fit, commandsAt, markOf}
 use Rattle.script.specs.Walk.{eventsAt}
-use Rattle.script.specs.Find.{styleLevel, partOf, PartFit, nodeOf, NodeFit}
+use Rattle.script.specs.Find.{styleLevel, partOf, PartFit, nodeOf, NodeFit, textsOf}
 use Rattle.script.proofs.Along.{Along}
 
 -- A walk over the whole document.
@@ -230,3 +231,63 @@ back-close all n m (suc k) xs h = ap (λ j. leadsBack all n m (elementsIn j xs))
 pub back-end : (all : List Event) (n m k : ℕ) → leadsBack all n m (elementsIn k []) ≡ false
 unfolding leadsBack elementsIn
 back-end all n m k = refl
+
+-- WHAT A USE COPIES
+
+module _ (s chars : List ℕ) (e : model.Element) (number origin : ℕ) (h : e .number ≡ number) (p : Option model.Part) (f : p ≡ useHref e) (v : Node) (g : nodeOf s chars v ≡ linkedBy (events s chars) p) where
+  target : copied (events s chars) e origin (nodeOf s chars v) ≡ useTarget (events s chars) e origin
+  unfolding useTarget useHref
+  target = ap (copied (events s chars) e origin) (g ∙ ap (linkedBy (events s chars)) f)
+
+  pub copies-nothing : v ≡ node.Nothing → [] ≡ useTarget (events s chars) e origin
+  copies-nothing z = ap (λ w. copied (events s chars) e origin (nodeOf s chars w)) (sym z) ∙ target
+
+  module _ (o : Cursor) (a b : ℕ) (n : Cursor) (z : v ≡ node.At o a b n) where
+    copying : pick (and (and (and (leb b 1) (isElement a)) (not (or (eqb (o .number + 1) number) (eqb (o .number + 1) origin)))) (not (leadsBack (events s chars) number (o .number + 1) (elementsIn zero (eventsAt s chars n)))))
+        (λ u. nodeOf s chars v) (λ u. []) ≡ useTarget (events s chars) e origin
+    unfolding isSvg elementAt
+    copying = rw (z, ← h) (ap (λ w. copied (events s chars) e origin (nodeOf s chars w)) (sym z) ∙ target)
+
+    pub not-svg : and (leb b 1) (isElement a) ≡ false → [] ≡ useTarget (events s chars) e origin
+    not-svg t = sym (rw t) ∙ copying
+
+    pub itself : and (leb b 1) (isElement a) ≡ true → o .number + 1 ≡ number → [] ≡ useTarget (events s chars) e origin
+    itself t w = sym (rw (t, eq-eqb (o .number + 1) number w)) ∙ copying
+
+    pub its-origin : and (leb b 1) (isElement a) ≡ true → (o .number + 1 ≡ number → ⊥) → o .number + 1 ≡ origin → [] ≡ useTarget (events s chars) e origin
+    its-origin t w y = sym (rw (t, ne-eqb (o .number + 1) number w, eq-eqb (o .number + 1) origin y)) ∙ copying
+
+    pub leading-back : and (leb b 1) (isElement a) ≡ true → (o .number + 1 ≡ number → ⊥) → (o .number + 1 ≡ origin → ⊥)
+        → leadsBack (events s chars) number (o .number + 1) (elementsIn 0 (eventsAt s chars n)) ≡ true → [] ≡ useTarget (events s chars) e origin
+    leading-back t w y r = sym (rw (t, ne-eqb (o .number + 1) number w, ne-eqb (o .number + 1) origin y, r)) ∙ copying
+
+    pub copies : and (leb b 1) (isElement a) ≡ true → (o .number + 1 ≡ number → ⊥) → (o .number + 1 ≡ origin → ⊥)
+        → leadsBack (events s chars) number (o .number + 1) (elementsIn 0 (eventsAt s chars n)) ≡ false → nodeOf s chars (node.At o a b n) ≡ useTarget (events s chars) e origin
+    copies t w y r = ap (nodeOf s chars) (sym z) ∙ sym (rw (t, ne-eqb (o .number + 1) number w, ne-eqb (o .number + 1) origin y, r)) ∙ copying
+
+pub node-fit : (s : List ℕ) (v : Node) (o : Cursor) (a b : ℕ) (n : Cursor) → v ≡ node.At o a b n → NodeFit s v → (Fit s o) × (Fit s n)
+node-fit s v o a b n e f = (subst (NodeFit s) e f .own, subst (NodeFit s) e f .fit)
+
+pub node-stands : (s : List ℕ) (v : Node) (o : Cursor) (a b : ℕ) (n : Cursor) → v ≡ node.At o a b n → NodeFit s v → NodeFit s (node.At o a b n)
+node-stands s v o a b n e f = subst (NodeFit s) e f
+
+-- WHAT A TREF QUOTES
+
+module _ (s chars : List ℕ) (e : model.Element) (p : Option model.Part) (f : p ≡ trefHref e) (v : Node) (g : nodeOf s chars v ≡ linkedBy (events s chars) p) where
+  quoting : quotedFrom (nodeOf s chars v) ≡ quoted (events s chars) e
+  unfolding quoted trefHref
+  quoting = ap quotedFrom (g ∙ ap (linkedBy (events s chars)) f)
+
+  pub quotes-nothing : v ≡ node.Nothing → [] ≡ quoted (events s chars) e
+  quotes-nothing z = ap (λ w. quotedFrom (nodeOf s chars w)) (sym z) ∙ quoting
+
+  module _ (o : Cursor) (a b : ℕ) (n : Cursor) (z : v ≡ node.At o a b n) where
+    quotes : pick (and (leb b 1) (isElement a)) (λ u. textsIn zero (eventsAt s chars n)) (λ u. []) ≡ quoted (events s chars) e
+    unfolding isSvg elementAt
+    quotes = ap (λ w. quotedFrom (nodeOf s chars w)) (sym z) ∙ quoting
+
+    pub quotes-foreign : and (leb b 1) (isElement a) ≡ false → [] ≡ quoted (events s chars) e
+    quotes-foreign t = sym (rw t) ∙ quotes
+
+    pub quotes-texts : and (leb b 1) (isElement a) ≡ true → textsOf s chars (node.At o a b n) ≡ quoted (events s chars) e
+    quotes-texts t = sym (rw t) ∙ quotes

@@ -1,13 +1,13 @@
 -- What the searches answer, as the model has it.
 use mathlib.Core.Path.{_≡_}
-use Prim.Native.Nat.{ℕ, _+_, _≤_}
+use Prim.Native.Nat.{ℕ, zero, _+_, _≤_}
 use mathlib.Core.List.{List, [], _∷_}
 use mathlib.Core.Option.{Option, none, some}
 use lib.Dec.{eqb}
 use Rattle.model.specs.Base.{pick}
 use Rattle.model.specs.EId
 use Rattle.model.specs.Drawing as model
-use Rattle.model.specs.Drawing.{opening, Event, begin, elementAt, sourceAt, valueAt, partAt, Value, Source}
+use Rattle.model.specs.Drawing.{opening, Event, begin, elementAt, sourceAt, valueAt, partAt, Value, Source, textsIn}
 use Rattle.script.specs.declared.cursor.Cursor.{Cursor}
 use Rattle.script.specs.declared.find.Found.{Found}
 use Rattle.script.specs.declared.find.Found.the-variants as found
@@ -49,6 +49,11 @@ pub record Standing (script : List ℕ) (c : Cursor) (a b : ℕ) (n : Cursor) : 
 abbrev pub NodeFit : List ℕ → Node → Type 0
 NodeFit script (node.At c a b n) = Standing script c a b n
 NodeFit script node.Nothing = Unit {0}
+
+-- The texts inside an element, at any depth.
+abbrev pub textsOf : List ℕ → List ℕ → Node → List Source
+textsOf script chars (node.At c a b n) = textsIn zero (eventsAt script chars n)
+textsOf script chars node.Nothing = []
 
 abbrev pub sourceOf : List ℕ → Text → Option Source
 sourceOf chars (text.At c l) = some (sourceAt chars (markOf c) l)

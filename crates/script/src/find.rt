@@ -12,13 +12,14 @@ ghost use Prim.Native.Nat.{ℕ, _+_, _-_, _≤_};
 ghost use lib.ListN.{length};
 ghost use lib.Seq.{slice};
 ghost use Rattle.model.specs.Base.{orElse, sameBytes, and, among};
-ghost use Rattle.model.specs.Drawing.{Element, events, linkedBy, numberOf, leadsBack, elementsIn, useHref, trefHref, attributeIn, readingsAt, readingOf, iriOf, hasId, firstWithId, textNumbered, isInStyle};
+ghost use Rattle.model.specs.Drawing.{Element, events, linkedBy, numberOf, leadsBack, useTarget, quoted, elementsIn, useHref, trefHref, attributeIn, readingsAt, readingOf, iriOf, hasId, firstWithId, textNumbered, isInStyle};
 ghost use Rattle.model.specs.AId;
 ghost use Rattle.model.specs.EId;
-ghost use lib.Dec.{eqb};
+ghost use Rattle.model.specs.Names.{isElement};
+ghost use lib.Dec.{eqb, leb};
 ghost use Rattle.script.specs.Step.{Fit, commandsAt};
 ghost use Rattle.script.specs.Walk.{eventsAt, attributesIn};
-ghost use Rattle.script.specs.Find.{valueOf, ValueFit, partOf, PartFit, nodeOf, NodeFit, sourceOf, styleLevel};
+ghost use Rattle.script.specs.Find.{valueOf, ValueFit, partOf, PartFit, nodeOf, NodeFit, textsOf, sourceOf, styleLevel};
 
 // The codes of the names that the searches ask for.
 const HREF: u8 = 64;
@@ -401,5 +402,69 @@ pub fn leads_back(script: &[u8], characters: &[u8], from: Cursor, n: usize, m: u
                 return false;
             }
         }
+    }
+}
+
+// Does the name give an element of the tree: no namespace or SVG, and a name of the list?
+pub fn is_svg(name: u8, space: u8) -> bool
+    ensures { λ r. ⌜ r ≡ and (leb space 1) (isElement name) ⌝ }
+{
+    if 1 < space {
+        return false;
+    }
+    name <= 52
+}
+
+// The element that a use, with that number and met with that origin, copies; nothing where it copies none.
+pub fn use_target(
+    script: &[u8],
+    characters: &[u8],
+    inside: Cursor,
+    number: usize,
+    origin: usize,
+) -> Node
+    requires { ⌜ Fit (now script) inside ⌝ }
+    ensures same { λ r. ⌜ ((e : Element) → e .attributes ≡ attributesIn (now (script .entry)) (now (characters .entry)) inside → e .number ≡ number
+        → nodeOf (now (script .entry)) (now (characters .entry)) r ≡ useTarget (events (now (script .entry)) (now (characters .entry))) e origin) ⌝ }
+    ensures fit { λ r. ⌜ NodeFit (now (script .entry)) r ⌝ }
+{
+    let node = linked(script, characters, use_href(script, inside));
+    match node {
+        Node::At(own, name, space, n) => {
+            if !is_svg(name, space) {
+                return Node::Nothing;
+            }
+            let k = own.number + 1;
+            if k == number {
+                return Node::Nothing;
+            }
+            if k == origin {
+                return Node::Nothing;
+            }
+            if leads_back(script, characters, n, number, k) {
+                return Node::Nothing;
+            }
+            node
+        }
+        Node::Nothing => Node::Nothing,
+    }
+}
+
+// The element whose texts a tref quotes; nothing where it quotes none.
+pub fn quoted(script: &[u8], characters: &[u8], inside: Cursor) -> Node
+    requires { ⌜ Fit (now script) inside ⌝ }
+    ensures same { λ r. ⌜ ((e : Element) → e .attributes ≡ attributesIn (now (script .entry)) (now (characters .entry)) inside
+        → textsOf (now (script .entry)) (now (characters .entry)) r ≡ quoted (events (now (script .entry)) (now (characters .entry))) e) ⌝ }
+    ensures fit { λ r. ⌜ NodeFit (now (script .entry)) r ⌝ }
+{
+    let node = linked(script, characters, tref_href(script, inside));
+    match node {
+        Node::At(_, name, space, _) => {
+            if !is_svg(name, space) {
+                return Node::Nothing;
+            }
+            node
+        }
+        Node::Nothing => Node::Nothing,
     }
 }
