@@ -152,8 +152,8 @@ fn is_utf8_from(s: &[u8], start: usize) -> bool
     while i < s.len() {
         let from = past_ascii(s, i);
         let mut stop = s.len();
-        if 32 < stop - from {
-            stop = from + 32;
+        if 16 < stop - from {
+            stop = from + 16;
         }
         i = past_sequences(s, from, stop);
         if i < stop {
