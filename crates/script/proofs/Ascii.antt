@@ -2,7 +2,7 @@
 use mathlib.Core.Path.{_≡_, refl, sym, ap, _∙_, subst}
 use mathlib.Core.List.{List}
 use mathlib.Core.Bool.{Bool, true, false}
-use Prim.Native.Nat.{ℕ, zero, suc, _+_, _<_, _≤_}
+use Prim.Native.Nat.{ℕ, zero, suc, _+_, _-_, _<_, _≤_}
 use native.Mathlib.Omega.{arith}
 use borrow.Author.Count.{below-more}
 use borrow.Author.Tests.{eqb-true, eq-eqb}
@@ -59,6 +59,28 @@ reach-block s i zero h a = subst (λ j. Reach s i j) (let z : i ≡ i + 0 = omeg
 reach-block s i (suc n) h a =
     subst (λ j. Reach s i j) (let z : i + n + 1 ≡ i + suc n = omega arith in z)
     (reach-join s i (i + n) (i + n + 1) (reach-block s i n (omega arith) (λ k l. a k (omega arith))) (reach-ascii s (i + n) (omega arith) (a n (omega arith))))
+
+-- Near the end: at most m bytes are left.
+pub record Rest (s : List ℕ) (m a i : ℕ) : Type 0 where
+  pub begun : a ≤ i
+  pub near : length s ≤ i + m
+  pub reach : Reach s a i
+
+pub rest-stay : (s : List ℕ) (m a i : ℕ) → a ≤ length s → length s ≤ a + m → i ≡ a → Rest s m a i
+rest-stay s m a i h l e = subst (λ j. Rest s m a j) (sym e) (record { begun = omega arith; near = l; reach = reach-none s a h })
+
+pub rest-block : (s : List ℕ) (m a n i : ℕ) → a + n ≤ length s → length s ≤ a + n + m → Ascii s a n → i ≡ a + n → Rest s m a i
+rest-block s m a n i h l b e = subst (λ j. Rest s m a j) (sym e) (record { begun = omega arith; near = l; reach = reach-block s a n h b })
+
+-- The last m bytes are ASCII, of which some may be read.
+pub rest-all : (s : List ℕ) (m a i : ℕ) → Rest s m a i → m ≤ length s → Ascii s (length s - m) m → Reach s a (length s)
+rest-all s m a i r h b =
+    let w : i ≤ length s = r .reach .within in
+    let l : length s ≤ i + m = r .near in
+    reach-join s a i (length s) (r .reach)
+    (subst (λ j. Reach s i j) (let z : i + (length s - i) ≡ length s = omega arith in z)
+    (reach-block s i (length s - i) (omega arith)
+    (λ k q. subst (λ x. getD s x 0 < 0x80) (let z : length s - m + (i + k - (length s - m)) ≡ i + k = omega arith in z) (b (i + k - (length s - m)) (omega arith)))))
 
 -- COUNTING A BLOCK
 

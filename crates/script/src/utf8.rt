@@ -87,22 +87,45 @@ pub fn sequence_at(s: &[u8], i: usize) -> usize
     n
 }
 
-// Are the 32 bytes from i on all ASCII? It counts them all, with no way out before the end: the compiler makes vector
-// instructions of that.
-fn is_ascii_block(s: &[u8], i: usize) -> bool
-    requires { ⌜ i + 32 ≤ length (now s) ⌝ }
-    ensures { λ r. ⌜ (r ≡ true → (k : ℕ) → k < 32 → getD (now (s .entry)) (i + k) 0 < 0x80)
-        × (((k : ℕ) → k < 32 → getD (now (s .entry)) (i + k) 0 < 0x80) → r ≡ true) ⌝ }
+// Are so many bytes from i on all ASCII? It counts them all, with no way out before the end: the compiler makes vector
+// instructions of that where the size is known.
+fn is_ascii(s: &[u8], i: usize, size: usize) -> bool
+    requires { ⌜ i + size ≤ length (now s) ⌝ }
+    ensures { λ r. ⌜ (r ≡ true → (k : ℕ) → k < size → getD (now (s .entry)) (i + k) 0 < 0x80)
+        × (((k : ℕ) → k < size → getD (now (s .entry)) (i + k) 0 < 0x80) → r ≡ true) ⌝ }
 {
     let mut n: usize = 0;
     let mut j = 0;
-    while j < 32 {
+    while j < size {
         if s[i + j] < 0x80 {
             n += 1;
         }
         j += 1;
     }
-    n == 32
+    n == size
+}
+
+// The place behind the ASCII at the end of a string, where fewer than 32 bytes are left: a block of 16, and the last 16
+// bytes, of which some were read before.
+fn past_end(s: &[u8], from: usize) -> usize
+    requires { ⌜ (from ≤ length (now s)) × (length (now s) < from + 32) ⌝ }
+    ensures { λ r. ⌜ (from ≤ r) × (r ≤ length (now (s .entry)))
+        × (isUtf8From 0 (drop r (now (s .entry))) ≡ isUtf8From 0 (drop from (now (s .entry)))) ⌝ }
+{
+    if s.len() < 16 {
+        return from;
+    }
+    let mut i = from;
+    if 16 <= s.len() - from {
+        if !is_ascii(s, from, 16) {
+            return from;
+        }
+        i = from + 16;
+    }
+    if is_ascii(s, s.len() - 16, 16) {
+        return s.len();
+    }
+    i
 }
 
 // The place behind the blocks of ASCII that stand from a place on.
@@ -113,12 +136,12 @@ fn past_ascii(s: &[u8], from: usize) -> usize
 {
     let mut i = from;
     while 32 <= s.len() - i {
-        if !is_ascii_block(s, i) {
+        if !is_ascii(s, i, 32) {
             return i;
         }
         i += 32;
     }
-    i
+    past_end(s, i)
 }
 
 // The place behind the sequences that begin before stop; a place before stop where no sequence stands.
@@ -143,7 +166,7 @@ fn past_sequences(s: &[u8], from: usize, stop: usize) -> usize
     i
 }
 
-// Is the string UTF-8 from a place on? Blocks of ASCII first, then the block behind them, sequence by sequence.
+// Is the string UTF-8 from a place on? Blocks of ASCII, 16 bytes sequence by sequence, and so on.
 fn is_utf8_from(s: &[u8], start: usize) -> bool
     requires { ⌜ start ≤ length (now s) ⌝ }
     ensures { λ r. ⌜ r ≡ isUtf8From 0 (drop start (now (s .entry))) ⌝ }
@@ -152,8 +175,8 @@ fn is_utf8_from(s: &[u8], start: usize) -> bool
     while i < s.len() {
         let from = past_ascii(s, i);
         let mut stop = s.len();
-        if 32 < stop - from {
-            stop = from + 32;
+        if 16 < stop - from {
+            stop = from + 16;
         }
         i = past_sequences(s, from, stop);
         if i < stop {
@@ -167,7 +190,7 @@ fn is_utf8_from(s: &[u8], start: usize) -> bool
 pub fn is_utf8(s: &[u8]) -> bool
     ensures { λ r. ⌜ r ≡ isUtf8 (now (s .entry)) ⌝ }
 {
-    if 32 <= s.len() {
+    if 16 <= s.len() {
         return is_utf8_from(s, 0);
     }
     let mut i = 0;

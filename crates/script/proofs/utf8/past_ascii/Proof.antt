@@ -1,6 +1,7 @@
 use native.Mathlib.Omega.{arith}
 use borrow.Author.Needs.{needs}
 use borrow.Author.Tests.{not-false}
+use mathlib.Core.Path.{_∙_}
 use Prim.Native.Nat.{_+_, _-_, _≤_}
 use lib.ListN.{length}
 use Rattle.script.proofs.Ascii.{Reach, reach-none, reach-block, reach-join}
@@ -19,8 +20,8 @@ loop-holds c = (omega arith, reach-none _ _ (omega arith))
 sub-loop : tie.Need-sub-loop Inv-loop μ-loop
 sub-loop c = search needs
 
-is-ascii-block-requires : tie.Need-is-ascii-block-requires Inv-loop μ-loop
-is-ascii-block-requires c κs = search needs
+is-ascii-requires : tie.Need-is-ascii-requires Inv-loop μ-loop
+is-ascii-requires c κs = search needs
 
 returns : tie.Need-returns Inv-loop μ-loop
 returns c = (c .before .before .before .loop .inv .0, c .before .before .before .loop .inv .1 .within, c .before .before .before .loop .inv .1 .same)
@@ -32,10 +33,13 @@ loop-less : tie.Need-loop-less Inv-loop μ-loop
 loop-less c = search needs
 
 loop-again : tie.Need-loop-again Inv-loop μ-loop
-loop-again c = (omega arith, reach-join (c .before .before .before .before .before .args .s .now) (c .before .before .before .before .before .args .from) (c .before .before .before .loop .i) (c .before .before .before .loop .i + 32) (c .before .before .before .loop .inv .1) (reach-block (c .before .before .before .before .before .args .s .now) (c .before .before .before .loop .i) 32 (omega arith) (c .before .is-ascii-block .ensures .0 (not-false _ (c .if1 .left)))))
+loop-again c = (omega arith, reach-join (c .before .before .before .before .before .args .s .now) (c .before .before .before .before .before .args .from) (c .before .before .before .loop .i) (c .before .before .before .loop .i + 32) (c .before .before .before .loop .inv .1) (reach-block (c .before .before .before .before .before .args .s .now) (c .before .before .before .loop .i) 32 (omega arith) (c .before .is-ascii .ensures .0 (not-false _ (c .if1 .left)))))
+
+past-end-requires : tie.Need-past-end-requires Inv-loop μ-loop
+past-end-requires c κs = search needs
 
 returns-2 : tie.Need-returns-2 Inv-loop μ-loop
-returns-2 c = (c .before .loop .inv .0, c .before .loop .inv .1 .within, c .before .loop .inv .1 .same)
+returns-2 c = (omega (arith, c .past-end .ensures .0), c .past-end .ensures .1, c .past-end .ensures .2 ∙ c .before .before .loop .inv .1 .same)
 
 pub past-ascii-spec : {M : Type 1} → statement M
 past-ascii-spec =
@@ -45,9 +49,10 @@ past-ascii-spec =
     μ-loop
     loop-holds
     sub-loop
-    is-ascii-block-requires
+    is-ascii-requires
     returns
     add-i
     loop-less
     loop-again
+    past-end-requires
     returns-2)

@@ -1,17 +1,16 @@
-use mathlib.Core.Logic.{⊎-elim}
-use Rattle.script.proofs.Ascii.{Counted, counted-none, counted-more, counted-not, counted-all}
 use native.Mathlib.Omega.{arith}
 use borrow.Author.Needs.{needs}
 use Prim.Native.Nat.{_-_, _≤_}
-use Rattle.script.proofs.Ascii.{Counted, counted-none, counted-more, counted-not}
-use Rattle.script.proofs.utf8.is_ascii_block.Statement.{statement}
-use Rattle.script.proofs.utf8.is_ascii_block.Tie as tie
+use mathlib.Core.Logic.{⊎-elim}
+use Rattle.script.proofs.Ascii.{Counted, counted-none, counted-more, counted-not, counted-all}
+use Rattle.script.proofs.utf8.is_ascii.Statement.{statement}
+use Rattle.script.proofs.utf8.is_ascii.Tie as tie
 
 abbrev Inv-loop : tie.InvT-loop
-Inv-loop s i n₀ j₀ n j = (j ≤ 32) × Counted s i n j
+Inv-loop s i size n₀ j₀ n j = (j ≤ size) × Counted s i n j
 
 abbrev μ-loop : tie.MeasureT-loop
-μ-loop s i n₀ j₀ n j = 32 - j
+μ-loop s i size n₀ j₀ n j = size - j
 
 loop-holds : tie.Need-loop-holds Inv-loop μ-loop
 loop-holds c = (omega arith, counted-none _ _)
@@ -35,10 +34,10 @@ loop-again : tie.Need-loop-again Inv-loop μ-loop
 loop-again c = (omega arith, ⊎-elim (λ w. counted-more (c .before .before .before .before .args .s .now) (c .before .before .before .before .args .i) (c .before .before .before .loop .n) (c .before .before .before .loop .j) (c .if1 .n) (c .before .before .before .loop .inv .1) (w .0 .taken) (w .1)) (λ w. counted-not (c .before .before .before .before .args .s .now) (c .before .before .before .before .args .i) (c .before .before .before .loop .n) (c .before .before .before .loop .j) (c .if1 .n) (c .before .before .before .loop .inv .1) (omega (arith, w .0 .left)) (w .1)) (c .if1 .came))
 
 returns : tie.Need-returns Inv-loop μ-loop
-returns c = counted-all (c .before .before .args .s .now) (c .before .before .args .i) (c .before .loop .n) (c .before .loop .j) 32 (c .before .loop .inv .1) (omega arith)
+returns c = counted-all (c .before .before .args .s .now) (c .before .before .args .i) (c .before .loop .n) (c .before .loop .j) (c .before .before .args .size) (c .before .loop .inv .1) (omega arith)
 
-pub is-ascii-block-spec : {M : Type 1} → statement M
-is-ascii-block-spec =
+pub is-ascii-spec : {M : Type 1} → statement M
+is-ascii-spec =
     tie.close
     (tie.spec
     Inv-loop
