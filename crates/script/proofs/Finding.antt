@@ -1,19 +1,18 @@
 -- Searches: parts of the characters, attributes by name, readings by kind. Assumes nothing.
 use mathlib.Core.Path.{_≡_, refl, sym, ap, _∙_, subst}
-use mathlib.Core.List.{List, [], _∷_}
-use mathlib.Core.Bool.{Bool, true, false}
-use mathlib.Core.Option.{Option, none, some}
-use Prim.Native.Nat.{ℕ, zero, suc, _+_, _-_, _<_, _≤_}
-use native.Mathlib.Numerals.{add-one}
+use mathlib.Core.List.{List, []}
+use mathlib.Core.Bool.{Bool, false}
+use mathlib.Core.Option.{Option, some}
+use Prim.Native.Nat.{ℕ, _+_, _-_, _<_, _≤_}
 use native.Mathlib.Omega.{arith}
 use borrow.Author.Tests.{eq-eqb, ne-eqb}
 use lib.Dec.{eqb}
-use lib.ListN.{length, getD, take, drop, length-take, length-drop, drop-of-length-le}
-use lib.Seq.{slice, drop-cons, take-all}
+use lib.ListN.{length, take, drop, length-take, length-drop, drop-of-length-le}
+use lib.Seq.{slice, take-all}
 use Rattle.model.specs.Base.{pick, and, given, orElse, sameBytes}
 use Rattle.model.specs.AId
 use Rattle.model.specs.Drawing as model
-use Rattle.model.specs.Drawing.{opening, Mark, Command, Event, begin, events, elementAt, valueAt, attributesAt, attributeIn, readingsAt, readingOf, iriOf, useHref, trefHref, hasId}
+use Rattle.model.specs.Drawing.{opening, elementAt, valueAt, attributesAt, attributeIn, readingsAt, readingOf, iriOf, useHref, trefHref, hasId}
 use Rattle.script.specs.declared.cursor.Cursor.{Cursor}
 use Rattle.script.specs.declared.walk.Attr.{Attr}
 use Rattle.script.specs.declared.walk.Attr.the-variants as attr
@@ -24,8 +23,8 @@ use Rattle.script.specs.declared.find.Found.the-variants as found
 use Rattle.script.specs.declared.find.Part.{Part}
 use Rattle.script.specs.declared.find.Part.the-variants as part
 use Rattle.script.specs.Step.{Fit, commandsAt, markOf, moved}
-use Rattle.script.specs.Walk.{eventsAt, attributesIn, attributesOf, AttrFit, readingsOf, ReadFit}
-use Rattle.script.specs.Find.{valueOf, ValueFit, partOf, PartFit}
+use Rattle.script.specs.Walk.{attributesIn, attributesOf, AttrFit, readingsOf, ReadFit}
+use Rattle.script.specs.Find.{valueOf, ValueFit, partOf}
 use Rattle.script.proofs.Parts.{part-is}
 use Rattle.script.proofs.Walks.{AttrIs}
 
@@ -42,43 +41,6 @@ module _ (l : List ℕ) (a n : ℕ) where
 
   pub part-whole : (e : ℕ) → e ≡ a + n → take (e - a) (drop a l) ≡ slice a (a + n) l
   part-whole e h = ap (λ m. take m (drop a l)) (let z : e - a ≡ n = omega arith in z) ∙ part-is a n l
-
--- TWO STRINGS
-
-pub differ : (a b : List ℕ) → (length a ≡ length b → ⊥) → false ≡ sameBytes a b
-unfolding sameBytes
-differ [] [] h = absurd (h refl)
-differ [] (y ∷ b) h = refl
-differ (x ∷ a) [] h = refl
-differ (x ∷ a) (y ∷ b) h = go (eqb x y) (differ a b (λ e. h (ap suc e)))
-  where
-    go : (t : Bool) → false ≡ sameBytes a b → false ≡ pick t (λ u. sameBytes a b) (λ u. false)
-    go true e = e
-    go false e = refl
-
--- From i on the strings are the same just if the whole ones are.
-pub record Alike (a b : List ℕ) (i : ℕ) : Type 0 where
-  pub size : length a ≡ length b
-  pub within : i ≤ length a
-  pub same : sameBytes (drop i a) (drop i b) ≡ sameBytes a b
-
-pub alike-none : (a b : List ℕ) → length a ≡ length b → Alike a b 0
-alike-none a b h = record { size = h; within = omega arith; same = refl }
-
-module _ (a b : List ℕ) (i : ℕ) (s : Alike a b i) where
-  split : i < length a → sameBytes a b ≡ pick (eqb (getD a i 0) (getD b i 0)) (λ u. sameBytes (drop (suc i) a) (drop (suc i) b)) (λ u. false)
-  unfolding sameBytes
-  split h = sym (s .same) ∙ rw (drop-cons a i 0 h, drop-cons b i 0 (omega (arith, s .size)))
-
-  pub alike-on : i < length a → getD a i 0 ≡ getD b i 0 → Alike a b (i + 1)
-  alike-on h e = record { size = s .size; within = omega arith; same = sym (split h ∙ rw (eq-eqb (getD a i 0) (getD b i 0) e, add-one)) }
-
-  pub unlike : i < length a → (getD a i 0 ≡ getD b i 0 → ⊥) → false ≡ sameBytes a b
-  unlike h e = sym (split h ∙ rw (ne-eqb (getD a i 0) (getD b i 0) e))
-
-  pub alike-all : length a ≤ i → true ≡ sameBytes a b
-  unfolding sameBytes
-  alike-all h = sym (sym (s .same) ∙ rw (drop-of-length-le a h, drop-of-length-le b (let z : length b ≤ i = omega (arith, s .size) in z)))
 
 -- ATTRIBUTES BY NAME
 

@@ -6,12 +6,13 @@ use super::walk::Read;
 use super::walk::next_attribute;
 use super::walk::next_item;
 use super::walk::next_reading;
+use names::same;
 ghost use mathlib.Core.Path.{_≡_};
 ghost use mathlib.Core.List.{List, [], _∷_};
 ghost use Prim.Native.Nat.{ℕ, _+_, _-_, _≤_};
 ghost use lib.ListN.{length};
 ghost use lib.Seq.{slice};
-ghost use Rattle.model.specs.Base.{orElse, sameBytes, and, among};
+ghost use Rattle.model.specs.Base.{orElse, and, among};
 ghost use Rattle.model.specs.Drawing.{Element, events, linkedBy, numberOf, leadsBack, useTarget, quoted, elementsIn, useHref, trefHref, attributeIn, readingsAt, readingOf, iriOf, hasId, firstWithId, textNumbered, isInStyle};
 ghost use Rattle.model.specs.AId;
 ghost use Rattle.model.specs.EId;
@@ -66,23 +67,6 @@ pub fn part_at(characters: &[u8], start: usize, len: u32) -> &[u8]
         return &characters[start..size];
     }
     &characters[start..end]
-}
-
-// Are two strings the same?
-pub fn same(a: &[u8], b: &[u8]) -> bool
-    ensures { λ r. ⌜ r ≡ sameBytes (now (a .entry)) (now (b .entry)) ⌝ }
-{
-    if a.len() != b.len() {
-        return false;
-    }
-    let mut i = 0;
-    while i < a.len() {
-        if a[i] != b[i] {
-            return false;
-        }
-        i += 1;
-    }
-    true
 }
 
 // The first attribute of an element with that name in that namespace, from inside it.
