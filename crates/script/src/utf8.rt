@@ -144,6 +144,22 @@ fn past_ascii(s: &[u8], from: usize) -> usize
     past_end(s, i)
 }
 
+// The place behind the bytes of ASCII from a place on, at most stop.
+fn past_bytes(s: &[u8], from: usize, stop: usize) -> usize
+    requires { ⌜ (from ≤ stop) × (stop ≤ length (now s)) ⌝ }
+    ensures { λ r. ⌜ (from ≤ r) × (r ≤ stop)
+        × (isUtf8From 0 (drop r (now (s .entry))) ≡ isUtf8From 0 (drop from (now (s .entry)))) ⌝ }
+{
+    let mut i = from;
+    while i < stop {
+        if 0x80 <= s[i] {
+            return i;
+        }
+        i += 1;
+    }
+    i
+}
+
 // The place behind the sequences that begin before stop; a place before stop where no sequence stands.
 fn past_sequences(s: &[u8], from: usize, stop: usize) -> usize
     requires { ⌜ (from ≤ stop) × (stop ≤ length (now s)) ⌝ }
@@ -153,15 +169,15 @@ fn past_sequences(s: &[u8], from: usize, stop: usize) -> usize
 {
     let mut i = from;
     while i < stop {
-        if s[i] < 0x80 {
-            i += 1;
-        } else {
-            let n = sequence_at(s, i);
-            if n == 0 {
-                return i;
-            }
-            i += n;
+        let at = past_bytes(s, i, stop);
+        if stop <= at {
+            return at;
         }
+        let n = sequence_at(s, at);
+        if n == 0 {
+            return at;
+        }
+        i = at + n;
     }
     i
 }
@@ -186,19 +202,16 @@ fn is_utf8_from(s: &[u8], start: usize) -> bool
     true
 }
 
-// Is the string UTF-8? A short one that is ASCII is read here, to be quick.
+// Is the string UTF-8? A short one is read here as far as it is ASCII, to be quick.
 pub fn is_utf8(s: &[u8]) -> bool
     ensures { λ r. ⌜ r ≡ isUtf8 (now (s .entry)) ⌝ }
 {
     if 16 <= s.len() {
         return is_utf8_from(s, 0);
     }
-    let mut i = 0;
-    while i < s.len() {
-        if 0x80 <= s[i] {
-            return is_utf8_from(s, i);
-        }
-        i += 1;
+    let i = past_bytes(s, 0, s.len());
+    if i < s.len() {
+        return is_utf8_from(s, i);
     }
     true
 }

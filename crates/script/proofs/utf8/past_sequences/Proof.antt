@@ -1,8 +1,9 @@
 use native.Mathlib.Omega.{arith}
 use borrow.Author.Needs.{needs}
+use mathlib.Core.Path.{_∙_}
 use Prim.Native.Nat.{_+_, _-_, _≤_}
 use lib.ListN.{length}
-use Rattle.script.proofs.Ascii.{Reach, reach-none, reach-on, reach-ascii, reach-bad, reach-join}
+use Rattle.script.proofs.Ascii.{Reach, reach-none, reach-on, reach-bad, reach-join}
 use Rattle.script.proofs.utf8.past_sequences.Statement.{statement}
 use Rattle.script.proofs.utf8.past_sequences.Tie as tie
 
@@ -15,35 +16,29 @@ abbrev μ-loop : tie.MeasureT-loop
 loop-holds : tie.Need-loop-holds Inv-loop μ-loop
 loop-holds c = reach-none _ _ (omega arith)
 
-shared-slice-read-if1 : tie.Need-shared-slice-read-if1 Inv-loop μ-loop
-shared-slice-read-if1 c = search needs
+past-bytes-requires : tie.Need-past-bytes-requires Inv-loop μ-loop
+past-bytes-requires c κs = search needs
 
-add-i : tie.Need-add-i Inv-loop μ-loop
-add-i c = search needs
-
-loop-less : tie.Need-loop-less Inv-loop μ-loop
-loop-less c = search needs
-
-loop-again : tie.Need-loop-again Inv-loop μ-loop
-loop-again c = reach-join (c .before .before .before .before .before .args .s .now) (c .before .before .before .before .before .args .from) (c .before .before .before .loop .i) (c .before .before .before .loop .i + 1) (c .before .before .before .loop .inv) (reach-ascii (c .before .before .before .before .before .args .s .now) (c .before .before .before .loop .i) (omega arith) (c .if1 .taken))
+returns : tie.Need-returns Inv-loop μ-loop
+returns c = (omega (arith, c .before .past-bytes .ensures .1), c .before .past-bytes .ensures .2 ∙ c .before .before .before .loop .inv .same, λ l. absurd (omega arith))
 
 sequence-at-requires : tie.Need-sequence-at-requires Inv-loop μ-loop
 sequence-at-requires c κs = search needs
 
-returns : tie.Need-returns Inv-loop μ-loop
-returns c = (c .before .before .before .before .before .loop .inv .within, c .before .before .before .before .before .loop .inv .same, λ l. reach-bad (c .before .before .before .before .before .before .before .args .s .now) (c .before .before .before .before .before .loop .i) (omega arith) (c .before .sequence-at .result) (c .before .sequence-at .ensures) (c .if2 .taken))
-
-add-i-2 : tie.Need-add-i-2 Inv-loop μ-loop
-add-i-2 c = omega (arith, (reach-join (c .before .before .before .before .before .before .before .args .s .now) (c .before .before .before .before .before .before .before .args .from) (c .before .before .before .before .before .loop .i) (c .before .before .before .before .before .loop .i + c .before .sequence-at .result) (c .before .before .before .before .before .loop .inv) (reach-on (c .before .before .before .before .before .before .before .args .s .now) (c .before .before .before .before .before .loop .i) (omega arith) (c .before .sequence-at .result) (c .before .sequence-at .ensures) (c .if2 .left))) .within)
-
-loop-less-2 : tie.Need-loop-less-2 Inv-loop μ-loop
-loop-less-2 c = omega (arith, (reach-join (c .before .before .before .before .before .before .before .args .s .now) (c .before .before .before .before .before .before .before .args .from) (c .before .before .before .before .before .loop .i) (c .before .before .before .before .before .loop .i + c .before .sequence-at .result) (c .before .before .before .before .before .loop .inv) (reach-on (c .before .before .before .before .before .before .before .args .s .now) (c .before .before .before .before .before .loop .i) (omega arith) (c .before .sequence-at .result) (c .before .sequence-at .ensures) (c .if2 .left))) .within)
-
-loop-again-2 : tie.Need-loop-again-2 Inv-loop μ-loop
-loop-again-2 c = (reach-join (c .before .before .before .before .before .before .before .args .s .now) (c .before .before .before .before .before .before .before .args .from) (c .before .before .before .before .before .loop .i) (c .before .before .before .before .before .loop .i + c .before .sequence-at .result) (c .before .before .before .before .before .loop .inv) (reach-on (c .before .before .before .before .before .before .before .args .s .now) (c .before .before .before .before .before .loop .i) (omega arith) (c .before .sequence-at .result) (c .before .sequence-at .ensures) (c .if2 .left)))
-
 returns-2 : tie.Need-returns-2 Inv-loop μ-loop
-returns-2 c = (c .before .loop .inv .within, c .before .loop .inv .same, λ l. absurd (omega arith))
+returns-2 c = (omega (arith, c .before .before .before .past-bytes .ensures .1), c .before .before .before .past-bytes .ensures .2 ∙ c .before .before .before .before .before .loop .inv .same, λ l. reach-bad (c .before .before .before .before .before .before .before .args .s .now) (c .before .before .before .past-bytes .result) (omega arith) (c .before .sequence-at .result) (c .before .sequence-at .ensures) (c .if2 .taken))
+
+add-i : tie.Need-add-i Inv-loop μ-loop
+add-i c = omega (arith, (reach-join (c .before .before .before .before .before .before .before .args .s .now) (c .before .before .before .before .before .before .before .args .from) (c .before .before .before .past-bytes .result) (c .before .before .before .past-bytes .result + c .before .sequence-at .result) (record { within = omega (arith, c .before .before .before .past-bytes .ensures .1); same = c .before .before .before .past-bytes .ensures .2 ∙ c .before .before .before .before .before .loop .inv .same }) (reach-on (c .before .before .before .before .before .before .before .args .s .now) (c .before .before .before .past-bytes .result) (omega arith) (c .before .sequence-at .result) (c .before .sequence-at .ensures) (c .if2 .left))) .within)
+
+loop-less : tie.Need-loop-less Inv-loop μ-loop
+loop-less c = omega (arith, (reach-join (c .before .before .before .before .before .before .before .args .s .now) (c .before .before .before .before .before .before .before .args .from) (c .before .before .before .past-bytes .result) (c .before .before .before .past-bytes .result + c .before .sequence-at .result) (record { within = omega (arith, c .before .before .before .past-bytes .ensures .1); same = c .before .before .before .past-bytes .ensures .2 ∙ c .before .before .before .before .before .loop .inv .same }) (reach-on (c .before .before .before .before .before .before .before .args .s .now) (c .before .before .before .past-bytes .result) (omega arith) (c .before .sequence-at .result) (c .before .sequence-at .ensures) (c .if2 .left))) .within, c .before .before .before .past-bytes .ensures .0)
+
+loop-again : tie.Need-loop-again Inv-loop μ-loop
+loop-again c = (reach-join (c .before .before .before .before .before .before .before .args .s .now) (c .before .before .before .before .before .before .before .args .from) (c .before .before .before .past-bytes .result) (c .before .before .before .past-bytes .result + c .before .sequence-at .result) (record { within = omega (arith, c .before .before .before .past-bytes .ensures .1); same = c .before .before .before .past-bytes .ensures .2 ∙ c .before .before .before .before .before .loop .inv .same }) (reach-on (c .before .before .before .before .before .before .before .args .s .now) (c .before .before .before .past-bytes .result) (omega arith) (c .before .sequence-at .result) (c .before .sequence-at .ensures) (c .if2 .left)))
+
+returns-3 : tie.Need-returns-3 Inv-loop μ-loop
+returns-3 c = (c .before .loop .inv .within, c .before .loop .inv .same, λ l. absurd (omega arith))
 
 pub past-sequences-spec : {M : Type 1} → statement M
 past-sequences-spec =
@@ -52,13 +47,11 @@ past-sequences-spec =
     Inv-loop
     μ-loop
     loop-holds
-    shared-slice-read-if1
+    past-bytes-requires
+    returns
+    sequence-at-requires
+    returns-2
     add-i
     loop-less
     loop-again
-    sequence-at-requires
-    returns
-    add-i-2
-    loop-less-2
-    loop-again-2
-    returns-2)
+    returns-3)
