@@ -2,10 +2,11 @@
 use mathlib.Core.Path.{_≡_, refl, sym, ap, ap₂, _∙_, subst}
 use mathlib.Core.List.{List, [], _∷_, map}
 use mathlib.Core.Bool.{Bool, true, false}
+use mathlib.Core.Logic.{⊎-elim, inl, inr, _⊎_}
 use Prim.Native.Nat.{ℕ, zero, suc, _+_, _-_, _<_, _≤_}
 use native.Mathlib.Omega.{arith}
 use native.Mathlib.Numerals.{add-one}
-use borrow.Author.Tests.{eqb-true, eqb-false, leb-true, ne-eqb, lt-ltb, le-ltb, le-leb, lt-leb}
+use borrow.Author.Tests.{eqb-true, eqb-false, leb-true, ltb-true, ltb-false, ne-eqb, eq-eqb, lt-ltb, le-ltb}
 use lib.Dec.{eqb, leb, ltb}
 use lib.Count.{leadingZeros}
 use lib.ListN.{length, getD, take, drop, length-drop, drop-of-length-le}
@@ -131,8 +132,25 @@ right b = sameRows (behind b rows) (following (lengthOf b) b)
 sized : ℕ → Bool
 sized b = leb (lengthOf b) 4
 
+-- The length of a sequence by the leading ones of its first byte, where that is not ASCII.
+byOnes : ℕ → ℕ → ℕ
+byOnes n b =
+    pick (eqb n 2) (λ u. pick (ltb b 0xC2) (λ v. 0) (λ v. 2))
+    (λ u. pick (eqb n 3) (λ v. 3)
+    (λ v. pick (eqb n 4) (λ w. pick (ltb 0xF4 b) (λ x. 0) (λ x. 4)) (λ w. 0)))
+
 ones-right : ℕ → Bool
-ones-right b = or (ltb b 0xC2) (or (ltb 0xF4 b) (eqb (leadingZeros 8 (255 - b)) (lengthOf b)))
+ones-right b = or (ltb b 0x80) (eqb (lengthOf b) (byOnes (leadingZeros 8 (255 - b)) b))
+
+-- The range of the second byte by the length.
+secondIn : ℕ → ℕ → Range
+secondIn n b =
+    pick (eqb n 3) (λ u. pick (eqb b 0xE0) (λ v. 0xA0 to 0xBF) (λ v. pick (eqb b 0xED) (λ w. 0x80 to 0x9F) (λ w. 0x80 to 0xBF)))
+    (λ u. pick (eqb n 4) (λ v. pick (eqb b 0xF0) (λ w. 0x90 to 0xBF) (λ w. pick (eqb b 0xF4) (λ x. 0x80 to 0x8F) (λ x. 0x80 to 0xBF)))
+    (λ v. 0x80 to 0xBF))
+
+second-right : ℕ → Bool
+second-right b = or (eqb (lengthOf b) 0) (sameRange (secondOf b) (secondIn (lengthOf b) b))
 
 all-right : allBelow 256 right ≡ true
 unfolding right sameRows sameRow sameRange lengthOf secondOf restOf
@@ -143,8 +161,12 @@ unfolding sized lengthOf
 all-sized = refl
 
 all-ones : allBelow 256 ones-right ≡ true
-unfolding ones-right leadingZeros lengthOf
+unfolding ones-right byOnes leadingZeros lengthOf
 all-ones = refl
+
+all-seconds : allBelow 256 second-right ≡ true
+unfolding second-right sameRange secondIn lengthOf secondOf
+all-seconds = refl
 
 -- THE SEQUENCE AT A PLACE
 
@@ -167,10 +189,94 @@ length-most : (b : ℕ) → b < 256 → lengthOf b ≤ 4
 unfolding sized
 length-most b h = leb-true (lengthOf b) 4 (below 256 sized all-sized b h)
 
--- The leading ones of a first byte are the length.
-pub ones-are : (b : ℕ) → b < 256 → 0xC2 ≤ b → b ≤ 0xF4 → leadingZeros 8 (255 - b) ≡ lengthOf b
-unfolding ones-right
-ones-are b h l m = eqb-true (leadingZeros 8 (255 - b)) (lengthOf b) (sym (simp (le-ltb b 0xC2 l, le-ltb 0xF4 b m)) ∙ below 256 ones-right all-ones b h)
+-- What the leading ones of a byte say of the length, where it is not ASCII.
+module _ (b : ℕ) (h : b < 256) (l : 0x80 ≤ b) where
+  by-ones : lengthOf b ≡ byOnes (leadingZeros 8 (255 - b)) b
+  unfolding ones-right
+  by-ones = eqb-true (lengthOf b) (byOnes (leadingZeros 8 (255 - b)) b) (sym (simp (le-ltb b 0x80 l)) ∙ below 256 ones-right all-ones b h)
+
+  pub ones-two : leadingZeros 8 (255 - b) ≡ 2 → 0xC2 ≤ b → lengthOf b ≡ 2
+  unfolding byOnes
+  ones-two e m = by-ones ∙ rw (e, le-ltb b 0xC2 m)
+
+  pub ones-two-none : leadingZeros 8 (255 - b) ≡ 2 → b < 0xC2 → lengthOf b ≡ 0
+  unfolding byOnes
+  ones-two-none e m = by-ones ∙ rw (e, lt-ltb b 0xC2 m)
+
+  pub ones-three : leadingZeros 8 (255 - b) ≡ 3 → lengthOf b ≡ 3
+  unfolding byOnes
+  ones-three e = by-ones ∙ rw e
+
+  pub ones-four : leadingZeros 8 (255 - b) ≡ 4 → b ≤ 0xF4 → lengthOf b ≡ 4
+  unfolding byOnes
+  ones-four e m = by-ones ∙ rw (e, le-ltb 0xF4 b m)
+
+  pub ones-four-none : leadingZeros 8 (255 - b) ≡ 4 → 0xF4 < b → lengthOf b ≡ 0
+  unfolding byOnes
+  ones-four-none e m = by-ones ∙ rw (e, lt-ltb 0xF4 b m)
+
+  pub ones-none : (leadingZeros 8 (255 - b) ≡ 2 → ⊥) → (leadingZeros 8 (255 - b) ≡ 3 → ⊥) → (leadingZeros 8 (255 - b) ≡ 4 → ⊥) → lengthOf b ≡ 0
+  unfolding byOnes
+  ones-none x y z = by-ones ∙ rw (ne-eqb (leadingZeros 8 (255 - b)) 2 x, ne-eqb (leadingZeros 8 (255 - b)) 3 y, ne-eqb (leadingZeros 8 (255 - b)) 4 z)
+
+  -- Not two: none, three or four.
+  ones-others : (leadingZeros 8 (255 - b) ≡ 2 → ⊥) → lengthOf b ≡ 0 ⊎ 3 ≤ lengthOf b
+  unfolding byOnes
+  ones-others x = go (eqb (leadingZeros 8 (255 - b)) 3) (eqb (leadingZeros 8 (255 - b)) 4) (ltb 0xF4 b) (by-ones ∙ rw (ne-eqb (leadingZeros 8 (255 - b)) 2 x))
+    where
+      go : (t u w : Bool) → lengthOf b ≡ pick t (λ a. 3) (λ a. pick u (λ c. pick w (λ d. 0) (λ d. 4)) (λ c. 0)) → lengthOf b ≡ 0 ⊎ 3 ≤ lengthOf b
+      go true u w e = inr (omega (arith, e))
+      go false true true e = inl e
+      go false true false e = inr (omega (arith, e))
+      go false false w e = inl e
+
+pub ascii-length : (b : ℕ) → b < 0x80 → lengthOf b ≡ 1
+unfolding lengthOf
+ascii-length b h = rw (lt-ltb b 0x80 h)
+
+-- A first byte is a byte.
+pub first-most : (b n : ℕ) → lengthOf b ≡ suc n → b < 256
+unfolding lengthOf
+first-most b n e = go (ltb 0xF4 b) refl
+  where
+    go : (t : Bool) → ltb 0xF4 b ≡ t → b < 256
+    go true f = absurd (let m : 0xF4 < b = ltb-true 0xF4 b f in let z : 0 ≡ suc n = sym (rw (le-ltb b 0x80 (omega arith), le-ltb b 0xC2 (omega arith), f)) ∙ e in omega arith)
+    go false f = let m : b ≤ 0xF4 = ltb-false 0xF4 b f in omega arith
+
+-- The range of the second byte, by the length.
+second-is : (b n : ℕ) → lengthOf b ≡ suc n → secondOf b ≡ secondIn (suc n) b
+unfolding second-right
+second-is b n e = range-is (secondOf b) (secondIn (suc n) b) (sym (rw (e, ne-eqb (suc n) 0 (λ z. omega arith))) ∙ below 256 second-right all-seconds b (first-most b n e))
+
+pub second-of-two : (b : ℕ) → lengthOf b ≡ 2 → secondOf b ≡ 0x80 to 0xBF
+unfolding secondIn
+second-of-two b e = second-is b 1 e
+
+module _ (b : ℕ) (e : lengthOf b ≡ 3) where
+  pub three-low : b ≡ 0xE0 → secondOf b ≡ 0xA0 to 0xBF
+  unfolding secondIn
+  three-low x = second-is b 2 e ∙ rw (eq-eqb b 0xE0 x)
+
+  pub three-high : b ≡ 0xED → secondOf b ≡ 0x80 to 0x9F
+  unfolding secondIn
+  three-high x = second-is b 2 e ∙ rw x
+
+  pub three-wide : (b ≡ 0xE0 → ⊥) → (b ≡ 0xED → ⊥) → secondOf b ≡ 0x80 to 0xBF
+  unfolding secondIn
+  three-wide x y = second-is b 2 e ∙ rw (ne-eqb b 0xE0 x, ne-eqb b 0xED y)
+
+module _ (b : ℕ) (e : lengthOf b ≡ 4) where
+  pub four-low : b ≡ 0xF0 → secondOf b ≡ 0x90 to 0xBF
+  unfolding secondIn
+  four-low x = second-is b 3 e ∙ rw (eq-eqb b 0xF0 x)
+
+  pub four-high : b ≡ 0xF4 → secondOf b ≡ 0x80 to 0x8F
+  unfolding secondIn
+  four-high x = second-is b 3 e ∙ rw x
+
+  pub four-wide : (b ≡ 0xF0 → ⊥) → (b ≡ 0xF4 → ⊥) → secondOf b ≡ 0x80 to 0xBF
+  unfolding secondIn
+  four-wide x y = second-is b 3 e ∙ rw (ne-eqb b 0xF0 x, ne-eqb b 0xF4 y)
 
 -- How far a sequence of n bytes is read: v is the sequence if the bytes from j on fit what is left of the ranges.
 abbrev Stage : ℕ → ℕ → ℕ → List Range → List ℕ → ℕ → Type 0
@@ -185,21 +291,13 @@ module _ (v n k : ℕ) (q : Range) (rs : List Range) (s : List ℕ) (j : ℕ) (s
   opened : v ≡ pick (begins (q ∷ take (n - (k + 1)) rs) (drop j s)) (λ u. n) (λ u. 0)
   opened = st ∙ ap (λ m. pick (begins (take m (q ∷ rs)) (drop j s)) (λ u. n) (λ u. 0)) (let z : n - k ≡ suc (n - (k + 1)) = omega arith in z)
 
-  good : j < length s → q .first ≤ getD s j 0 → getD s j 0 ≤ q .last → Stage v n (k + 1) rs s (j + 1)
+  good : j < length s → isWithin (getD s j 0) q ≡ true → Stage v n (k + 1) rs s (j + 1)
   unfolding begins
-  good h a b = opened ∙ rw (drop-cons s j 0 h, le-leb (q .first) (getD s j 0) a, le-leb (getD s j 0) (q .last) b, add-one j)
+  good h a = opened ∙ rw (drop-cons s j 0 h, a, add-one j)
 
-  low : getD s j 0 < q .first → j < length s → 0 ≡ v
+  bad : j < length s → isWithin (getD s j 0) q ≡ false → 0 ≡ v
   unfolding begins
-  low a h = sym (opened ∙ rw (drop-cons s j 0 h, lt-leb (q .first) (getD s j 0) a))
-
-  high : q .last < getD s j 0 → j < length s → 0 ≡ v
-  unfolding begins
-  high a h = sym (opened ∙ rw (drop-cons s j 0 h) (go (leb (q .first) (getD s j 0))))
-    where
-      go : (t : Bool) → pick (pick (and t (leb (getD s j 0) (q .last))) (λ u. begins (take (n - (k + 1)) rs) (drop (suc j) s)) (λ u. false)) (λ u. n) (λ u. 0) ≡ 0
-      go true = rw (lt-leb (getD s j 0) (q .last) a)
-      go false = refl
+  bad h a = sym (opened ∙ rw (drop-cons s j 0 h, a))
 
 last-stage : (v n k : ℕ) (rs : List Range) (s : List ℕ) (j : ℕ) → Stage v n k rs s j → n ≤ k → n ≡ v
 unfolding begins
@@ -237,20 +335,17 @@ module _ (s : List ℕ) (i n : ℕ) (h : i < length s) (f : getD s i 0 < 256) (e
   pub record Second : Type 0 where
     pub room : i + n ≤ length s
     pub size : 2 ≤ n
-    pub least : secondOf (getD s i 0) .first ≤ getD s (i + 1) 0
-    pub most : getD s (i + 1) 0 ≤ secondOf (getD s i 0) .last
+    pub fits : isWithin (getD s (i + 1) 0) (secondOf (getD s i 0)) ≡ true
 
   pub record Third : Type 0 where
     pub second : Second
     pub size : 3 ≤ n
-    pub least : 0x80 ≤ getD s (i + 2) 0
-    pub most : getD s (i + 2) 0 ≤ 0xBF
+    pub fits : isWithin (getD s (i + 2) 0) (0x80 to 0xBF) ≡ true
 
   pub record Fourth : Type 0 where
     pub third : Third
     pub size : 4 ≤ n
-    pub least : 0x80 ≤ getD s (i + 3) 0
-    pub most : getD s (i + 3) 0 ≤ 0xBF
+    pub fits : isWithin (getD s (i + 3) 0) (0x80 to 0xBF) ≡ true
 
   stage1 : Stage v n 1 (q ∷ tail ∷ tail ∷ []) s (i + 1)
   unfolding v q
@@ -259,15 +354,15 @@ module _ (s : List ℕ) (i n : ℕ) (h : i < length s) (f : getD s i 0 < 256) (e
   stage2 : Second → Stage v n 2 (tail ∷ tail ∷ []) s (i + 2)
   unfolding q
   stage2 g = subst (λ j. Stage v n 2 (tail ∷ tail ∷ []) s j) (let z : i + 1 + 1 ≡ i + 2 = omega arith in z)
-      (good v n 1 q (tail ∷ tail ∷ []) s (i + 1) stage1 (omega (arith, g .size)) (omega (arith, g .room, g .size)) (g .least) (g .most))
+      (good v n 1 q (tail ∷ tail ∷ []) s (i + 1) stage1 (omega (arith, g .size)) (omega (arith, g .room, g .size)) (g .fits))
 
   stage3 : Third → Stage v n 3 (tail ∷ []) s (i + 3)
   stage3 g = subst (λ j. Stage v n 3 (tail ∷ []) s j) (let z : i + 2 + 1 ≡ i + 3 = omega arith in z)
-      (good v n 2 tail (tail ∷ []) s (i + 2) (stage2 (g .second)) (omega (arith, g .size)) (omega (arith, g .second .room, g .size)) (g .least) (g .most))
+      (good v n 2 tail (tail ∷ []) s (i + 2) (stage2 (g .second)) (omega (arith, g .size)) (omega (arith, g .second .room, g .size)) (g .fits))
 
   stage4 : Fourth → Stage v n 4 [] s (i + 4)
   stage4 g = subst (λ j. Stage v n 4 [] s j) (let z : i + 3 + 1 ≡ i + 4 = omega arith in z)
-      (good v n 3 tail [] s (i + 3) (stage3 (g .third)) (omega (arith, g .size)) (omega (arith, g .third .second .room, g .size)) (g .least) (g .most))
+      (good v n 3 tail [] s (i + 3) (stage3 (g .third)) (omega (arith, g .size)) (omega (arith, g .third .second .room, g .size)) (g .fits))
 
   pub one : n < 2 → n ≡ sequenceOf wellFormed (drop i s)
   unfolding v
@@ -289,29 +384,21 @@ module _ (s : List ℕ) (i n : ℕ) (h : i < length s) (f : getD s i 0 < 256) (e
   unfolding v
   cut l = cut-off v n (q ∷ tail ∷ tail ∷ []) s (i + 1) stage1 (omega (arith, length-most (getD s i 0) f)) (omega arith) (omega arith)
 
-  pub low-second : i + n ≤ length s → 2 ≤ n → getD s (i + 1) 0 < secondOf (getD s i 0) .first → 0 ≡ sequenceOf wellFormed (drop i s)
+  -- Fewer than three bytes are left for a sequence of none, three or four.
+  pub few : 0x80 ≤ getD s i 0 → (leadingZeros 8 (255 - getD s i 0) ≡ 2 → ⊥) → length s < i + 3 → 0 ≡ sequenceOf wellFormed (drop i s)
+  few l x m = ⊎-elim (λ z. sym (e ∙ z) ∙ one (omega (arith, e, z))) (λ z. cut (omega (arith, e, z))) (ones-others (getD s i 0) f l x)
+
+  pub bad-second : i + n ≤ length s → 2 ≤ n → isWithin (getD s (i + 1) 0) (secondOf (getD s i 0)) ≡ false → 0 ≡ sequenceOf wellFormed (drop i s)
   unfolding v q
-  low-second r m l = low v n 1 q (tail ∷ tail ∷ []) s (i + 1) stage1 (omega arith) l (omega arith)
+  bad-second r m a = bad v n 1 q (tail ∷ tail ∷ []) s (i + 1) stage1 (omega arith) (omega arith) a
 
-  pub high-second : i + n ≤ length s → 2 ≤ n → secondOf (getD s i 0) .last < getD s (i + 1) 0 → 0 ≡ sequenceOf wellFormed (drop i s)
-  unfolding v q
-  high-second r m l = high v n 1 q (tail ∷ tail ∷ []) s (i + 1) stage1 (omega arith) l (omega arith)
-
-  pub low-third : Second → 3 ≤ n → getD s (i + 2) 0 < 0x80 → 0 ≡ sequenceOf wellFormed (drop i s)
+  pub bad-third : Second → 3 ≤ n → isWithin (getD s (i + 2) 0) (0x80 to 0xBF) ≡ false → 0 ≡ sequenceOf wellFormed (drop i s)
   unfolding v
-  low-third g m l = low v n 2 tail (tail ∷ []) s (i + 2) (stage2 g) (omega arith) l (omega (arith, g .room))
+  bad-third g m a = bad v n 2 tail (tail ∷ []) s (i + 2) (stage2 g) (omega arith) (omega (arith, g .room)) a
 
-  pub high-third : Second → 3 ≤ n → 0xBF < getD s (i + 2) 0 → 0 ≡ sequenceOf wellFormed (drop i s)
+  pub bad-fourth : Third → 4 ≤ n → isWithin (getD s (i + 3) 0) (0x80 to 0xBF) ≡ false → 0 ≡ sequenceOf wellFormed (drop i s)
   unfolding v
-  high-third g m l = high v n 2 tail (tail ∷ []) s (i + 2) (stage2 g) (omega arith) l (omega (arith, g .room))
-
-  pub low-fourth : Third → 4 ≤ n → getD s (i + 3) 0 < 0x80 → 0 ≡ sequenceOf wellFormed (drop i s)
-  unfolding v
-  low-fourth g m l = low v n 3 tail [] s (i + 3) (stage3 g) (omega arith) l (omega (arith, g .second .room))
-
-  pub high-fourth : Third → 4 ≤ n → 0xBF < getD s (i + 3) 0 → 0 ≡ sequenceOf wellFormed (drop i s)
-  unfolding v
-  high-fourth g m l = high v n 3 tail [] s (i + 3) (stage3 g) (omega arith) l (omega (arith, g .second .room))
+  bad-fourth g m a = bad v n 3 tail [] s (i + 3) (stage3 g) (omega arith) (omega (arith, g .second .room)) a
 
 -- THE WHOLE STRING
 

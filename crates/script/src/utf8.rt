@@ -3,88 +3,128 @@ ghost use mathlib.Core.Path.{_≡_};
 ghost use mathlib.Core.Bool.{true, false};
 ghost use Prim.Native.Nat.{ℕ, _+_, _<_, _≤_};
 ghost use lib.ListN.{length, drop, getD};
-ghost use Rattle.model.specs.Utf8.{sequenceOf, wellFormed, isUtf8, isUtf8From};
+ghost use Rattle.model.specs.Utf8.{_to_, isWithin, sequenceOf, wellFormed, isUtf8, isUtf8From};
 ghost use Rattle.script.specs.Lead.{lengthOf, secondOf};
 
-// How many bytes a sequence has that begins with this byte, 0 where none does: as many as the byte has leading ones.
-fn length_of(b: u8) -> usize
-    ensures { λ r. ⌜ r ≡ lengthOf b ⌝ }
+// Is the byte in a range?
+fn is_within(b: u8, least: u8, greatest: u8) -> bool
+    ensures { λ r. ⌜ r ≡ isWithin b (least to greatest) ⌝ }
 {
-    if b < 0x80 {
-        return 1;
+    if b < least {
+        return false;
     }
-    if b < 0xC2 {
+    b <= greatest
+}
+
+// May the byte stand behind the first one of a sequence of three?
+fn is_second_of_three(first: u8, b: u8) -> bool
+    requires { ⌜ lengthOf first ≡ 3 ⌝ }
+    ensures { λ r. ⌜ r ≡ isWithin b (secondOf first) ⌝ }
+{
+    if first == 0xE0 {
+        return is_within(b, 0xA0, 0xBF);
+    }
+    if first == 0xED {
+        return is_within(b, 0x80, 0x9F);
+    }
+    is_within(b, 0x80, 0xBF)
+}
+
+// May it behind the first one of a sequence of four?
+fn is_second_of_four(first: u8, b: u8) -> bool
+    requires { ⌜ lengthOf first ≡ 4 ⌝ }
+    ensures { λ r. ⌜ r ≡ isWithin b (secondOf first) ⌝ }
+{
+    if first == 0xF0 {
+        return is_within(b, 0x90, 0xBF);
+    }
+    if first == 0xF4 {
+        return is_within(b, 0x80, 0x8F);
+    }
+    is_within(b, 0x80, 0xBF)
+}
+
+// The sequence at i, whose first byte says two bytes.
+fn two_at(s: &[u8], i: usize) -> usize
+    requires { ⌜ i < length (now s) ⌝ }
+    requires { ⌜ lengthOf (getD (now s) i 0) ≡ 2 ⌝ }
+    ensures { λ r. ⌜ r ≡ sequenceOf wellFormed (drop i (now (s .entry))) ⌝ }
+{
+    if s.len() - i < 2 {
         return 0;
     }
-    if 0xF4 < b {
+    if !is_within(s[i + 1], 0x80, 0xBF) {
         return 0;
     }
-    u8::leading_zeros(255 - b) as usize
+    2
 }
 
-// The least second byte behind a first one.
-fn least_second(first: u8) -> u8
-    ensures { λ r. ⌜ r ≡ secondOf first .first ⌝ }
+// The sequence at i, whose first byte says three.
+fn three_at(s: &[u8], i: usize) -> usize
+    requires { ⌜ i + 3 ≤ length (now s) ⌝ }
+    requires { ⌜ lengthOf (getD (now s) i 0) ≡ 3 ⌝ }
+    ensures { λ r. ⌜ r ≡ sequenceOf wellFormed (drop i (now (s .entry))) ⌝ }
 {
-    match first {
-        0xE0 => 0xA0,
-        0xF0 => 0x90,
-        _ => 0x80,
+    if !is_second_of_three(s[i], s[i + 1]) {
+        return 0;
     }
+    if !is_within(s[i + 2], 0x80, 0xBF) {
+        return 0;
+    }
+    3
 }
 
-// The greatest one.
-fn greatest_second(first: u8) -> u8
-    ensures { λ r. ⌜ r ≡ secondOf first .last ⌝ }
+// The sequence at i, whose first byte says four.
+fn four_at(s: &[u8], i: usize) -> usize
+    requires { ⌜ i < length (now s) ⌝ }
+    requires { ⌜ lengthOf (getD (now s) i 0) ≡ 4 ⌝ }
+    ensures { λ r. ⌜ r ≡ sequenceOf wellFormed (drop i (now (s .entry))) ⌝ }
 {
-    match first {
-        0xED => 0x9F,
-        0xF4 => 0x8F,
-        _ => 0xBF,
+    if s.len() - i < 4 {
+        return 0;
     }
+    if !is_second_of_four(s[i], s[i + 1]) {
+        return 0;
+    }
+    if !is_within(s[i + 2], 0x80, 0xBF) {
+        return 0;
+    }
+    if !is_within(s[i + 3], 0x80, 0xBF) {
+        return 0;
+    }
+    4
 }
 
-// How many bytes the sequence at i has, 0 where no sequence of the table stands there.
+// How many bytes the sequence at i has, 0 where no sequence of the table stands there. The first byte has as many leading
+// ones as the sequence has bytes. Each length is answered by a number written out: the next place then waits for no count.
 pub fn sequence_at(s: &[u8], i: usize) -> usize
     requires { ⌜ i < length (now s) ⌝ }
     ensures { λ r. ⌜ r ≡ sequenceOf wellFormed (drop i (now (s .entry))) ⌝ }
 {
     let b = s[i];
-    let n = length_of(b);
-    if n < 2 {
-        return n;
+    if b < 0x80 {
+        return 1;
     }
-    if s.len() - i < n {
+    let n = u8::leading_zeros(255 - b);
+    if n == 2 {
+        if b < 0xC2 {
+            return 0;
+        }
+        return two_at(s, i);
+    }
+    if s.len() - i < 3 {
         return 0;
     }
-    let second = s[i + 1];
-    if second < least_second(b) {
-        return 0;
+    if n == 3 {
+        return three_at(s, i);
     }
-    if greatest_second(b) < second {
-        return 0;
+    if n == 4 {
+        if 0xF4 < b {
+            return 0;
+        }
+        return four_at(s, i);
     }
-    if n < 3 {
-        return n;
-    }
-    let third = s[i + 2];
-    if third < 0x80 {
-        return 0;
-    }
-    if 0xBF < third {
-        return 0;
-    }
-    if n < 4 {
-        return n;
-    }
-    let fourth = s[i + 3];
-    if fourth < 0x80 {
-        return 0;
-    }
-    if 0xBF < fourth {
-        return 0;
-    }
-    n
+    0
 }
 
 // Are so many bytes from i on all ASCII? It counts them all, with no way out before the end: the compiler makes vector
@@ -169,15 +209,11 @@ fn past_sequences(s: &[u8], from: usize, stop: usize) -> usize
 {
     let mut i = from;
     while i < stop {
-        let at = past_bytes(s, i, stop);
-        if stop <= at {
-            return at;
-        }
-        let n = sequence_at(s, at);
+        let n = sequence_at(s, i);
         if n == 0 {
-            return at;
+            return i;
         }
-        i = at + n;
+        i += n;
     }
     i
 }

@@ -1,11 +1,13 @@
 use native.Mathlib.Omega.{arith}
 use borrow.Author.Needs.{needs}
-use mathlib.Core.Path.{_∙_}
 use Prim.Native.Nat.{_+_, _-_, _≤_}
 use lib.ListN.{length}
 use Rattle.script.proofs.Ascii.{Reach, reach-none, reach-on, reach-bad, reach-join}
 use Rattle.script.proofs.utf8.past_sequences.Statement.{statement}
 use Rattle.script.proofs.utf8.past_sequences.Tie as tie
+use Rattle.script.proofs.utf8.past_sequences.Reads as reads
+use Rattle.script.proofs.utf8.past_sequences.Lts as lts
+use Rattle.script.proofs.utf8.sequence_at.Reads as sequence-at-reads
 
 abbrev Inv-loop : tie.InvT-loop
 Inv-loop s from stop i₀ i = Reach s from i
@@ -13,32 +15,33 @@ Inv-loop s from stop i₀ i = Reach s from i
 abbrev μ-loop : tie.MeasureT-loop
 μ-loop s from stop i₀ i = length s - i
 
+-- src/utf8.rt:211:5
 loop-holds : tie.Need-loop-holds Inv-loop μ-loop
 loop-holds c = reach-none _ _ (omega arith)
 
-past-bytes-requires : tie.Need-past-bytes-requires Inv-loop μ-loop
-past-bytes-requires c κs = search needs
-
-returns : tie.Need-returns Inv-loop μ-loop
-returns c = (omega (arith, c .before .past-bytes .ensures .1), c .before .past-bytes .ensures .2 ∙ c .before .before .before .loop .inv .same, λ l. absurd (omega arith))
-
+-- src/utf8.rt:212:13
 sequence-at-requires : tie.Need-sequence-at-requires Inv-loop μ-loop
 sequence-at-requires c κs = search needs
 
-returns-2 : tie.Need-returns-2 Inv-loop μ-loop
-returns-2 c = (omega (arith, c .before .before .before .past-bytes .ensures .1), c .before .before .before .past-bytes .ensures .2 ∙ c .before .before .before .before .before .loop .inv .same, λ l. reach-bad (c .before .before .before .before .before .before .before .args .s .now) (c .before .before .before .past-bytes .result) (omega arith) (c .before .sequence-at .result) (c .before .sequence-at .ensures) (c .if2 .taken))
+-- src/utf8.rt:214:13
+returns : tie.Need-returns Inv-loop μ-loop
+returns c = (c .before .before .before .loop .inv .within, c .before .before .before .loop .inv .same, λ l. reach-bad (c .before .before .before .before .before .args .s .now) (c .before .before .before .loop .i) (omega arith) (c .before .sequence-at .result) (c .before .sequence-at .ensures) (c .if1 .taken))
 
+-- src/utf8.rt:216:9
 add-i : tie.Need-add-i Inv-loop μ-loop
-add-i c = omega (arith, (reach-join (c .before .before .before .before .before .before .before .args .s .now) (c .before .before .before .before .before .before .before .args .from) (c .before .before .before .past-bytes .result) (c .before .before .before .past-bytes .result + c .before .sequence-at .result) (record { within = omega (arith, c .before .before .before .past-bytes .ensures .1); same = c .before .before .before .past-bytes .ensures .2 ∙ c .before .before .before .before .before .loop .inv .same }) (reach-on (c .before .before .before .before .before .before .before .args .s .now) (c .before .before .before .past-bytes .result) (omega arith) (c .before .sequence-at .result) (c .before .sequence-at .ensures) (c .if2 .left))) .within)
+add-i c = omega (arith, (reach-join (c .before .before .before .before .before .args .s .now) (c .before .before .before .before .before .args .from) (c .before .before .before .loop .i) (c .before .before .before .loop .i + c .before .sequence-at .result) (c .before .before .before .loop .inv) (reach-on (c .before .before .before .before .before .args .s .now) (c .before .before .before .loop .i) (omega arith) (c .before .sequence-at .result) (c .before .sequence-at .ensures) (c .if1 .left))) .within)
 
+-- src/utf8.rt:211:5
 loop-less : tie.Need-loop-less Inv-loop μ-loop
-loop-less c = omega (arith, (reach-join (c .before .before .before .before .before .before .before .args .s .now) (c .before .before .before .before .before .before .before .args .from) (c .before .before .before .past-bytes .result) (c .before .before .before .past-bytes .result + c .before .sequence-at .result) (record { within = omega (arith, c .before .before .before .past-bytes .ensures .1); same = c .before .before .before .past-bytes .ensures .2 ∙ c .before .before .before .before .before .loop .inv .same }) (reach-on (c .before .before .before .before .before .before .before .args .s .now) (c .before .before .before .past-bytes .result) (omega arith) (c .before .sequence-at .result) (c .before .sequence-at .ensures) (c .if2 .left))) .within, c .before .before .before .past-bytes .ensures .0)
+loop-less c = omega (arith, (reach-join (c .before .before .before .before .before .args .s .now) (c .before .before .before .before .before .args .from) (c .before .before .before .loop .i) (c .before .before .before .loop .i + c .before .sequence-at .result) (c .before .before .before .loop .inv) (reach-on (c .before .before .before .before .before .args .s .now) (c .before .before .before .loop .i) (omega arith) (c .before .sequence-at .result) (c .before .sequence-at .ensures) (c .if1 .left))) .within)
 
+-- src/utf8.rt:211:5
 loop-again : tie.Need-loop-again Inv-loop μ-loop
-loop-again c = (reach-join (c .before .before .before .before .before .before .before .args .s .now) (c .before .before .before .before .before .before .before .args .from) (c .before .before .before .past-bytes .result) (c .before .before .before .past-bytes .result + c .before .sequence-at .result) (record { within = omega (arith, c .before .before .before .past-bytes .ensures .1); same = c .before .before .before .past-bytes .ensures .2 ∙ c .before .before .before .before .before .loop .inv .same }) (reach-on (c .before .before .before .before .before .before .before .args .s .now) (c .before .before .before .past-bytes .result) (omega arith) (c .before .sequence-at .result) (c .before .sequence-at .ensures) (c .if2 .left)))
+loop-again c = (reach-join (c .before .before .before .before .before .args .s .now) (c .before .before .before .before .before .args .from) (c .before .before .before .loop .i) (c .before .before .before .loop .i + c .before .sequence-at .result) (c .before .before .before .loop .inv) (reach-on (c .before .before .before .before .before .args .s .now) (c .before .before .before .loop .i) (omega arith) (c .before .sequence-at .result) (c .before .sequence-at .ensures) (c .if1 .left)))
 
-returns-3 : tie.Need-returns-3 Inv-loop μ-loop
-returns-3 c = (c .before .loop .inv .within, c .before .loop .inv .same, λ l. absurd (omega arith))
+-- src/utf8.rt:204:1
+returns-2 : tie.Need-returns-2 Inv-loop μ-loop
+returns-2 c = (c .before .loop .inv .within, c .before .loop .inv .same, λ l. absurd (omega arith))
 
 pub past-sequences-spec : {M : Type 1} → statement M
 past-sequences-spec =
@@ -47,11 +50,9 @@ past-sequences-spec =
     Inv-loop
     μ-loop
     loop-holds
-    past-bytes-requires
-    returns
     sequence-at-requires
-    returns-2
+    returns
     add-i
     loop-less
     loop-again
-    returns-3)
+    returns-2)

@@ -1,98 +1,88 @@
 use native.Mathlib.Omega.{arith}
-use Rattle.script.proofs.Sequence.{one, two, three, four, cut, low-second, high-second, low-third, high-third, low-fourth, high-fourth}
+use mathlib.Core.Path.{refl, sym}
+use lib.ListN.{getD}
+use Rattle.script.specs.Lead.{lengthOf}
+use Rattle.script.proofs.Sequence.{ascii-length, ones-two, ones-two-none, ones-three, ones-four, ones-four-none, ones-none, one, few}
 use borrow.Author.Needs.{needs}
 use Rattle.script.proofs.utf8.sequence_at.Statement.{statement}
 use Rattle.script.proofs.utf8.sequence_at.Tie as tie
+use Rattle.script.proofs.utf8.sequence_at.Reads as reads
+use Rattle.script.proofs.utf8.sequence_at.Lts as lts
+use Rattle.script.proofs.utf8.four_at.Reads as four-at-reads
+use Rattle.script.proofs.utf8.three_at.Reads as three-at-reads
+use Rattle.script.proofs.utf8.two_at.Reads as two-at-reads
 
+-- src/utf8.rt:104:13
 shared-slice-read-b : tie.Need-shared-slice-read-b
 shared-slice-read-b c = search needs
 
-length-of-requires : tie.Need-length-of-requires
-length-of-requires c κs = search needs
-
+-- src/utf8.rt:106:9
 returns : tie.Need-returns
-returns c = one (c .before .before .before .before .args .s .now) (c .before .before .before .before .args .i) (c .before .length-of .result) (c .before .before .before .before .pre) (omega (arith, c .before .before .shared-slice-known2 .given (c .before .before .before .before .args .i))) (c .before .length-of .ensures) (omega arith)
+returns c = one (c .before .before .before .args .s .now) (c .before .before .before .args .i) 1 (c .before .before .before .pre) (omega (arith, c .before .shared-slice-known2 .given (c .before .before .before .args .i))) (sym (ascii-length (getD (c .before .before .before .args .s .now) (c .before .before .before .args .i) 0) (c .if1 .taken))) (omega arith)
 
-sub-if2 : tie.Need-sub-if2
-sub-if2 c = search needs
+-- src/utf8.rt:108:31
+sub-n : tie.Need-sub-n
+sub-n c = omega (arith, c .before .shared-slice-known2 .given (c .before .before .before .args .i))
 
+-- src/utf8.rt:111:13
 returns-2 : tie.Need-returns-2
-returns-2 c = cut (c .before .before .before .before .before .args .s .now) (c .before .before .before .before .before .args .i) (c .before .before .length-of .result) (c .before .before .before .before .before .pre) (omega (arith, c .before .before .before .shared-slice-known2 .given (c .before .before .before .before .before .args .i))) (c .before .before .length-of .ensures) (omega arith)
+returns-2 c = one (c .before .before .before .before .before .args .s .now) (c .before .before .before .before .before .args .i) 0 (c .before .before .before .before .before .pre) (omega (arith, c .before .before .before .shared-slice-known2 .given (c .before .before .before .before .before .args .i))) (sym (ones-two-none (getD (c .before .before .before .before .before .args .s .now) (c .before .before .before .before .before .args .i) 0) (omega (arith, c .before .before .before .shared-slice-known2 .given (c .before .before .before .before .before .args .i))) (c .before .before .if1 .left) (c .before .if2 .taken) (c .if3 .taken))) (omega arith)
 
-add-second : tie.Need-add-second
-add-second c = search needs
+-- src/utf8.rt:113:9
+two-at-requires : tie.Need-two-at-requires
+two-at-requires c κs = (c .before .before .before .before .before .pre, ones-two (getD (c .before .before .before .before .before .args .s .now) (c .before .before .before .before .before .args .i) 0) (omega (arith, c .before .before .before .shared-slice-known2 .given (c .before .before .before .before .before .args .i))) (c .before .before .if1 .left) (c .before .if2 .taken) (c .if3 .left))
 
-shared-slice-read-second : tie.Need-shared-slice-read-second
-shared-slice-read-second c = search needs
-
-least-second-requires : tie.Need-least-second-requires
-least-second-requires c κs = search needs
-
+-- src/utf8.rt:113:9
 returns-3 : tie.Need-returns-3
-returns-3 c = low-second (c .before .before .before .before .before .before .before .before .args .s .now) (c .before .before .before .before .before .before .before .before .args .i) (c .before .before .before .before .before .length-of .result) (c .before .before .before .before .before .before .before .before .pre) (omega (arith, c .before .before .before .before .before .before .shared-slice-known2 .given (c .before .before .before .before .before .before .before .before .args .i))) (c .before .before .before .before .before .length-of .ensures) (omega arith) (omega arith) (omega (arith, c .before .least-second .ensures))
+returns-3 c = search needs
 
-greatest-second-requires : tie.Need-greatest-second-requires
-greatest-second-requires c κs = search needs
+-- src/utf8.rt:115:8
+sub-if4 : tie.Need-sub-if4
+sub-if4 c = search needs
 
+-- src/utf8.rt:116:9
 returns-4 : tie.Need-returns-4
-returns-4 c = high-second (c .before .before .before .before .before .before .before .before .before .before .args .s .now) (c .before .before .before .before .before .before .before .before .before .before .args .i) (c .before .before .before .before .before .before .before .length-of .result) (c .before .before .before .before .before .before .before .before .before .before .pre) (omega (arith, c .before .before .before .before .before .before .before .before .shared-slice-known2 .given (c .before .before .before .before .before .before .before .before .before .before .args .i))) (c .before .before .before .before .before .before .before .length-of .ensures) (omega arith) (omega arith) (omega (arith, c .before .greatest-second .ensures))
+returns-4 c = few (c .before .before .before .before .before .args .s .now) (c .before .before .before .before .before .args .i) (lengthOf (getD (c .before .before .before .before .before .args .s .now) (c .before .before .before .before .before .args .i) 0)) (c .before .before .before .before .before .pre) (omega (arith, c .before .before .before .shared-slice-known2 .given (c .before .before .before .before .before .args .i))) refl (c .before .before .if1 .left) (c .before .if2 .left) (omega arith)
 
+-- src/utf8.rt:119:9
+three-at-requires : tie.Need-three-at-requires
+three-at-requires c κs = (omega arith, ones-three (getD (c .before .before .before .before .before .before .args .s .now) (c .before .before .before .before .before .before .args .i) 0) (omega (arith, c .before .before .before .before .shared-slice-known2 .given (c .before .before .before .before .before .before .args .i))) (c .before .before .before .if1 .left) (c .if5 .taken))
+
+-- src/utf8.rt:119:9
 returns-5 : tie.Need-returns-5
-returns-5 c = two (c .before .before .before .before .before .before .before .before .before .before .before .args .s .now) (c .before .before .before .before .before .before .before .before .before .before .before .args .i) (c .before .before .before .before .before .before .before .before .length-of .result) (c .before .before .before .before .before .before .before .before .before .before .before .pre) (omega (arith, c .before .before .before .before .before .before .before .before .before .shared-slice-known2 .given (c .before .before .before .before .before .before .before .before .before .before .before .args .i))) (c .before .before .before .before .before .before .before .before .length-of .ensures) (record { room = omega arith; size = omega arith; least = omega (arith, c .before .before .before .before .least-second .ensures); most = omega (arith, c .before .before .greatest-second .ensures) }) (omega arith)
+returns-5 c = search needs
 
-add-third : tie.Need-add-third
-add-third c = search needs
-
-shared-slice-read-third : tie.Need-shared-slice-read-third
-shared-slice-read-third c = search needs
-
+-- src/utf8.rt:123:13
 returns-6 : tie.Need-returns-6
-returns-6 c = low-third (c .before .before .before .before .before .before .before .before .before .before .before .before .before .args .s .now) (c .before .before .before .before .before .before .before .before .before .before .before .before .before .args .i) (c .before .before .before .before .before .before .before .before .before .before .length-of .result) (c .before .before .before .before .before .before .before .before .before .before .before .before .before .pre) (omega (arith, c .before .before .before .before .before .before .before .before .before .before .before .shared-slice-known2 .given (c .before .before .before .before .before .before .before .before .before .before .before .before .before .args .i))) (c .before .before .before .before .before .before .before .before .before .before .length-of .ensures) (record { room = omega arith; size = omega arith; least = omega (arith, c .before .before .before .before .before .before .least-second .ensures); most = omega (arith, c .before .before .before .before .greatest-second .ensures) }) (omega arith) (omega arith)
+returns-6 c = one (c .before .before .before .before .before .before .before .before .args .s .now) (c .before .before .before .before .before .before .before .before .args .i) 0 (c .before .before .before .before .before .before .before .before .pre) (omega (arith, c .before .before .before .before .before .before .shared-slice-known2 .given (c .before .before .before .before .before .before .before .before .args .i))) (sym (ones-four-none (getD (c .before .before .before .before .before .before .before .before .args .s .now) (c .before .before .before .before .before .before .before .before .args .i) 0) (omega (arith, c .before .before .before .before .before .before .shared-slice-known2 .given (c .before .before .before .before .before .before .before .before .args .i))) (c .before .before .before .before .before .if1 .left) (c .before .if6 .taken) (c .if7 .taken))) (omega arith)
 
+-- src/utf8.rt:125:9
+four-at-requires : tie.Need-four-at-requires
+four-at-requires c κs = (c .before .before .before .before .before .before .before .before .pre, ones-four (getD (c .before .before .before .before .before .before .before .before .args .s .now) (c .before .before .before .before .before .before .before .before .args .i) 0) (omega (arith, c .before .before .before .before .before .before .shared-slice-known2 .given (c .before .before .before .before .before .before .before .before .args .i))) (c .before .before .before .before .before .if1 .left) (c .before .if6 .taken) (c .if7 .left))
+
+-- src/utf8.rt:125:9
 returns-7 : tie.Need-returns-7
-returns-7 c = high-third (c .before .before .before .before .before .before .before .before .before .before .before .before .before .before .args .s .now) (c .before .before .before .before .before .before .before .before .before .before .before .before .before .before .args .i) (c .before .before .before .before .before .before .before .before .before .before .before .length-of .result) (c .before .before .before .before .before .before .before .before .before .before .before .before .before .before .pre) (omega (arith, c .before .before .before .before .before .before .before .before .before .before .before .before .shared-slice-known2 .given (c .before .before .before .before .before .before .before .before .before .before .before .before .before .before .args .i))) (c .before .before .before .before .before .before .before .before .before .before .before .length-of .ensures) (record { room = omega arith; size = omega arith; least = omega (arith, c .before .before .before .before .before .before .before .least-second .ensures); most = omega (arith, c .before .before .before .before .before .greatest-second .ensures) }) (omega arith) (omega arith)
+returns-7 c = search needs
 
+-- src/utf8.rt:100:1
 returns-8 : tie.Need-returns-8
-returns-8 c = three (c .before .before .before .before .before .before .before .before .before .before .before .before .before .before .before .args .s .now) (c .before .before .before .before .before .before .before .before .before .before .before .before .before .before .before .args .i) (c .before .before .before .before .before .before .before .before .before .before .before .before .length-of .result) (c .before .before .before .before .before .before .before .before .before .before .before .before .before .before .before .pre) (omega (arith, c .before .before .before .before .before .before .before .before .before .before .before .before .before .shared-slice-known2 .given (c .before .before .before .before .before .before .before .before .before .before .before .before .before .before .before .args .i))) (c .before .before .before .before .before .before .before .before .before .before .before .before .length-of .ensures) (record { second = (record { room = omega arith; size = omega arith; least = omega (arith, c .before .before .before .before .before .before .before .before .least-second .ensures); most = omega (arith, c .before .before .before .before .before .before .greatest-second .ensures) }); size = omega arith; least = omega arith; most = omega arith }) (omega arith)
-
-add-fourth : tie.Need-add-fourth
-add-fourth c = search needs
-
-shared-slice-read-fourth : tie.Need-shared-slice-read-fourth
-shared-slice-read-fourth c = search needs
-
-returns-9 : tie.Need-returns-9
-returns-9 c = low-fourth (c .before .before .before .before .before .before .before .before .before .before .before .before .before .before .before .before .before .args .s .now) (c .before .before .before .before .before .before .before .before .before .before .before .before .before .before .before .before .before .args .i) (c .before .before .before .before .before .before .before .before .before .before .before .before .before .before .length-of .result) (c .before .before .before .before .before .before .before .before .before .before .before .before .before .before .before .before .before .pre) (omega (arith, c .before .before .before .before .before .before .before .before .before .before .before .before .before .before .before .shared-slice-known2 .given (c .before .before .before .before .before .before .before .before .before .before .before .before .before .before .before .before .before .args .i))) (c .before .before .before .before .before .before .before .before .before .before .before .before .before .before .length-of .ensures) (record { second = (record { room = omega arith; size = omega arith; least = omega (arith, c .before .before .before .before .before .before .before .before .before .before .least-second .ensures); most = omega (arith, c .before .before .before .before .before .before .before .before .greatest-second .ensures) }); size = omega arith; least = omega arith; most = omega arith }) (omega arith) (omega arith)
-
-returns-10 : tie.Need-returns-10
-returns-10 c = high-fourth (c .before .before .before .before .before .before .before .before .before .before .before .before .before .before .before .before .before .before .args .s .now) (c .before .before .before .before .before .before .before .before .before .before .before .before .before .before .before .before .before .before .args .i) (c .before .before .before .before .before .before .before .before .before .before .before .before .before .before .before .length-of .result) (c .before .before .before .before .before .before .before .before .before .before .before .before .before .before .before .before .before .before .pre) (omega (arith, c .before .before .before .before .before .before .before .before .before .before .before .before .before .before .before .before .shared-slice-known2 .given (c .before .before .before .before .before .before .before .before .before .before .before .before .before .before .before .before .before .before .args .i))) (c .before .before .before .before .before .before .before .before .before .before .before .before .before .before .before .length-of .ensures) (record { second = (record { room = omega arith; size = omega arith; least = omega (arith, c .before .before .before .before .before .before .before .before .before .before .before .least-second .ensures); most = omega (arith, c .before .before .before .before .before .before .before .before .before .greatest-second .ensures) }); size = omega arith; least = omega arith; most = omega arith }) (omega arith) (omega arith)
-
-returns-11 : tie.Need-returns-11
-returns-11 c = four (c .before .before .before .before .before .before .before .before .before .before .before .before .before .before .before .before .before .before .args .s .now) (c .before .before .before .before .before .before .before .before .before .before .before .before .before .before .before .before .before .before .args .i) (c .before .before .before .before .before .before .before .before .before .before .before .before .before .before .before .length-of .result) (c .before .before .before .before .before .before .before .before .before .before .before .before .before .before .before .before .before .before .pre) (omega (arith, c .before .before .before .before .before .before .before .before .before .before .before .before .before .before .before .before .shared-slice-known2 .given (c .before .before .before .before .before .before .before .before .before .before .before .before .before .before .before .before .before .before .args .i))) (c .before .before .before .before .before .before .before .before .before .before .before .before .before .before .before .length-of .ensures) (record { third = (record { second = (record { room = omega arith; size = omega arith; least = omega (arith, c .before .before .before .before .before .before .before .before .before .before .before .least-second .ensures); most = omega (arith, c .before .before .before .before .before .before .before .before .before .greatest-second .ensures) }); size = omega arith; least = omega arith; most = omega arith }); size = omega arith; least = omega arith; most = omega arith })
+returns-8 c = one (c .before .before .before .before .before .before .before .args .s .now) (c .before .before .before .before .before .before .before .args .i) 0 (c .before .before .before .before .before .before .before .pre) (omega (arith, c .before .before .before .before .before .shared-slice-known2 .given (c .before .before .before .before .before .before .before .args .i))) (sym (ones-none (getD (c .before .before .before .before .before .before .before .args .s .now) (c .before .before .before .before .before .before .before .args .i) 0) (omega (arith, c .before .before .before .before .before .shared-slice-known2 .given (c .before .before .before .before .before .before .before .args .i))) (c .before .before .before .before .if1 .left) (c .before .before .before .if2 .left) (c .before .if5 .left) (c .if6 .left))) (omega arith)
 
 pub sequence-at-spec : {M : Type 1} → statement M
 sequence-at-spec =
     tie.close
     (tie.spec
     shared-slice-read-b
-    length-of-requires
     returns
-    sub-if2
+    sub-n
     returns-2
-    add-second
-    shared-slice-read-second
-    least-second-requires
+    two-at-requires
     returns-3
-    greatest-second-requires
+    sub-if4
     returns-4
+    three-at-requires
     returns-5
-    add-third
-    shared-slice-read-third
     returns-6
+    four-at-requires
     returns-7
-    returns-8
-    add-fourth
-    shared-slice-read-fourth
-    returns-9
-    returns-10
-    returns-11)
+    returns-8)
