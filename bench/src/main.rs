@@ -90,6 +90,10 @@ fn check_table() {
             ("short commands", short_commands(size)),
             ("long strings, ASCII", long_strings(size, "the quick brown ")),
             ("long strings, not ASCII", long_strings(size, "zwölf €uro😀 é")),
+            ("long strings, German", long_strings(size, "Größe der Läufer über fünf Öfen, zwölf Bögen für die Bäckerei ")),
+            ("long strings, Cyrillic", long_strings(size, "масса захвата ")),
+            ("long strings, CJK", long_strings(size, "工具的负载重量")),
+            ("long strings, one in 100", long_strings(size, SPARSE)),
         ];
         for (shape, Drawing { script, characters, .. }) in &shapes {
             assert_eq!(check::check(script, characters), 0, "a drawing to measure is in order");
@@ -216,6 +220,10 @@ fn questions_table() {
         );
     }
 }
+
+/// ASCII with one other character in a hundred bytes: std goes back to its fast path at once.
+const SPARSE: &str = "the gripper lifts one layer of loaves and puts it on the pallet beside the caf\u{e9} \
+                      door, then it waits. ";
 
 fn main() {
     if !(library::CHECK && library::QUESTIONS) {
