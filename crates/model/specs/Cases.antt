@@ -235,5 +235,5 @@ commentAt levels n =
 
 -- The definitions give what the table wants. With 5 levels a comment at depth 4 passes, and at depth 5 it is 20; build has 1025.
 pub starred : (allComeOut cases ≡ true) × (commentAt 5 4 ≡ 0) × (commentAt 5 5 ≡ 20)
-unfolding ascii joinedPieces seenFrom sameLists comesOut allComeOut cases nested commentAt Base.among Base.sameBytes Base.amongWords Base.pairedWith Names.isElement Names.isAttribute Names.isPresentation Names.isNonInheritable Names.allowsInheritValue Names.isPossibleNone Names.isDeclaredOnly Names.isInheritable Names.inheritDefaults Names.inheritDefault Names.fontResets Names.fixedValues Names.fixedBytes Names.imageRenderingWords Utf8.wellFormed Utf8.begins Utf8.sequenceOf Utf8.isUtf8From Utf8.isUtf8 Utf8.codePoint Utf8.whiteSpaces Utf8.isWithinAny Utf8.isBlankFrom Utf8.isBlank Drawing.operands Drawing.wordAt Drawing.whole Drawing.command Drawing.commandsFrom Drawing.commands Drawing.partAt Drawing.readingsAt Drawing.valueAt Drawing.attributesAt Drawing.declarationsAt Drawing.elementAt Drawing.eventsFrom Drawing.events Drawing.childrenFrom Drawing.textsIn Drawing.elementsIn Drawing.attributeIn Drawing.readingOf Drawing.useHref Drawing.trefHref Drawing.hasId Drawing.firstWithId Drawing.isSvg Drawing.quoted Drawing.leadsBack Drawing.useTarget Drawing.textNumbered Drawing.isInStyle Drawing.valuesIn Drawing.readingsOf Check.starting Check.firstOf Check.isHalfFont Check.testsOf Check.testsAtEnd Check.stepped Check.checkFrom Check.check Tables.nextLinked Tables.firstLinked Tables.linked Tables.appended Tables.entriesWords Tables.entryAt Tables.valueOf Tables.findEntry Tables.attributeId Tables.attributeOf Tables.holderFrom Tables.hasIdBytes Tables.lastWithId Tables.elementById Tables.nodeRoom Tables.attributeRoom Tables.textRoom Tables.cleared Tables.rooted Tables.addElement Tables.addText Tables.textOf Tables.setText Tables.setNone Element.inheritedFrom Element.resolveInherit Element.appendAttribute Element.isTaken Element.hasEntry Element.onFirst Element.addAttribute Element.insertEntry Element.fontParts Element.writeDeclaration Element.entriesOf Element.parseSvgElement Text.getXmlspace Text.spaceOf Text.converted Text.trimTextAfter Text.trimText Text.sizeOf Text.joined Text.appendText Text.cutText Text.run Text.depthBelow Text.textNodes Text.ownTextNodes Text.pairs Text.trimming Text.trimTextNodes Repair.upFrom Repair.allNamed Repair.belowFrom Repair.descendants Repair.firstFound Repair.readingsAt Repair.elementId Repair.paintsWith Repair.nodeAttribute Repair.recursivePatternAt Repair.findRecursivePattern Repair.recursiveLinkAt Repair.findRecursiveLink Repair.anyReading Repair.recursiveFeImage Repair.feImageLinks Repair.cutName Repair.applyCut Repair.nextCut Repair.cutsFrom Repair.cutsOf Repair.cutsOfAll Repair.repairs Repair.repaired Build.withRoot Build.parsed Build.hasSvg Build.finished Build.parseTree Build.build Build.exchanged Build.exchangeFault Build.changed Build.exchange
+unfolding ascii joinedPieces seenFrom sameLists comesOut allComeOut cases nested commentAt Base.among Base.sameBytes Base.amongWords Base.pairedWith Names.isElement Names.isAttribute Names.isPresentation Names.isNonInheritable Names.allowsInheritValue Names.isPossibleNone Names.isDeclaredOnly Names.isInheritable Names.inheritDefaults Names.inheritDefault Names.fontResets Names.fixedValues Names.fixedBytes Names.imageRenderingWords Utf8.wellFormed Utf8.begins Utf8.sequenceOf Utf8.isUtf8From Utf8.isUtf8 Utf8.codePoint Utf8.whiteSpaces Utf8.isWithinAny Utf8.isBlankFrom Utf8.isBlank Drawing.operands Drawing.wordAt Drawing.whole Drawing.command Drawing.commandsFrom Drawing.commands Drawing.partAt Drawing.readingsAt Drawing.valueAt Drawing.attributesAt Drawing.declarationsAt Drawing.elementAt Drawing.eventsFrom Drawing.events Drawing.childrenFrom Drawing.textsIn Drawing.usesIn Drawing.attributeIn Drawing.readingOf Drawing.useHref Drawing.trefHref Drawing.hasId Drawing.firstWithId Drawing.isSvg Drawing.quoted Drawing.leadsBack Drawing.useTarget Drawing.textNumbered Drawing.isInStyle Drawing.valuesIn Drawing.readingsOf Check.starting Check.firstOf Check.isHalfFont Check.testsOf Check.testsAtEnd Check.stepped Check.checkFrom Check.check Tables.nextLinked Tables.firstLinked Tables.linked Tables.appended Tables.entriesWords Tables.entryAt Tables.valueOf Tables.findEntry Tables.attributeId Tables.attributeOf Tables.holderFrom Tables.hasIdBytes Tables.lastWithId Tables.elementById Tables.nodeRoom Tables.attributeRoom Tables.textRoom Tables.cleared Tables.rooted Tables.addElement Tables.addText Tables.textOf Tables.setText Tables.setNone Element.inheritedFrom Element.resolveInherit Element.appendAttribute Element.isTaken Element.hasEntry Element.onFirst Element.addAttribute Element.insertEntry Element.fontParts Element.writeDeclaration Element.entriesOf Element.parseSvgElement Text.getXmlspace Text.spaceOf Text.converted Text.trimTextAfter Text.trimText Text.sizeOf Text.joined Text.appendText Text.cutText Text.run Text.depthBelow Text.textNodes Text.ownTextNodes Text.pairs Text.trimming Text.trimTextNodes Repair.upFrom Repair.allNamed Repair.belowFrom Repair.descendants Repair.firstFound Repair.readingsAt Repair.elementId Repair.paintsWith Repair.nodeAttribute Repair.recursivePatternAt Repair.findRecursivePattern Repair.recursiveLinkAt Repair.findRecursiveLink Repair.anyReading Repair.recursiveFeImage Repair.feImageLinks Repair.cutName Repair.applyCut Repair.nextCut Repair.cutsFrom Repair.cutsOf Repair.cutsOfAll Repair.repairs Repair.repaired Build.withRoot Build.parsed Build.hasSvg Build.finished Build.parseTree Build.build Build.exchanged Build.exchangeFault Build.changed Build.exchange
 starred = (refl, refl, refl)

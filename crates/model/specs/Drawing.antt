@@ -251,14 +251,18 @@ textsIn k (other ∷ xs) = textsIn k xs
 textsIn zero (close ∷ xs) = []
 textsIn (suc k) (close ∷ xs) = textsIn k xs
 
--- The elements inside the element whose inside begins here, at any depth.
-unfoldable pub elementsIn : ℕ → List Event → List Element
-elementsIn k [] = []
-elementsIn k (begin e ∷ xs) = e ∷ elementsIn (suc k) xs
-elementsIn k (text a ∷ xs) = elementsIn k xs
-elementsIn k (other ∷ xs) = elementsIn k xs
-elementsIn zero (close ∷ xs) = []
-elementsIn (suc k) (close ∷ xs) = elementsIn k xs
+-- Is the element a `use` in the SVG namespace?
+abbrev pub isUse : Element → Bool
+isUse e = and (eqb (e .code) EId.Use) (eqb (e .namespace) 1)
+
+-- The `use`s in the SVG namespace inside the element whose inside begins here, at any depth.
+unfoldable pub usesIn : ℕ → List Event → List Element
+usesIn k [] = []
+usesIn k (begin e ∷ xs) = pick (isUse e) (λ u. e ∷ usesIn (suc k) xs) (λ u. usesIn (suc k) xs)
+usesIn k (text a ∷ xs) = usesIn k xs
+usesIn k (other ∷ xs) = usesIn k xs
+usesIn zero (close ∷ xs) = []
+usesIn (suc k) (close ∷ xs) = usesIn k xs
 
 -- The value of the first attribute with that name in that namespace.
 unfoldable pub attributeIn : ℕ → ℕ → List Attribute → Option Value
@@ -323,18 +327,17 @@ numberOf (text a ∷ xs) = 0
 numberOf (other ∷ xs) = 0
 numberOf (close ∷ xs) = 0
 
--- Does one of the elements, a `use` in the SVG namespace, lead to the element numbered n or m?
+-- Does one of the `use`s lead to the element numbered n or m?
 unfoldable pub leadsBack : List Event → ℕ → ℕ → List Element → Bool
 leadsBack all n m [] = false
 leadsBack all n m (e ∷ es) =
-    pick (and (and (eqb (e .code) EId.Use) (eqb (e .namespace) 1)) (among (numberOf (linkedBy all (useHref e))) (n ∷ m ∷ [])))
-    (λ u. true) (λ u. leadsBack all n m es)
+    pick (among (numberOf (linkedBy all (useHref e))) (n ∷ m ∷ [])) (λ u. true) (λ u. leadsBack all n m es)
 
 -- May the `use` e, met with that origin, copy the element l whose inside begins at xs?
 abbrev pub mayCopy : List Event → Element → ℕ → Element → List Event → Bool
 mayCopy all e origin l xs =
     and (and (isSvg l) (not (or (eqb (l .number) (e .number)) (eqb (l .number) origin))))
-    (not (leadsBack all (e .number) (l .number) (elementsIn zero xs)))
+    (not (leadsBack all (e .number) (l .number) (usesIn zero xs)))
 
 -- The node that it leads to, if it may be copied.
 abbrev pub copied : List Event → Element → ℕ → List Event → List Event
