@@ -5,8 +5,12 @@ use mathlib.Core.Bool.{Bool, true, false}
 use Prim.Native.Nat.{ℕ, zero, suc, _+_, _-_, _<_, _≤_}
 use native.Mathlib.Numerals.{add-one, sub-one}
 use native.Mathlib.Omega.{arith}
+use borrow.Author.Tests.{eqb-true}
+use lib.Dec.{eqb}
+use Rattle.model.specs.Base.{and}
+use Rattle.model.specs.EId
 use Rattle.model.specs.Drawing as model
-use Rattle.model.specs.Drawing.{opening, reading, Event, begin, close, eventsFrom, elementAt, sourceAt, readingsAt, partAt, textsIn, childrenFrom}
+use Rattle.model.specs.Drawing.{opening, reading, Event, begin, close, eventsFrom, elementAt, sourceAt, readingsAt, partAt, textsIn, isUse, usesIn, childrenFrom}
 use Rattle.script.specs.declared.cursor.Cursor.{Cursor}
 use Rattle.script.specs.declared.cursor.Step.{Step}
 use Rattle.script.specs.declared.cursor.Step.the-variants as step
@@ -16,9 +20,11 @@ use Rattle.script.specs.declared.walk.Read.{Read}
 use Rattle.script.specs.declared.walk.Read.the-variants as read
 use Rattle.script.specs.declared.walk.TextIn.{TextIn}
 use Rattle.script.specs.declared.walk.TextIn.the-variants as textIn
+use Rattle.script.specs.declared.walk.UseIn.the-variants as useIn
 use Rattle.script.specs.Step.{Fit, commandsAt, markOf, moved, stepAt, Going}
-use Rattle.script.specs.Walk.{eventsAt, leave, eventsOf, ItemFit, Begun, Further, readingsOf, ReadFit, sourcesOf, TextFit}
+use Rattle.script.specs.Walk.{eventsAt, leave, eventsOf, ItemFit, Begun, Further, readingsOf, ReadFit, sourcesOf, TextFit, usesOf, UseFit}
 use Rattle.script.proofs.Commands.{told, Told, goes}
+use Rattle.script.proofs.Parts.{and-left, and-right}
 use Rattle.script.proofs.Walks.{ItemIs, ended}
 
 pub item-told : (s : List ℕ) (c : Cursor) (r x : Item) → r ≡ x → ((chars : List ℕ) → eventsOf s chars r ≡ eventsAt s chars c) × (ItemFit s c r) → ItemIs s c x
@@ -76,6 +82,11 @@ module _ {I A : Type 0} (ch : I → List ℕ) (g : I → ℕ → List Event → 
   pub at-item : (x : Item) → ItemIs s c x → (j : I) → g j k (eventsOf s (ch j) x) ≡ v j
   at-item x i j = ap (g j k) (i .same (ch j)) ∙ w .same j
 
+-- A walk that goes on behind a close with one open element fewer.
+pub behind-close : {A : Type 0} (f g : ℕ → A) → ((k : ℕ) → f (suc k) ≡ g k) → (k : ℕ) → (k ≡ 0 → ⊥) → f k ≡ g (k - 1)
+behind-close f g e zero h = absurd (h refl)
+behind-close f g e (suc k) h = e k ∙ ap g (let z : k ≡ suc k - 1 = omega arith in z)
+
 -- LEAVE
 
 abbrev pub leaving : List ℕ → ℕ → List Event → List Event
@@ -95,8 +106,7 @@ leave-other k xs = refl
 
 pub leave-close : (k : ℕ) (xs : List Event) → (k ≡ 0 → ⊥) → leave k (close ∷ xs) ≡ leave (k - 1) xs
 unfolding leave
-leave-close zero xs h = absurd (h refl)
-leave-close (suc k) xs h = ap (λ m. leave m xs) (let z : k ≡ suc k - 1 = omega arith in z)
+leave-close k xs = behind-close (λ j. leave j (close ∷ xs)) (λ j. leave j xs) (λ j. refl) k
 
 pub leave-out : (k : ℕ) (xs : List Event) → k ≡ 0 → leave k (close ∷ xs) ≡ xs
 unfolding leave
@@ -136,8 +146,7 @@ texts-other k xs = refl
 
 pub texts-close : (k : ℕ) (xs : List Event) → (k ≡ 0 → ⊥) → textsIn k (close ∷ xs) ≡ textsIn (k - 1) xs
 unfolding textsIn
-texts-close zero xs h = absurd (h refl)
-texts-close (suc k) xs h = ap (λ m. textsIn m xs) (let z : k ≡ suc k - 1 = omega arith in z)
+texts-close k xs = behind-close (λ j. textsIn j (close ∷ xs)) (λ j. textsIn j xs) (λ j. refl) k
 
 pub texts-out : (k : ℕ) (xs : List Event) → k ≡ 0 → textsIn k (close ∷ xs) ≡ []
 unfolding textsIn
@@ -146,6 +155,58 @@ texts-out k xs e = rw e
 pub texts-end : (k : ℕ) → textsIn k [] ≡ []
 unfolding textsIn
 texts-end k = refl
+
+-- USES
+
+-- The `use`s inside an element, for any characters.
+abbrev pub reading-uses : List ℕ → ℕ → List Event → List model.Element
+reading-uses chars k xs = usesIn k xs
+
+module _ (k : ℕ) (xs : List Event) where
+  pub uses-hit : (e : model.Element) → isUse e ≡ true → usesIn k (begin e ∷ xs) ≡ e ∷ usesIn (k + 1) xs
+  unfolding usesIn
+  uses-hit e h = rw h (ap (λ m. e ∷ usesIn m xs) (sym (add-one k)))
+
+  pub uses-miss : (e : model.Element) → isUse e ≡ false → usesIn k (begin e ∷ xs) ≡ usesIn (k + 1) xs
+  unfolding usesIn
+  uses-miss e h = rw h (ap (λ m. usesIn m xs) (sym (add-one k)))
+
+  pub uses-text : (a : model.Source) → usesIn k (model.Event.text a ∷ xs) ≡ usesIn k xs
+  unfolding usesIn
+  uses-text a = refl
+
+  pub uses-other : usesIn k (model.Event.other ∷ xs) ≡ usesIn k xs
+  unfolding usesIn
+  uses-other = refl
+
+  pub uses-close : (k ≡ 0 → ⊥) → usesIn k (close ∷ xs) ≡ usesIn (k - 1) xs
+  unfolding usesIn
+  uses-close = behind-close (λ j. usesIn j (close ∷ xs)) (λ j. usesIn j xs) (λ j. refl) k
+
+  pub uses-out : k ≡ 0 → usesIn k (close ∷ xs) ≡ []
+  unfolding usesIn
+  uses-out e = rw e
+
+pub uses-end : (k : ℕ) → usesIn k [] ≡ []
+unfolding usesIn
+uses-end k = refl
+
+module _ (v : List ℕ → List model.Element) (s : List ℕ) (from c : Cursor) (k : ℕ) (w : Along (λ x. x) reading-uses v s from c k) (o : Cursor) (a b : ℕ) (n : Cursor) (i : ItemIs s c (item.Begin o a b n)) where
+  -- The walk goes on inside an element that is no `use`.
+  pub over-no-use : and (eqb a EId.Use) (eqb b 1) ≡ false → Along (λ x. x) reading-uses v s from n (k + 1)
+  unfolding elementAt
+  over-no-use h = over-begin (λ x. x) reading-uses v s from c k w o a b n (k + 1) i (omega arith) (λ chars. uses-miss k _ _ h)
+
+  -- The walk ends at a `use`.
+  pub at-use : and (eqb a EId.Use) (eqb b 1) ≡ true → ((chars : List ℕ) → usesOf s chars (useIn.At o n (k + 1)) ≡ v chars) × (UseFit s from (useIn.At o n (k + 1)))
+  unfolding elementAt
+  at-use h = (
+    λ chars. sym (uses-hit k _ _ refl) ∙ at-item (λ x. x) reading-uses v s from c k w (item.Begin o EId.Use 1 n) met chars,
+    record { own = met .fit .own; fit = met .fit .fit; further = omega (arith, w .before, met .fit .further); low = omega (arith, w .low, met .fit .further); next = met .fit .next },
+  )
+    where
+      met : ItemIs s c (item.Begin o EId.Use 1 n)
+      met = subst (λ x. ItemIs s c (item.Begin o EId.Use x n)) (eqb-true b 1 (and-right (eqb a EId.Use) (eqb b 1) h)) (subst (λ x. ItemIs s c (item.Begin o x b n)) (eqb-true a EId.Use (and-left (eqb a EId.Use) (eqb b 1) h)) i)
 
 -- READINGS
 

@@ -1,7 +1,7 @@
 -- Small laws on tests and on a part of a list. Assumes nothing.
 use mathlib.Core.Path.{_≡_, refl, sym, ap, _∙_}
 use mathlib.Core.List.{List, [], _∷_}
-use mathlib.Core.Bool.{Bool, true, false, not}
+use mathlib.Core.Bool.{Bool, true, false, not, false≢true}
 use Prim.Native.Nat.{ℕ, zero, suc, _+_, _-_, _≤_}
 use native.Mathlib.Nat.{suc-add, zero-add}
 use native.Mathlib.Omega.{arith}
@@ -14,6 +14,15 @@ use Rattle.model.specs.Check.{Test, _if_, firstOf}
 pub and-none : (a : Bool) → and a false ≡ false
 and-none true = refl
 and-none false = refl
+
+-- If both hold, each does.
+pub and-left : (a b : Bool) → and a b ≡ true → a ≡ true
+and-left true b h = refl
+and-left false b h = h
+
+pub and-right : (a b : Bool) → and a b ≡ true → b ≡ true
+and-right true b h = h
+and-right false b h = absurd (false≢true h)
 
 -- A part that is lent, as the model has it.
 pub part-is : {A : Type 0} (a n : ℕ) (l : List A) → take n (drop a l) ≡ slice a (a + n) l

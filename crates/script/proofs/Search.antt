@@ -14,16 +14,19 @@ use Rattle.model.specs.Base.{pick, and, or, among}
 use Rattle.model.specs.Names.{isElement}
 use Rattle.model.specs.EId
 use Rattle.model.specs.Drawing as model
-use Rattle.model.specs.Drawing.{Mark, Command, Event, begin, close, events, eventsFrom, elementAt, sourceAt, hasId, firstWithId, textNumbered, isInStyle, partAt, useHref, linkedBy, numberOf, leadsBack, elementsIn, isSvg, copied, useTarget, trefHref, quotedFrom, quoted, textsIn}
+use Rattle.model.specs.Drawing.{Mark, Command, Event, begin, close, events, eventsFrom, elementAt, sourceAt, hasId, firstWithId, textNumbered, isInStyle, partAt, useHref, linkedBy, numberOf, leadsBack, usesIn, isSvg, copied, useTarget, trefHref, quotedFrom, quoted, textsIn}
 use Rattle.script.specs.declared.cursor.Cursor.{Cursor}
+use Rattle.script.specs.declared.walk.UseIn.{UseIn}
+use Rattle.script.specs.declared.walk.UseIn.the-variants as useIn
 use Rattle.script.specs.declared.find.Part.{Part}
 use Rattle.script.specs.declared.find.Part.the-variants as part
 use Rattle.script.specs.declared.find.Node.{Node}
 use Rattle.script.specs.declared.find.Node.the-variants as node
 use Rattle.script.specs.Step.{Fit, commandsAt, markOf}
-use Rattle.script.specs.Walk.{eventsAt}
+use Rattle.script.specs.Walk.{eventsAt, attributesIn, usesOf, UseFit}
 use Rattle.script.specs.Find.{styleLevel, partOf, PartFit, nodeOf, NodeFit, textsOf}
 use Rattle.script.proofs.Along.{Along}
+use Rattle.script.proofs.Finding.{element-attributes}
 
 -- A walk over the whole document.
 pub along-start : {I A : Type 0} (ch : I → List ℕ) (g : I → ℕ → List Event → A) (s : List ℕ) (c : Cursor) → length s ≤ 1048576
@@ -152,9 +155,6 @@ module _ (chars : List ℕ) (all : List Event) (link : Part) where
   unfolding partAt
   linked-at o l e p f r h = h ∙ ap (λ q. firstWithId q all) f ∙ ap (λ k. linkedBy all (partOf chars k)) (sym e)
 
-  pub linked-nowhere : link ≡ part.Nothing → [] ≡ linkedBy all (partOf chars link)
-  linked-nowhere e = ap (λ k. linkedBy all (partOf chars k)) (sym e)
-
 pub part-fit : (link : Part) (o l : ℕ) → link ≡ part.At o l → PartFit link → o ≤ 9007199254740992
 part-fit link o l e f = subst PartFit e f
 
@@ -169,68 +169,53 @@ module _ (s : List ℕ) (v : Node) where
   pub node-own : (o : Cursor) (a b : ℕ) (n : Cursor) → v ≡ node.At o a b n → NodeFit s v → Fit s o
   node-own o a b n e f = subst (NodeFit s) e f .own
 
--- Is the element a use in the SVG namespace that leads to n or m?
+-- WHERE A USE LEADS
+
+-- Does the `use` lead to the element numbered n or m?
 abbrev pub leadsTo : List Event → ℕ → ℕ → model.Element → Bool
-leadsTo all n m e = and (and (eqb (e .code) EId.Use) (eqb (e .namespace) 1)) (among (numberOf (linkedBy all (useHref e))) (n ∷ m ∷ []))
+leadsTo all n m e = among (numberOf (linkedBy all (useHref e))) (n ∷ m ∷ [])
 
-module _ (all : List Event) (n m : ℕ) (e : model.Element) (a b : ℕ) (h : e .code ≡ a) (g : e .namespace ≡ b) where
-  pub no-use : (a ≡ 52 → ⊥) → false ≡ leadsTo all n m e
-  no-use z = rw (h, ne-eqb a 52 z)
+module _ (all : List Event) (n m : ℕ) (e : model.Element) (p : Option model.Part) (k : ℕ) (f : p ≡ useHref e) (q : k ≡ numberOf (linkedBy all p)) where
+  asked : pick (eqb k n) (λ u. true) (λ u. pick (eqb k m) (λ v. true) (λ v. false)) ≡ leadsTo all n m e
+  unfolding among useHref
+  asked = rw (← f, ← q)
 
-  pub no-svg : a ≡ 52 → (b ≡ 1 → ⊥) → false ≡ leadsTo all n m e
-  no-svg y z = rw (h, g, eq-eqb a 52 y, ne-eqb b 1 z)
+  pub to-first : k ≡ n → true ≡ leadsTo all n m e
+  to-first t = sym (rw (eq-eqb k n t)) ∙ asked
 
-  module _ (y : a ≡ 52) (z : b ≡ 1) (p : Option model.Part) (k : ℕ) (f : p ≡ useHref e) (q : k ≡ numberOf (linkedBy all p)) where
-    asked : pick (eqb k n) (λ u. true) (λ u. pick (eqb k m) (λ v. true) (λ v. false)) ≡ leadsTo all n m e
-    unfolding among useHref
-    asked = rw (h, g, eq-eqb a 52 y, eq-eqb b 1 z, ← f, ← q)
+  pub to-second : (k ≡ n → ⊥) → k ≡ m → true ≡ leadsTo all n m e
+  to-second t w = sym (rw (ne-eqb k n t, eq-eqb k m w)) ∙ asked
 
-    pub to-first : k ≡ n → true ≡ leadsTo all n m e
-    to-first t = sym (rw (eq-eqb k n t)) ∙ asked
+  pub to-neither : (k ≡ n → ⊥) → (k ≡ m → ⊥) → false ≡ leadsTo all n m e
+  to-neither t w = sym (rw (ne-eqb k n t, ne-eqb k m w)) ∙ asked
 
-    pub to-second : (k ≡ n → ⊥) → k ≡ m → true ≡ leadsTo all n m e
-    to-second t w = sym (rw (ne-eqb k n t, eq-eqb k m w)) ∙ asked
+-- What next_use finds from c on, with k elements open.
+pub record UseIs (s : List ℕ) (c : Cursor) (k : ℕ) (r : UseIn) : Type 0 where
+  pub same : (chars : List ℕ) → usesOf s chars r ≡ usesIn k (eventsAt s chars c)
+  pub fit : UseFit s c r
 
-    pub to-neither : (k ≡ n → ⊥) → (k ≡ m → ⊥) → false ≡ leadsTo all n m e
-    to-neither t w = sym (rw (ne-eqb k n t, ne-eqb k m w)) ∙ asked
+pub use-told : (s : List ℕ) (c : Cursor) (k : ℕ) (r x : UseIn) → r ≡ x → ((chars : List ℕ) → usesOf s chars r ≡ usesIn k (eventsAt s chars c)) × (UseFit s c r) → UseIs s c k x
+use-told s c k r x e h = subst (UseIs s c k) e (record { same = h .0; fit = h .1 })
 
-pub element-code : (chars : List ℕ) (m : Mark) (a b : ℕ) (cs : List Command) → elementAt chars m a b cs .code ≡ a
-unfolding elementAt
-element-code chars m a b cs = refl
+-- Does one of the `use`s inside an element, from a node on and with k elements open, lead to n or m?
+abbrev pub leading : List ℕ → List ℕ → ℕ → ℕ → Unit {0} → ℕ → List Event → Bool
+leading s chars n m x k xs = leadsBack (events s chars) n m (usesIn k xs)
 
-pub element-space : (chars : List ℕ) (m : Mark) (a b : ℕ) (cs : List Command) → elementAt chars m a b cs .namespace ≡ b
-unfolding elementAt
-element-space chars m a b cs = refl
+module _ (s chars : List ℕ) (n m : ℕ) (v : Unit {0} → Bool) (from c : Cursor) (k : ℕ) (w : Along (λ x. chars) (leading s chars n m) v s from c k) where
+  module _ (o i : Cursor) (j : ℕ) (u : UseIs s c k (useIn.At o i j)) (r : Bool) (h : (e : model.Element) → e .attributes ≡ attributesIn s chars i → r ≡ leadsTo (events s chars) n m e) where
+    led : pick r (λ x. true) (λ x. leadsBack (events s chars) n m (usesIn j (eventsAt s chars i))) ≡ v tt
+    unfolding leadsBack
+    led = rw (h (elementAt chars (markOf o) EId.Use 1 (commandsAt s i)) (element-attributes s chars o i EId.Use 1 (u .fit .next))) (ap (leadsBack (events s chars) n m) (u .same chars) ∙ w .same tt)
 
-module _ (all : List Event) (n m : ℕ) (k : ℕ) (xs : List Event) where
-  pub back-miss : (e : model.Element) → leadsTo all n m e ≡ false → leadsBack all n m (elementsIn k (begin e ∷ xs)) ≡ leadsBack all n m (elementsIn (k + 1) xs)
-  unfolding leadsBack elementsIn
-  back-miss e h = rw h (ap (λ j. leadsBack all n m (elementsIn j xs)) (sym (add-one k)))
+    pub back-hit : r ≡ true → true ≡ v tt
+    back-hit e = sym (rw e) ∙ led
 
-  pub back-hit : (e : model.Element) → leadsTo all n m e ≡ true → leadsBack all n m (elementsIn k (begin e ∷ xs)) ≡ true
-  unfolding leadsBack elementsIn
-  back-hit e h = rw h
+    pub back-miss : r ≡ false → Along (λ x. chars) (leading s chars n m) v s from i j
+    back-miss e = record { fit = u .fit .fit; before = omega (arith, w .before, u .fit .further); low = u .fit .low; same = λ x. sym (rw e) ∙ led }
 
-  pub back-text : (a : model.Source) → leadsBack all n m (elementsIn k (model.Event.text a ∷ xs)) ≡ leadsBack all n m (elementsIn k xs)
-  unfolding elementsIn
-  back-text a = refl
-
-  pub back-other : leadsBack all n m (elementsIn k (model.Event.other ∷ xs)) ≡ leadsBack all n m (elementsIn k xs)
-  unfolding elementsIn
-  back-other = refl
-
-  pub back-out : k ≡ 0 → leadsBack all n m (elementsIn k (close ∷ xs)) ≡ false
-  unfolding leadsBack elementsIn
-  back-out h = rw h
-
-pub back-close : (all : List Event) (n m k : ℕ) (xs : List Event) → (k ≡ 0 → ⊥) → leadsBack all n m (elementsIn k (close ∷ xs)) ≡ leadsBack all n m (elementsIn (k - 1) xs)
-unfolding elementsIn
-back-close all n m zero xs h = absurd (h refl)
-back-close all n m (suc k) xs h = ap (λ j. leadsBack all n m (elementsIn j xs)) (let z : k ≡ suc k - 1 = omega arith in z)
-
-pub back-end : (all : List Event) (n m k : ℕ) → leadsBack all n m (elementsIn k []) ≡ false
-unfolding leadsBack elementsIn
-back-end all n m k = refl
+  pub back-end : UseIs s c k useIn.End → false ≡ v tt
+  unfolding leadsBack
+  back-end u = ap (leadsBack (events s chars) n m) (u .same chars) ∙ w .same tt
 
 -- WHAT A USE COPIES
 
@@ -243,7 +228,7 @@ module _ (s chars : List ℕ) (e : model.Element) (number origin : ℕ) (h : e .
   copies-nothing z = ap (λ w. copied (events s chars) e origin (nodeOf s chars w)) (sym z) ∙ target
 
   module _ (o : Cursor) (a b : ℕ) (n : Cursor) (z : v ≡ node.At o a b n) where
-    copying : pick (and (and (and (leb b 1) (isElement a)) (not (or (eqb (o .number + 1) number) (eqb (o .number + 1) origin)))) (not (leadsBack (events s chars) number (o .number + 1) (elementsIn zero (eventsAt s chars n)))))
+    copying : pick (and (and (and (leb b 1) (isElement a)) (not (or (eqb (o .number + 1) number) (eqb (o .number + 1) origin)))) (not (leadsBack (events s chars) number (o .number + 1) (usesIn zero (eventsAt s chars n)))))
         (λ u. nodeOf s chars v) (λ u. []) ≡ useTarget (events s chars) e origin
     unfolding isSvg elementAt
     copying = rw (z, ← h) (ap (λ w. copied (events s chars) e origin (nodeOf s chars w)) (sym z) ∙ target)
@@ -258,11 +243,11 @@ module _ (s chars : List ℕ) (e : model.Element) (number origin : ℕ) (h : e .
     its-origin t w y = sym (rw (t, ne-eqb (o .number + 1) number w, eq-eqb (o .number + 1) origin y)) ∙ copying
 
     pub leading-back : and (leb b 1) (isElement a) ≡ true → (o .number + 1 ≡ number → ⊥) → (o .number + 1 ≡ origin → ⊥)
-        → leadsBack (events s chars) number (o .number + 1) (elementsIn 0 (eventsAt s chars n)) ≡ true → [] ≡ useTarget (events s chars) e origin
+        → leadsBack (events s chars) number (o .number + 1) (usesIn 0 (eventsAt s chars n)) ≡ true → [] ≡ useTarget (events s chars) e origin
     leading-back t w y r = sym (rw (t, ne-eqb (o .number + 1) number w, ne-eqb (o .number + 1) origin y, r)) ∙ copying
 
     pub copies : and (leb b 1) (isElement a) ≡ true → (o .number + 1 ≡ number → ⊥) → (o .number + 1 ≡ origin → ⊥)
-        → leadsBack (events s chars) number (o .number + 1) (elementsIn 0 (eventsAt s chars n)) ≡ false → nodeOf s chars (node.At o a b n) ≡ useTarget (events s chars) e origin
+        → leadsBack (events s chars) number (o .number + 1) (usesIn 0 (eventsAt s chars n)) ≡ false → nodeOf s chars (node.At o a b n) ≡ useTarget (events s chars) e origin
     copies t w y r = ap (nodeOf s chars) (sym z) ∙ sym (rw (t, ne-eqb (o .number + 1) number w, ne-eqb (o .number + 1) origin y, r)) ∙ copying
 
 pub node-fit : (s : List ℕ) (v : Node) (o : Cursor) (a b : ℕ) (n : Cursor) → v ≡ node.At o a b n → NodeFit s v → (Fit s o) × (Fit s n)

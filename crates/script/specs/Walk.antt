@@ -2,8 +2,9 @@
 use mathlib.Core.Path.{_≡_}
 use Prim.Native.Nat.{ℕ, zero, suc, _+_, _<_, _≤_}
 use mathlib.Core.List.{List, [], _∷_}
+use Rattle.model.specs.EId
 use Rattle.model.specs.Drawing as model
-use Rattle.model.specs.Drawing.{opening, Event, begin, close, eventsFrom, elementAt, sourceAt, valueAt, attributesAt, declarationsAt, readingsAt, partAt, Attribute, Declaration, Reading, Source, textsIn}
+use Rattle.model.specs.Drawing.{opening, Event, begin, close, eventsFrom, elementAt, sourceAt, valueAt, attributesAt, declarationsAt, readingsAt, partAt, Attribute, Declaration, Reading, Source, Element, textsIn, usesIn}
 use Rattle.script.specs.declared.cursor.Cursor.{Cursor}
 use Rattle.script.specs.declared.walk.Item.{Item}
 use Rattle.script.specs.declared.walk.Item.the-variants.{Begin, Text, Other, Close}
@@ -14,6 +15,8 @@ use Rattle.script.specs.declared.walk.Read.{Read}
 use Rattle.script.specs.declared.walk.Read.the-variants as read
 use Rattle.script.specs.declared.walk.TextIn.{TextIn}
 use Rattle.script.specs.declared.walk.TextIn.the-variants as textIn
+use Rattle.script.specs.declared.walk.UseIn.{UseIn}
+use Rattle.script.specs.declared.walk.UseIn.the-variants as useIn
 use Rattle.script.specs.Step.{Fit, commandsAt, markOf, moved}
 
 -- The nodes from the cursor on.
@@ -100,6 +103,24 @@ pub record TextAt (script : List ℕ) (from c n : Cursor) (k : ℕ) : Type 0 whe
 abbrev pub TextFit : List ℕ → Cursor → TextIn → Type 0
 TextFit script from (textIn.At c l n k) = TextAt script from c n k
 TextFit script from textIn.End = Unit {0}
+
+-- The `use`s inside an element from one on.
+abbrev pub usesOf : List ℕ → List ℕ → UseIn → List Element
+usesOf script chars (useIn.At c n k) = elementAt chars (markOf c) EId.Use 1 (commandsAt script n) ∷ usesIn k (eventsAt script chars n)
+usesOf script chars useIn.End = []
+
+-- The own place c of a `use`, n behind its open, and k elements open there.
+pub record UseAt (script : List ℕ) (from c n : Cursor) (k : ℕ) : Type 0 where
+  pub own : Fit script c
+  pub fit : Fit script n
+  pub further : from .at < n .at
+  pub low : k ≤ n .at
+  pub next : n ≡ moved c (opening EId.Use 1)
+
+-- The cursors of the next `use` are in range.
+abbrev pub UseFit : List ℕ → Cursor → UseIn → Type 0
+UseFit script from (useIn.At c n k) = UseAt script from c n k
+UseFit script from useIn.End = Unit {0}
 
 -- The attributes of the element whose inside begins at the cursor.
 abbrev pub attributesIn : List ℕ → List ℕ → Cursor → List Attribute

@@ -3,9 +3,11 @@ use super::cursor::Cursor;
 use super::walk::Attr;
 use super::walk::Item;
 use super::walk::Read;
+use super::walk::UseIn;
 use super::walk::next_attribute;
 use super::walk::next_item;
 use super::walk::next_reading;
+use super::walk::next_use;
 use names::same;
 ghost use mathlib.Core.Path.{_≡_};
 ghost use mathlib.Core.List.{List, [], _∷_};
@@ -13,11 +15,10 @@ ghost use Prim.Native.Nat.{ℕ, _+_, _-_, _≤_};
 ghost use lib.ListN.{length};
 ghost use lib.Seq.{slice};
 ghost use Rattle.model.specs.Base.{orElse, and, among};
-ghost use Rattle.model.specs.Drawing.{Element, events, linkedBy, numberOf, leadsBack, useTarget, quoted, elementsIn, useHref, trefHref, attributeIn, readingsAt, readingOf, iriOf, hasId, firstWithId, textNumbered, isInStyle};
+ghost use Rattle.model.specs.Drawing.{Element, events, linkedBy, numberOf, leadsBack, useTarget, quoted, usesIn, useHref, trefHref, attributeIn, readingsAt, readingOf, iriOf, hasId, firstWithId, textNumbered, isInStyle};
 ghost use Rattle.model.specs.AId;
-ghost use Rattle.model.specs.EId;
 ghost use Rattle.model.specs.Names.{isElement};
-ghost use lib.Dec.{eqb, leb};
+ghost use lib.Dec.{leb};
 ghost use Rattle.script.specs.Step.{Fit, commandsAt};
 ghost use Rattle.script.specs.Walk.{eventsAt, attributesIn};
 ghost use Rattle.script.specs.Find.{valueOf, ValueFit, partOf, PartFit, nodeOf, NodeFit, textsOf, sourceOf, styleLevel};
@@ -296,9 +297,6 @@ pub fn is_in_style(script: &[u8], number: usize) -> bool
     }
 }
 
-// The code of the element use.
-const USE: u8 = 52;
-
 // The element that a link leads to: the first with that id.
 pub fn linked(script: &[u8], characters: &[u8], link: Part) -> Node
     requires { ⌜ length (now script) ≤ 1048576 ⌝ }
@@ -323,26 +321,12 @@ fn number_of(script: &[u8], node: Node) -> usize
     }
 }
 
-// Is the element a use in the SVG namespace that leads to the element numbered n or m?
-fn leads_to(
-    script: &[u8],
-    characters: &[u8],
-    name: u8,
-    space: u8,
-    inside: Cursor,
-    n: usize,
-    m: usize,
-) -> bool
+// Does the use, whose inside begins at the cursor, lead to the element numbered n or m?
+fn leads_to(script: &[u8], characters: &[u8], inside: Cursor, n: usize, m: usize) -> bool
     requires { ⌜ Fit (now script) inside ⌝ }
-    ensures { λ r. ⌜ ((e : Element) → e .attributes ≡ attributesIn (now (script .entry)) (now (characters .entry)) inside → e .code ≡ name → e .namespace ≡ space
-        → r ≡ and (and (eqb (e .code) EId.Use) (eqb (e .namespace) 1)) (among (numberOf (linkedBy (events (now (script .entry)) (now (characters .entry))) (useHref e))) (n ∷ m ∷ []))) ⌝ }
+    ensures { λ r. ⌜ ((e : Element) → e .attributes ≡ attributesIn (now (script .entry)) (now (characters .entry)) inside
+        → r ≡ among (numberOf (linkedBy (events (now (script .entry)) (now (characters .entry))) (useHref e))) (n ∷ m ∷ [])) ⌝ }
 {
-    if name != USE {
-        return false;
-    }
-    if space != 1 {
-        return false;
-    }
     let k = number_of(script, linked(script, characters, use_href(script, inside)));
     if k == n {
         return true;
@@ -356,33 +340,20 @@ fn leads_to(
 // Does a use inside the element, whose inside begins at the cursor, lead to the element numbered n or m?
 pub fn leads_back(script: &[u8], characters: &[u8], from: Cursor, n: usize, m: usize) -> bool
     requires { ⌜ Fit (now script) from ⌝ }
-    ensures { λ r. ⌜ r ≡ leadsBack (events (now (script .entry)) (now (characters .entry))) n m (elementsIn 0 (eventsAt (now (script .entry)) (now (characters .entry)) from)) ⌝ }
+    ensures { λ r. ⌜ r ≡ leadsBack (events (now (script .entry)) (now (characters .entry))) n m (usesIn 0 (eventsAt (now (script .entry)) (now (characters .entry)) from)) ⌝ }
 {
     let mut c = from;
     let mut level: usize = 0;
     loop {
-        match next_item(script, c) {
-            Item::Begin(_, name, space, inside) => {
-                if leads_to(script, characters, name, space, inside, n, m) {
+        match next_use(script, c, level) {
+            UseIn::At(_, inside, open_elements) => {
+                if leads_to(script, characters, inside, n, m) {
                     return true;
                 }
-                level += 1;
+                level = open_elements;
                 c = inside;
             }
-            Item::Text(_, _, next) => {
-                c = next;
-            }
-            Item::Other(next) => {
-                c = next;
-            }
-            Item::Close(next) => {
-                if level == 0 {
-                    return false;
-                }
-                level -= 1;
-                c = next;
-            }
-            Item::End => {
+            UseIn::End => {
                 return false;
             }
         }

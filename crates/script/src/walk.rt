@@ -1,12 +1,16 @@
 // Walks over a drawing. A node is a cursor at its own command; the inside of an element begins behind its open.
 use super::cursor::Cursor;
 use super::cursor::Step;
+use names::eid;
 ghost use mathlib.Core.Path.{_≡_};
 ghost use mathlib.Core.List.{List};
 ghost use Prim.Native.Nat.{ℕ, _≤_};
-ghost use Rattle.model.specs.Drawing.{attributesAt, declarationsAt, readingsAt, textsIn};
+ghost use lib.Dec.{eqb};
+ghost use Rattle.model.specs.Base.{and};
+ghost use Rattle.model.specs.EId;
+ghost use Rattle.model.specs.Drawing.{attributesAt, declarationsAt, readingsAt, textsIn, usesIn};
 ghost use Rattle.script.specs.Step.{Fit, commandsAt, markOf};
-ghost use Rattle.script.specs.Walk.{eventsAt, leave, eventsOf, ItemFit, attributesOf, AttrFit, declarationsOf, readingsOf, ReadFit, sourcesOf, TextFit};
+ghost use Rattle.script.specs.Walk.{eventsAt, leave, eventsOf, ItemFit, attributesOf, AttrFit, declarationsOf, readingsOf, ReadFit, sourcesOf, TextFit, usesOf, UseFit};
 
 // The next node inside an element: its own place, what its command says, and the cursor behind the command.
 pub enum Item {
@@ -220,6 +224,63 @@ pub fn next_text(script: &[u8], from: Cursor, open_elements: usize) -> TextIn
             }
             Item::End => {
                 return TextIn::End;
+            }
+        }
+    }
+}
+
+// The code of the element use.
+const USE: u8 = eid::USE as u8;
+
+// Is it the name of a use in the SVG namespace?
+fn is_use(name: u8, space: u8) -> bool
+    ensures { λ r. ⌜ r ≡ and (eqb name EId.Use) (eqb space 1) ⌝ }
+{
+    if name != USE {
+        return false;
+    }
+    space == 1
+}
+
+// The next use in the SVG namespace inside an element, at any depth: its own place, the cursor inside it, and how many elements are open there, itself among them.
+pub enum UseIn {
+    At(Cursor, Cursor, usize),
+    End,
+}
+
+// The next use from the cursor on, with that many elements open inside the element that is walked.
+pub fn next_use(script: &[u8], from: Cursor, open_elements: usize) -> UseIn
+    requires { ⌜ Fit (now script) from ⌝ }
+    requires { ⌜ open_elements ≤ from .at ⌝ }
+    ensures same { λ r. ⌜ ((chars : List ℕ) → usesOf (now (script .entry)) chars r ≡ usesIn open_elements (eventsAt (now (script .entry)) chars from)) ⌝ }
+    ensures fit { λ r. ⌜ UseFit (now (script .entry)) from r ⌝ }
+{
+    let mut c = from;
+    let mut level = open_elements;
+    loop {
+        match next_item(script, c) {
+            Item::Begin(own, name, space, n) => {
+                level += 1;
+                if is_use(name, space) {
+                    return UseIn::At(own, n, level);
+                }
+                c = n;
+            }
+            Item::Text(_, _, n) => {
+                c = n;
+            }
+            Item::Other(n) => {
+                c = n;
+            }
+            Item::Close(n) => {
+                if level == 0 {
+                    return UseIn::End;
+                }
+                level -= 1;
+                c = n;
+            }
+            Item::End => {
+                return UseIn::End;
             }
         }
     }

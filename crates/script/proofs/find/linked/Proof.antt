@@ -3,7 +3,7 @@ use Prim.Native.Nat.{_-_}
 use lib.ListN.{length}
 use Rattle.model.specs.Drawing.{events}
 use Rattle.script.specs.Find.{nodeOf}
-use Rattle.script.proofs.Search.{linked-at, linked-nowhere, part-fit}
+use Rattle.script.proofs.Search.{linked-at, part-fit}
 use borrow.Author.Needs.{needs}
 use Rattle.script.proofs.find.linked.Statement.{statement}
 use Rattle.script.proofs.find.linked.Tie as tie
