@@ -5,7 +5,7 @@ use mathlib.Core.Bool.{Bool, true, false}
 use Prim.Native.Nat.{ℕ, zero, suc, _+_, _-_, _<_, _≤_}
 use native.Mathlib.Omega.{arith}
 use borrow.Author.Count.{below-more}
-use borrow.Author.Tests.{eqb-true, eq-eqb}
+use borrow.Author.Tests.{eqb-true, eqb-false, eq-eqb}
 use lib.Dec.{eqb}
 use lib.ListN.{length, getD, drop, length-drop}
 use lib.Seq.{drop-drop, getD-drop}
@@ -52,6 +52,17 @@ module _ (s : List ℕ) (i : ℕ) (h : i < length s) where
 pub reach-all : (s : List ℕ) (a i : ℕ) → Reach s a i → length s ≤ i → true ≡ isUtf8From 0 (drop a s)
 unfolding isUtf8
 reach-all s a i r h = read-all (drop i s) 0 (read-none (drop i s)) (omega (arith, length-drop i s)) ∙ r .same
+
+-- Where the reading stopped tells whether the string is UTF-8.
+pub reach-end : (s : List ℕ) (a i : ℕ) → Reach s a i → (i < length s → isUtf8From 0 (drop i s) ≡ false) → eqb i (length s) ≡ isUtf8From 0 (drop a s)
+reach-end s a i r f = go (eqb i (length s)) refl
+  where
+    go : (t : Bool) → eqb i (length s) ≡ t → t ≡ isUtf8From 0 (drop a s)
+    go true e = reach-all s a i r (omega (arith, eqb-true i (length s) e))
+    go false e =
+        let d : i ≡ length s → ⊥ = eqb-false i (length s) e in
+        let w : i ≤ length s = r .within in
+        sym (f (omega arith)) ∙ r .same
 
 -- A block of ASCII is read at once.
 pub reach-block : (s : List ℕ) (i n : ℕ) → i + n ≤ length s → Ascii s i n → Reach s i (i + n)

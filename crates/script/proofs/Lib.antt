@@ -1,5 +1,6 @@
 pub mod Sequence
 pub mod Ascii
+pub mod Blocks
 pub mod Commands
 pub mod Mask
 pub mod Parts

@@ -14,6 +14,7 @@ use lib.Seq.{drop-cons, drop-drop, length-take-le}
 use Rattle.model.specs.Base.{pick, and, or}
 use Rattle.model.specs.Utf8.{Range, _to_, isWithin, wellFormed, begins, sequenceOf, isUtf8, isUtf8From}
 use Rattle.script.specs.Lead.{lengthOf, secondOf, restOf}
+use Rattle.script.proofs.Parts.{and-left, and-right}
 
 -- A row, its first range apart.
 record Row : Type 0 where
@@ -62,15 +63,6 @@ by-first b bs (r ∷ rs) = go (isWithin b (r .lead)) (by-first b bs rs)
     go false e = e
 
 -- TESTS OVER ALL BYTES
-
-pub and-left : (a b : Bool) → and a b ≡ true → a ≡ true
-and-left true b e = refl
-and-left false b e = e
-
-pub and-right : (a b : Bool) → and a b ≡ true → b ≡ true
-and-right true b e = e
-and-right false true e = refl
-and-right false false e = e
 
 -- Does the test hold of every number below n?
 abbrev pub allBelow : ℕ → (ℕ → Bool) → Bool
@@ -185,7 +177,7 @@ sequence-is b bs h =
     go zero e = refl
     go (suc n) e = ap (λ m. pick (begins (restOf (suc n) b) bs) (λ u. suc m) (λ u. 0)) (length-is n b (omega arith))
 
-length-most : (b : ℕ) → b < 256 → lengthOf b ≤ 4
+pub length-most : (b : ℕ) → b < 256 → lengthOf b ≤ 4
 unfolding sized
 length-most b h = leb-true (lengthOf b) 4 (below 256 sized all-sized b h)
 

@@ -4,7 +4,7 @@ ghost use mathlib.Core.Bool.{true, false};
 ghost use Prim.Native.Nat.{ℕ, _+_, _<_, _≤_};
 ghost use lib.ListN.{length, drop, getD};
 ghost use Rattle.model.specs.Utf8.{_to_, isWithin, sequenceOf, wellFormed, isUtf8, isUtf8From};
-ghost use Rattle.script.specs.Lead.{lengthOf, secondOf};
+ghost use Rattle.script.specs.Lead.{lengthOf, secondOf, never, leftOut, misplaced, misplacedOfTwo, misplacedIn, misplacedOfTwoIn, begunAt};
 
 // Is the byte in a range?
 fn is_within(b: u8, least: u8, greatest: u8) -> bool
@@ -218,24 +218,177 @@ fn past_sequences(s: &[u8], from: usize, stop: usize) -> usize
     i
 }
 
-// Is the string UTF-8 from a place on? Blocks of ASCII, 16 bytes sequence by sequence, and so on.
-fn is_utf8_from(s: &[u8], start: usize) -> bool
-    requires { ⌜ start ≤ length (now s) ⌝ }
-    ensures { λ r. ⌜ r ≡ isUtf8From 0 (drop start (now (s .entry))) ⌝ }
+// Has the byte its place behind the first one of a sequence?
+fn is_further(b: u8) -> bool
+    ensures { λ r. ⌜ r ≡ isWithin b (0x80 to 0xBF) ⌝ }
 {
-    let mut i = start;
-    while i < s.len() {
-        let from = past_ascii(s, i);
-        let mut stop = s.len();
-        if 16 < stop - from {
-            stop = from + 16;
+    (0x80 <= b) & (b <= 0xBF)
+}
+
+// Has the byte no place at all?
+fn is_never(b: u8) -> bool
+    ensures { λ r. ⌜ r ≡ never b ⌝ }
+{
+    ((b == 0xC0) | (b == 0xC1)) | (0xF4 < b)
+}
+
+// Does the byte make, behind that first one, an overlong form, a surrogate or a number past U+10FFFF?
+fn is_left_out(first: u8, b: u8) -> bool
+    ensures { λ r. ⌜ r ≡ leftOut first b ⌝ }
+{
+    (((first == 0xE0) & (b < 0xA0)) | ((first == 0xED) & (0x9F < b)))
+        | (((first == 0xF0) & (b < 0x90)) | ((first == 0xF4) & (0x8F < b)))
+}
+
+// Is the byte out of place behind the three before it? There is no branch here nor in what it calls: the compiler makes vector
+// instructions of a loop over it.
+fn is_misplaced(p3: u8, p2: u8, p1: u8, b: u8) -> bool
+    ensures { λ r. ⌜ r ≡ misplaced p3 p2 p1 b ⌝ }
+{
+    let goes_on = (0xC0 <= p1) | ((0xE0 <= p2) | (0xF0 <= p3));
+    ((is_further(b) != goes_on) | is_never(b)) | is_left_out(p1, b)
+}
+
+// Is the byte out of place behind the one before it, where every sequence has one byte or two?
+fn is_misplaced_of_two(p: u8, b: u8) -> bool
+    ensures { λ r. ⌜ r ≡ misplacedOfTwo p b ⌝ }
+{
+    ((is_further(b) != (0xC0 <= p)) | (0xE0 <= b)) | ((b == 0xC0) | (b == 0xC1))
+}
+// How many bytes of a sequence that goes on stand at the end of the three bytes from a on.
+fn begun_at(s: &[u8], a: usize) -> usize
+    requires { ⌜ a + 3 ≤ length (now s) ⌝ }
+    ensures { λ r. ⌜ r ≡ begunAt (now (s .entry)) a ⌝ }
+{
+    if 0xC0 <= s[a + 2] {
+        return 1;
+    }
+    if 0xE0 <= s[a + 1] {
+        return 2;
+    }
+    if 0xF0 <= s[a] {
+        return 3;
+    }
+    0
+}
+
+// Is one of so many bytes behind the three from a on out of place?
+fn has_misplaced(s: &[u8], a: usize, size: usize) -> bool
+    requires { ⌜ a + 3 + size ≤ length (now s) ⌝ }
+    ensures { λ r. ⌜ r ≡ misplacedIn (now (s .entry)) a size ⌝ }
+{
+    let mut found = false;
+    let mut j = 0;
+    while j < size {
+        found = found | is_misplaced(s[a + j], s[a + j + 1], s[a + j + 2], s[a + j + 3]);
+        j += 1;
+    }
+    found
+}
+
+// The same where every sequence has one byte or two.
+fn has_misplaced_of_two(s: &[u8], a: usize, size: usize) -> bool
+    requires { ⌜ a + 3 + size ≤ length (now s) ⌝ }
+    ensures { λ r. ⌜ r ≡ misplacedOfTwoIn (now (s .entry)) a size ⌝ }
+{
+    let mut found = false;
+    let mut j = 0;
+    while j < size {
+        found = found | is_misplaced_of_two(s[a + j + 2], s[a + j + 3]);
+        j += 1;
+    }
+    found
+}
+
+// The place behind the 32 bytes from i on, or before a sequence that goes on behind them; i where they do not tell.
+fn past_block(s: &[u8], i: usize) -> usize
+    requires { ⌜ (3 ≤ i) × (i + 32 ≤ length (now s)) ⌝ }
+    ensures { λ r. ⌜ (i ≤ r) × (r ≤ length (now (s .entry)))
+        × (isUtf8From 0 (drop r (now (s .entry))) ≡ isUtf8From 0 (drop i (now (s .entry)))) ⌝ }
+{
+    if is_ascii(s, i, 32) {
+        return i + 32;
+    }
+    if 0 < begun_at(s, i - 3) {
+        return i;
+    }
+    if has_misplaced_of_two(s, i - 3, 32) {
+        if has_misplaced(s, i - 3, 32) {
+            return i;
         }
-        i = past_sequences(s, from, stop);
-        if i < stop {
+    }
+    i + 32 - begun_at(s, i + 29)
+}
+
+// The same of all that is left, fewer than 32 bytes: of the last 32 some were read before.
+fn past_last(s: &[u8], i: usize) -> usize
+    requires { ⌜ (3 ≤ i) × (i ≤ length (now s)) × (35 ≤ length (now s)) × (length (now s) ≤ i + 32) ⌝ }
+    ensures { λ r. ⌜ (r ≤ length (now (s .entry)))
+        × (isUtf8From 0 (drop r (now (s .entry))) ≡ isUtf8From 0 (drop i (now (s .entry)))) ⌝ }
+{
+    if 0 < begun_at(s, i - 3) {
+        return i;
+    }
+    if has_misplaced(s, s.len() - 35, 32) {
+        return i;
+    }
+    s.len() - begun_at(s, s.len() - 3)
+}
+
+// The place behind the blocks from a place on, where none of them has a byte out of place.
+fn past_blocks(s: &[u8], from: usize) -> usize
+    requires { ⌜ (3 ≤ from) × (from ≤ length (now s)) × (35 ≤ length (now s)) ⌝ }
+    ensures { λ r. ⌜ (r ≤ length (now (s .entry)))
+        × (isUtf8From 0 (drop r (now (s .entry))) ≡ isUtf8From 0 (drop from (now (s .entry)))) ⌝ }
+{
+    let mut i = from;
+    while 32 <= s.len() - i {
+        let next = past_block(s, i);
+        if next == i {
+            return i;
+        }
+        i = next;
+    }
+    past_last(s, i)
+}
+
+// Is the string UTF-8 from a place on, sequence by sequence?
+fn are_sequences(s: &[u8], from: usize) -> bool
+    requires { ⌜ from ≤ length (now s) ⌝ }
+    ensures { λ r. ⌜ r ≡ isUtf8From 0 (drop from (now (s .entry))) ⌝ }
+{
+    past_sequences(s, from, s.len()) == s.len()
+}
+
+// Is a long string UTF-8 from a place on? Blocks first, and what they leave sequence by sequence. The first three bytes have
+// too few before them.
+fn are_blocks(s: &[u8], from: usize) -> bool
+    requires { ⌜ (from ≤ length (now s)) × (35 ≤ length (now s)) ⌝ }
+    ensures { λ r. ⌜ r ≡ isUtf8From 0 (drop from (now (s .entry))) ⌝ }
+{
+    let mut i = from;
+    if i < 3 {
+        i = past_sequences(s, from, 3);
+        if i < 3 {
             return false;
         }
     }
-    true
+    are_sequences(s, past_blocks(s, i))
+}
+
+// Is the string UTF-8 from a place on? Blocks of ASCII first.
+fn is_utf8_from(s: &[u8], from: usize) -> bool
+    requires { ⌜ from ≤ length (now s) ⌝ }
+    ensures { λ r. ⌜ r ≡ isUtf8From 0 (drop from (now (s .entry))) ⌝ }
+{
+    let i = past_ascii(s, from);
+    if i == s.len() {
+        return true;
+    }
+    if s.len() < 35 {
+        return are_sequences(s, i);
+    }
+    are_blocks(s, i)
 }
 
 // Is the string UTF-8? A short one is read here as far as it is ASCII, to be quick.

@@ -1,0 +1,18 @@
+use Rattle.script.proofs.Ascii.{reach-end}
+use borrow.Author.Needs.{needs}
+use Rattle.script.proofs.utf8.are_sequences.Statement.{statement}
+use Rattle.script.proofs.utf8.are_sequences.Tie as tie
+use Rattle.script.proofs.utf8.are_sequences.Reads as reads
+use Rattle.script.proofs.utf8.are_sequences.Lts as lts
+use Rattle.script.proofs.utf8.past_sequences.Reads as past-sequences-reads
+
+-- src/utf8.rt:360:5
+past-sequences-requires : tie.Need-past-sequences-requires
+past-sequences-requires c κs = search needs
+
+-- src/utf8.rt:356:1
+returns : tie.Need-returns
+returns c = reach-end (c .before .before .args .s .now) (c .before .before .args .from) (c .past-sequences .result) (record { within = c .past-sequences .ensures .0; same = c .past-sequences .ensures .1 }) (c .past-sequences .ensures .2)
+
+pub are-sequences-spec : {M : Type 1} → statement M
+are-sequences-spec = tie.close (tie.spec past-sequences-requires returns)

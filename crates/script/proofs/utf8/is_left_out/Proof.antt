@@ -1,0 +1,12 @@
+use mathlib.Core.Path.{refl}
+use Rattle.script.proofs.utf8.is_left_out.Statement.{statement}
+use Rattle.script.proofs.utf8.is_left_out.Tie as tie
+use Rattle.script.proofs.utf8.is_left_out.Reads as reads
+use Rattle.script.proofs.utf8.is_left_out.Lts as lts
+
+-- src/utf8.rt:236:1
+returns : tie.Need-returns
+returns c = refl
+
+pub is-left-out-spec : {M : Type 1} → statement M
+is-left-out-spec = tie.close (tie.spec returns)

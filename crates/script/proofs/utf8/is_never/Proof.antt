@@ -1,0 +1,12 @@
+use mathlib.Core.Path.{refl}
+use Rattle.script.proofs.utf8.is_never.Statement.{statement}
+use Rattle.script.proofs.utf8.is_never.Tie as tie
+use Rattle.script.proofs.utf8.is_never.Reads as reads
+use Rattle.script.proofs.utf8.is_never.Lts as lts
+
+-- src/utf8.rt:229:1
+returns : tie.Need-returns
+returns c = refl
+
+pub is-never-spec : {M : Type 1} → statement M
+is-never-spec = tie.close (tie.spec returns)
