@@ -177,6 +177,11 @@ fn kinds(see: See) {
     }
 }
 
+/// First bytes and others at the edges of UTF-8.
+const LEADS: [u8; 18] =
+    [0x7f, 0x80, 0xc1, 0xc2, 0xdf, 0xe0, 0xe1, 0xec, 0xed, 0xee, 0xef, 0xf0, 0xf1, 0xf3, 0xf4, 0xf5, 0xf8, 0xff];
+const OTHERS: [u8; 12] = [0x00, 0x7f, 0x80, 0x81, 0x8f, 0x90, 0x9f, 0xa0, 0xbf, 0xc0, 0xe0, 0xff];
+
 /// Strings of up to two bytes, all of them, and of three to five bytes at the edges of UTF-8.
 fn utf8(see: See) {
     let mut show = |text: &[u8]| {
@@ -187,15 +192,45 @@ fn utf8(see: See) {
         show(&[a]);
         (0..=255).for_each(|b| show(&[a, b]));
     }
-    let leads = [0x7f, 0x80, 0xc1, 0xc2, 0xdf, 0xe0, 0xe1, 0xec, 0xed, 0xee, 0xef, 0xf0, 0xf1, 0xf3, 0xf4, 0xf5, 0xf8, 0xff];
-    let others = [0x00, 0x7f, 0x80, 0x81, 0x8f, 0x90, 0x9f, 0xa0, 0xbf, 0xc0, 0xe0, 0xff];
-    for a in leads {
-        for b in others {
-            for c in others {
+    for a in LEADS {
+        for b in OTHERS {
+            for c in OTHERS {
                 show(&[a, b, c]);
-                for d in others {
+                for d in OTHERS {
                     show(&[a, b, c, d]);
-                    others.iter().for_each(|&e| show(&[a, b, c, d, e]));
+                    OTHERS.iter().for_each(|&e| show(&[a, b, c, d, e]));
+                }
+            }
+        }
+    }
+}
+
+/// Long strings of letters of one length and of all lengths: each of them begun and cut at every byte, with every byte
+/// changed, and with three bytes at the edges of UTF-8 put in around the places where a block of 32 may begin.
+fn long_utf8(see: See) {
+    let mut show = |text: &[u8]| {
+        let d = one_text(text);
+        see(&d.script, &d.characters);
+    };
+    for letters in ["a", "é", "工", "😀", "aé工😀", "abcdefghijklmnopqrstuvwxyz, abcdefghijklmnopqrstuvwxyz é"] {
+        let whole = letters.repeat(107 / letters.len() + 1).into_bytes();
+        for at in 0..=whole.len() {
+            show(&whole[..at]);
+            show(&whole[at..]);
+        }
+        for at in 0..whole.len() {
+            let mut changed = whole.clone();
+            for b in LEADS.into_iter().chain(OTHERS) {
+                changed[at] = b;
+                show(&changed);
+            }
+        }
+        for at in [0, 1, 2, 3, 28, 29, 30, 31, 32, 33, 34, 35, 36, 63, 64, 65, whole.len() - 2, whole.len() - 1, whole.len()] {
+            for a in LEADS {
+                for b in OTHERS {
+                    for c in OTHERS {
+                        show(&[&whole[..at], &[a, b, c], &whole[at..]].concat());
+                    }
                 }
             }
         }
@@ -213,6 +248,7 @@ pub fn drawings(see: See) {
     orders(see);
     kinds(see);
     utf8(see);
+    long_utf8(see);
 }
 
 /// A small tree as build leaves it: elements, texts, names of every class, a fixed value; and an entry in no range.
