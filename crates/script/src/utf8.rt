@@ -240,8 +240,8 @@ fn is_left_out(first: u8, b: u8) -> bool
         | (((first == 0xF0) & (b < 0x90)) | ((first == 0xF4) & (0x8F < b)))
 }
 
-// Is the byte out of place behind the three before it? There is no branch here nor in what it calls: the compiler makes vector
-// instructions of a loop over it.
+// Is the byte out of place behind the three before it, of which p1 is the last? There is no branch here nor in what it calls:
+// the compiler makes vector instructions of a loop over it.
 fn is_misplaced(p3: u8, p2: u8, p1: u8, b: u8) -> bool
     ensures { λ r. ⌜ r ≡ misplaced p3 p2 p1 b ⌝ }
 {
@@ -255,6 +255,7 @@ fn is_misplaced_of_two(p: u8, b: u8) -> bool
 {
     ((is_further(b) != (0xC0 <= p)) | (0xE0 <= b)) | ((b == 0xC0) | (b == 0xC1))
 }
+
 // How many bytes of a sequence that goes on stand at the end of the three bytes from a on.
 fn begun_at(s: &[u8], a: usize) -> usize
     requires { ⌜ a + 3 ≤ length (now s) ⌝ }
@@ -320,7 +321,7 @@ fn past_block(s: &[u8], i: usize) -> usize
     i + 32 - begun_at(s, i + 29)
 }
 
-// The same of all that is left, fewer than 32 bytes: of the last 32 some were read before.
+// The same of all that is left, at most 32 bytes: of the last 32 some were read before.
 fn past_last(s: &[u8], i: usize) -> usize
     requires { ⌜ (3 ≤ i) × (i ≤ length (now s)) × (35 ≤ length (now s)) × (length (now s) ≤ i + 32) ⌝ }
     ensures { λ r. ⌜ (r ≤ length (now (s .entry)))

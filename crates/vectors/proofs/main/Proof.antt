@@ -14,35 +14,27 @@ Inv-loop n i₀ i = i ≤ n
 abbrev μ-loop : tie.MeasureT-loop
 μ-loop n i₀ i = n - i
 
--- src/main.rt:20:9
 number-requires : tie.Need-number-requires Inv-loop μ-loop
 number-requires c κs = search needs
 
--- src/main.rt:22:5
 loop-holds : tie.Need-loop-holds Inv-loop μ-loop
 loop-holds c = omega arith
 
--- src/main.rt:23:20
 number-requires-2 : tie.Need-number-requires-2 Inv-loop μ-loop
 number-requires-2 c κs = search needs
 
--- src/main.rt:23:9
 run-vector-requires : tie.Need-run-vector-requires Inv-loop μ-loop
 run-vector-requires c κs = search needs
 
--- src/main.rt:24:9
 add-i : tie.Need-add-i Inv-loop μ-loop
 add-i c = omega arith
 
--- src/main.rt:22:5
 loop-less : tie.Need-loop-less Inv-loop μ-loop
 loop-less c = omega arith
 
--- src/main.rt:22:5
 loop-again : tie.Need-loop-again Inv-loop μ-loop
 loop-again c = omega arith
 
--- src/main.rt:19:1
 returns : tie.Need-returns Inv-loop μ-loop
 returns c = search needs
 

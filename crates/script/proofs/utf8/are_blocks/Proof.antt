@@ -13,23 +13,18 @@ use Rattle.script.proofs.utf8.are_sequences.Reads as are-sequences-read
 use Rattle.script.proofs.utf8.past_blocks.Reads as past-blocks-reads
 use Rattle.script.proofs.utf8.past_sequences.Reads as past-sequences-reads
 
--- src/utf8.rt:371:9
 past-sequences-requires : tie.Need-past-sequences-requires
 past-sequences-requires c κs = search needs
 
--- src/utf8.rt:373:13
 returns : tie.Need-returns
 returns c = sym (c .before .past-sequences .ensures .2 (c .if2 .taken)) ∙ c .before .past-sequences .ensures .1
 
--- src/utf8.rt:376:22
 past-blocks-requires : tie.Need-past-blocks-requires
 past-blocks-requires c κs = ⊎-elim (λ w. (omega arith, omega arith, omega arith)) (λ w. (omega arith, omega arith, omega arith)) (c .if1 .came)
 
--- src/utf8.rt:376:5
 are-sequences-requires : tie.Need-are-sequences-requires
 are-sequences-requires c κs = search needs
 
--- src/utf8.rt:365:1
 returns-2 : tie.Need-returns-2
 returns-2 c = c .are-sequences .ensures ∙ (c .before .past-blocks .ensures .1 ∙ ⊎-elim (λ w. ap (λ j. isUtf8From 0 (drop j (c .before .before .before .before .args .s .now))) (w .3) ∙ w .1 .ensures .1) (λ w. ap (λ j. isUtf8From 0 (drop j (c .before .before .before .before .args .s .now))) (w .1)) (c .before .before .if1 .came))
 

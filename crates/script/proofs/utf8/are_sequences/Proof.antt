@@ -6,11 +6,9 @@ use Rattle.script.proofs.utf8.are_sequences.Reads as reads
 use Rattle.script.proofs.utf8.are_sequences.Lts as lts
 use Rattle.script.proofs.utf8.past_sequences.Reads as past-sequences-reads
 
--- src/utf8.rt:360:5
 past-sequences-requires : tie.Need-past-sequences-requires
 past-sequences-requires c κs = search needs
 
--- src/utf8.rt:356:1
 returns : tie.Need-returns
 returns c = reach-end (c .before .before .args .s .now) (c .before .before .args .from) (c .past-sequences .result) (record { within = c .past-sequences .ensures .0; same = c .past-sequences .ensures .1 }) (c .past-sequences .ensures .2)
 

@@ -11,67 +11,51 @@ use Rattle.script.proofs.utf8.four_at.Lts as lts
 use Rattle.script.proofs.utf8.is_second_of_four.Reads as is-second-of-four-reads
 use Rattle.script.proofs.utf8.is_within.Reads as is-within-reads
 
--- src/utf8.rt:83:8
 sub-if1 : tie.Need-sub-if1
 sub-if1 c = search needs
 
--- src/utf8.rt:84:9
 returns : tie.Need-returns
 returns c = cut (c .before .before .args .s .now) (c .before .before .args .i) 4 (c .before .before .pre .0) (first-most (getD (c .before .before .args .s .now) (c .before .before .args .i) 0) 3 (c .before .before .pre .1)) (sym (c .before .before .pre .1)) (omega arith)
 
--- src/utf8.rt:86:27
 shared-slice-read-is-second-of-four : tie.Need-shared-slice-read-is-second-of-four
 shared-slice-read-is-second-of-four c = search needs
 
--- src/utf8.rt:86:35
 add-is-second-of-four : tie.Need-add-is-second-of-four
 add-is-second-of-four c = search needs
 
--- src/utf8.rt:86:33
 shared-slice-read-is-second-of-four-2 : tie.Need-shared-slice-read-is-second-of-four-2
 shared-slice-read-is-second-of-four-2 c = search needs
 
--- src/utf8.rt:86:9
 is-second-of-four-requires : tie.Need-is-second-of-four-requires
 is-second-of-four-requires c κs = search needs
 
--- src/utf8.rt:87:9
 returns-2 : tie.Need-returns-2
 returns-2 c = bad-second (c .before .before .before .before .before .before .args .s .now) (c .before .before .before .before .before .before .args .i) 4 (c .before .before .before .before .before .before .pre .0) (first-most (getD (c .before .before .before .before .before .before .args .s .now) (c .before .before .before .before .before .before .args .i) 0) 3 (c .before .before .before .before .before .before .pre .1)) (sym (c .before .before .before .before .before .before .pre .1)) (omega arith) (omega arith) (sym (c .before .is-second-of-four .ensures) ∙ not-true _ (c .if2 .taken))
 
--- src/utf8.rt:89:21
 add-is-within : tie.Need-add-is-within
 add-is-within c = search needs
 
--- src/utf8.rt:89:19
 shared-slice-read-is-within : tie.Need-shared-slice-read-is-within
 shared-slice-read-is-within c = search needs
 
--- src/utf8.rt:89:9
 is-within-requires : tie.Need-is-within-requires
 is-within-requires c κs = search needs
 
--- src/utf8.rt:90:9
 returns-3 : tie.Need-returns-3
 returns-3 c = bad-third (c .before .before .before .before .before .before .before .before .before .args .s .now) (c .before .before .before .before .before .before .before .before .before .args .i) 4 (c .before .before .before .before .before .before .before .before .before .pre .0) (first-most (getD (c .before .before .before .before .before .before .before .before .before .args .s .now) (c .before .before .before .before .before .before .before .before .before .args .i) 0) 3 (c .before .before .before .before .before .before .before .before .before .pre .1)) (sym (c .before .before .before .before .before .before .before .before .before .pre .1)) (record { room = omega arith; size = omega arith; fits = sym (c .before .before .before .before .is-second-of-four .ensures) ∙ not-false _ (c .before .before .before .if2 .left) }) (omega arith) (sym (c .before .is-within .ensures) ∙ not-true _ (c .if3 .taken))
 
--- src/utf8.rt:92:21
 add-is-within-2 : tie.Need-add-is-within-2
 add-is-within-2 c = search needs
 
--- src/utf8.rt:92:19
 shared-slice-read-is-within-2 : tie.Need-shared-slice-read-is-within-2
 shared-slice-read-is-within-2 c = search needs
 
--- src/utf8.rt:92:9
 is-within-requires-2 : tie.Need-is-within-requires-2
 is-within-requires-2 c κs = search needs
 
--- src/utf8.rt:93:9
 returns-4 : tie.Need-returns-4
 returns-4 c = bad-fourth (c .before .before .before .before .before .before .before .before .before .before .before .before .args .s .now) (c .before .before .before .before .before .before .before .before .before .before .before .before .args .i) 4 (c .before .before .before .before .before .before .before .before .before .before .before .before .pre .0) (first-most (getD (c .before .before .before .before .before .before .before .before .before .before .before .before .args .s .now) (c .before .before .before .before .before .before .before .before .before .before .before .before .args .i) 0) 3 (c .before .before .before .before .before .before .before .before .before .before .before .before .pre .1)) (sym (c .before .before .before .before .before .before .before .before .before .before .before .before .pre .1)) (record { second = (record { room = omega arith; size = omega arith; fits = sym (c .before .before .before .before .before .before .before .is-second-of-four .ensures) ∙ not-false _ (c .before .before .before .before .before .before .if2 .left) }); size = omega arith; fits = sym (c .before .before .before .before .is-within .ensures) ∙ not-false _ (c .before .before .before .if3 .left) }) (omega arith) (sym (c .before .is-within2 .ensures) ∙ not-true _ (c .if4 .taken))
 
--- src/utf8.rt:78:1
 returns-5 : tie.Need-returns-5
 returns-5 c = four (c .before .before .before .before .before .before .before .before .before .before .before .before .args .s .now) (c .before .before .before .before .before .before .before .before .before .before .before .before .args .i) 4 (c .before .before .before .before .before .before .before .before .before .before .before .before .pre .0) (first-most (getD (c .before .before .before .before .before .before .before .before .before .before .before .before .args .s .now) (c .before .before .before .before .before .before .before .before .before .before .before .before .args .i) 0) 3 (c .before .before .before .before .before .before .before .before .before .before .before .before .pre .1)) (sym (c .before .before .before .before .before .before .before .before .before .before .before .before .pre .1)) (record { third = (record { second = (record { room = omega arith; size = omega arith; fits = sym (c .before .before .before .before .before .before .before .is-second-of-four .ensures) ∙ not-false _ (c .before .before .before .before .before .before .if2 .left) }); size = omega arith; fits = sym (c .before .before .before .before .is-within .ensures) ∙ not-false _ (c .before .before .before .if3 .left) }); size = omega arith; fits = sym (c .before .is-within2 .ensures) ∙ not-false _ (c .if4 .left) })
 

@@ -17,72 +17,55 @@ Inv-loop s a size found₀ j₀ found j = (j ≤ size) × (found ≡ misplacedIn
 abbrev μ-loop : tie.MeasureT-loop
 μ-loop s a size found₀ j₀ found j = size - j
 
--- src/utf8.rt:282:5
 loop-holds : tie.Need-loop-holds Inv-loop μ-loop
 unfolding anyBelow
 loop-holds c = (omega arith, refl)
 
--- src/utf8.rt:283:40
 add-is-misplaced : tie.Need-add-is-misplaced Inv-loop μ-loop
 add-is-misplaced c = search needs
 
--- src/utf8.rt:283:38
 shared-slice-read-is-misplaced : tie.Need-shared-slice-read-is-misplaced Inv-loop μ-loop
 shared-slice-read-is-misplaced c = search needs
 
--- src/utf8.rt:283:50
 add-is-misplaced-2 : tie.Need-add-is-misplaced-2 Inv-loop μ-loop
 add-is-misplaced-2 c = search needs
 
--- src/utf8.rt:283:50
 add-is-misplaced-3 : tie.Need-add-is-misplaced-3 Inv-loop μ-loop
 add-is-misplaced-3 c = search needs
 
--- src/utf8.rt:283:48
 shared-slice-read-is-misplaced-2 : tie.Need-shared-slice-read-is-misplaced-2 Inv-loop μ-loop
 shared-slice-read-is-misplaced-2 c = search needs
 
--- src/utf8.rt:283:64
 add-is-misplaced-4 : tie.Need-add-is-misplaced-4 Inv-loop μ-loop
 add-is-misplaced-4 c = search needs
 
--- src/utf8.rt:283:64
 add-is-misplaced-5 : tie.Need-add-is-misplaced-5 Inv-loop μ-loop
 add-is-misplaced-5 c = search needs
 
--- src/utf8.rt:283:62
 shared-slice-read-is-misplaced-3 : tie.Need-shared-slice-read-is-misplaced-3 Inv-loop μ-loop
 shared-slice-read-is-misplaced-3 c = search needs
 
--- src/utf8.rt:283:78
 add-is-misplaced-6 : tie.Need-add-is-misplaced-6 Inv-loop μ-loop
 add-is-misplaced-6 c = search needs
 
--- src/utf8.rt:283:78
 add-is-misplaced-7 : tie.Need-add-is-misplaced-7 Inv-loop μ-loop
 add-is-misplaced-7 c = search needs
 
--- src/utf8.rt:283:76
 shared-slice-read-is-misplaced-4 : tie.Need-shared-slice-read-is-misplaced-4 Inv-loop μ-loop
 shared-slice-read-is-misplaced-4 c = search needs
 
--- src/utf8.rt:283:25
 is-misplaced-requires : tie.Need-is-misplaced-requires Inv-loop μ-loop
 is-misplaced-requires c κs = search needs
 
--- src/utf8.rt:284:9
 add-j : tie.Need-add-j Inv-loop μ-loop
 add-j c = search needs
 
--- src/utf8.rt:282:5
 loop-less : tie.Need-loop-less Inv-loop μ-loop
 loop-less c = search needs
 
--- src/utf8.rt:282:5
 loop-again : tie.Need-loop-again Inv-loop μ-loop
 loop-again c = (omega arith, any-more (λ k. misplaced (getD (c .before .before .before .before .before .before .before .before .args .s .now) (c .before .before .before .before .before .before .before .before .args .a + k) 0) (getD (c .before .before .before .before .before .before .before .before .args .s .now) (c .before .before .before .before .before .before .before .before .args .a + k + 1) 0) (getD (c .before .before .before .before .before .before .before .before .args .s .now) (c .before .before .before .before .before .before .before .before .args .a + k + 2) 0) (getD (c .before .before .before .before .before .before .before .before .args .s .now) (c .before .before .before .before .before .before .before .before .args .a + k + 3) 0)) (c .before .before .before .before .before .before .loop .found) (c .is-misplaced .result) (c .before .before .before .before .before .before .loop .j) (c .before .before .before .before .before .before .loop .inv .1) (c .is-misplaced .ensures))
 
--- src/utf8.rt:276:1
 returns : tie.Need-returns Inv-loop μ-loop
 returns c = c .before .loop .inv .1 ∙ ap (λ n. misplacedIn (c .before .before .before .args .s .now) (c .before .before .before .args .a) n) (omega arith)
 

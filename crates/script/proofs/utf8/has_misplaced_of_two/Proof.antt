@@ -17,54 +17,42 @@ Inv-loop s a size found₀ j₀ found j = (j ≤ size) × (found ≡ misplacedOf
 abbrev μ-loop : tie.MeasureT-loop
 μ-loop s a size found₀ j₀ found j = size - j
 
--- src/utf8.rt:296:5
 loop-holds : tie.Need-loop-holds Inv-loop μ-loop
 unfolding anyBelow
 loop-holds c = (omega arith, refl)
 
--- src/utf8.rt:297:47
 add-is-misplaced-of-two : tie.Need-add-is-misplaced-of-two Inv-loop μ-loop
 add-is-misplaced-of-two c = search needs
 
--- src/utf8.rt:297:47
 add-is-misplaced-of-two-2 : tie.Need-add-is-misplaced-of-two-2 Inv-loop μ-loop
 add-is-misplaced-of-two-2 c = search needs
 
--- src/utf8.rt:297:45
 shared-slice-read-is-misplaced-of-two :
     tie.Need-shared-slice-read-is-misplaced-of-two Inv-loop μ-loop
 shared-slice-read-is-misplaced-of-two c = search needs
 
--- src/utf8.rt:297:61
 add-is-misplaced-of-two-3 : tie.Need-add-is-misplaced-of-two-3 Inv-loop μ-loop
 add-is-misplaced-of-two-3 c = search needs
 
--- src/utf8.rt:297:61
 add-is-misplaced-of-two-4 : tie.Need-add-is-misplaced-of-two-4 Inv-loop μ-loop
 add-is-misplaced-of-two-4 c = search needs
 
--- src/utf8.rt:297:59
 shared-slice-read-is-misplaced-of-two-2 :
     tie.Need-shared-slice-read-is-misplaced-of-two-2 Inv-loop μ-loop
 shared-slice-read-is-misplaced-of-two-2 c = search needs
 
--- src/utf8.rt:297:25
 is-misplaced-of-two-requires : tie.Need-is-misplaced-of-two-requires Inv-loop μ-loop
 is-misplaced-of-two-requires c κs = search needs
 
--- src/utf8.rt:298:9
 add-j : tie.Need-add-j Inv-loop μ-loop
 add-j c = search needs
 
--- src/utf8.rt:296:5
 loop-less : tie.Need-loop-less Inv-loop μ-loop
 loop-less c = search needs
 
--- src/utf8.rt:296:5
 loop-again : tie.Need-loop-again Inv-loop μ-loop
 loop-again c = (omega arith, any-more (λ k. misplacedOfTwo (getD (c .before .before .before .before .before .before .args .s .now) (c .before .before .before .before .before .before .args .a + k + 2) 0) (getD (c .before .before .before .before .before .before .args .s .now) (c .before .before .before .before .before .before .args .a + k + 3) 0)) (c .before .before .before .before .loop .found) (c .is-misplaced-of-two .result) (c .before .before .before .before .loop .j) (c .before .before .before .before .loop .inv .1) (c .is-misplaced-of-two .ensures))
 
--- src/utf8.rt:290:1
 returns : tie.Need-returns Inv-loop μ-loop
 returns c = c .before .loop .inv .1 ∙ ap (λ n. misplacedOfTwoIn (c .before .before .before .args .s .now) (c .before .before .before .args .a) n) (omega arith)
 

@@ -5,7 +5,6 @@ use Rattle.script.proofs.utf8.is_further.Tie as tie
 use Rattle.script.proofs.utf8.is_further.Reads as reads
 use Rattle.script.proofs.utf8.is_further.Lts as lts
 
--- src/utf8.rt:222:1
 returns : tie.Need-returns
 returns c = and-is (leb 0x80 (c .args .b)) (leb (c .args .b) 0xBF)
 

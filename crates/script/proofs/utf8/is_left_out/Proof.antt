@@ -4,7 +4,6 @@ use Rattle.script.proofs.utf8.is_left_out.Tie as tie
 use Rattle.script.proofs.utf8.is_left_out.Reads as reads
 use Rattle.script.proofs.utf8.is_left_out.Lts as lts
 
--- src/utf8.rt:236:1
 returns : tie.Need-returns
 returns c = refl
 

@@ -10,19 +10,15 @@ use Rattle.script.proofs.utf8.is_further.Reads as is-further-reads
 use Rattle.script.proofs.utf8.is_left_out.Reads as is-left-out-reads
 use Rattle.script.proofs.utf8.is_never.Reads as is-never-reads
 
--- src/utf8.rt:249:7
 is-further-requires : tie.Need-is-further-requires
 is-further-requires c κs = search needs
 
--- src/utf8.rt:249:35
 is-never-requires : tie.Need-is-never-requires
 is-never-requires c κs = search needs
 
--- src/utf8.rt:249:50
 is-left-out-requires : tie.Need-is-left-out-requires
 is-left-out-requires c κs = search needs
 
--- src/utf8.rt:245:1
 returns : tie.Need-returns
 returns c = rw (c .before .before .is-further .ensures, c .before .is-never .ensures, c .is-left-out .ensures) (misplaced-is (c .before .before .before .args .p3) (c .before .before .before .args .p2) (c .before .before .before .args .p1) (c .before .before .before .args .b) (omega arith))
 

@@ -7,11 +7,9 @@ use Rattle.script.proofs.utf8.is_misplaced_of_two.Reads as reads
 use Rattle.script.proofs.utf8.is_misplaced_of_two.Lts as lts
 use Rattle.script.proofs.utf8.is_further.Reads as is-further-reads
 
--- src/utf8.rt:256:7
 is-further-requires : tie.Need-is-further-requires
 is-further-requires c κs = search needs
 
--- src/utf8.rt:253:1
 returns : tie.Need-returns
 returns c = rw (c .is-further .ensures) (of-two-is (c .before .args .p) (c .before .args .b) (omega arith))
 

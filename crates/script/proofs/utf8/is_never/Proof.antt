@@ -4,7 +4,6 @@ use Rattle.script.proofs.utf8.is_never.Tie as tie
 use Rattle.script.proofs.utf8.is_never.Reads as reads
 use Rattle.script.proofs.utf8.is_never.Lts as lts
 
--- src/utf8.rt:229:1
 returns : tie.Need-returns
 returns c = refl
 

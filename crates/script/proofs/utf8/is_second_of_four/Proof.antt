@@ -9,27 +9,21 @@ use Rattle.script.proofs.utf8.is_second_of_four.Reads as reads
 use Rattle.script.proofs.utf8.is_second_of_four.Lts as lts
 use Rattle.script.proofs.utf8.is_within.Reads as is-within-reads
 
--- src/utf8.rt:39:9
 is-within-requires : tie.Need-is-within-requires
 is-within-requires c κs = search needs
 
--- src/utf8.rt:39:9
 returns : tie.Need-returns
 returns c = c .is-within .ensures ∙ ap (λ r. isWithin (c .before .before .args .b) r) (sym (four-low (c .before .before .args .first) (c .before .before .pre) (c .before .if1 .taken)))
 
--- src/utf8.rt:42:9
 is-within-requires-2 : tie.Need-is-within-requires-2
 is-within-requires-2 c κs = search needs
 
--- src/utf8.rt:42:9
 returns-2 : tie.Need-returns-2
 returns-2 c = c .is-within2 .ensures ∙ ap (λ r. isWithin (c .before .before .before .args .b) r) (sym (four-high (c .before .before .before .args .first) (c .before .before .before .pre) (c .before .if2 .taken)))
 
--- src/utf8.rt:44:5
 is-within-requires-3 : tie.Need-is-within-requires-3
 is-within-requires-3 c κs = search needs
 
--- src/utf8.rt:34:1
 returns-3 : tie.Need-returns-3
 returns-3 c = c .is-within3 .ensures ∙ ap (λ r. isWithin (c .before .before .before .args .b) r) (sym (four-wide (c .before .before .before .args .first) (c .before .before .before .pre) (c .before .before .if1 .left) (c .before .if2 .left)))
 

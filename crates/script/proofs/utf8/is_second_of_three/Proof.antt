@@ -9,27 +9,21 @@ use Rattle.script.proofs.utf8.is_second_of_three.Reads as reads
 use Rattle.script.proofs.utf8.is_second_of_three.Lts as lts
 use Rattle.script.proofs.utf8.is_within.Reads as is-within-reads
 
--- src/utf8.rt:25:9
 is-within-requires : tie.Need-is-within-requires
 is-within-requires c κs = search needs
 
--- src/utf8.rt:25:9
 returns : tie.Need-returns
 returns c = c .is-within .ensures ∙ ap (λ r. isWithin (c .before .before .args .b) r) (sym (three-low (c .before .before .args .first) (c .before .before .pre) (c .before .if1 .taken)))
 
--- src/utf8.rt:28:9
 is-within-requires-2 : tie.Need-is-within-requires-2
 is-within-requires-2 c κs = search needs
 
--- src/utf8.rt:28:9
 returns-2 : tie.Need-returns-2
 returns-2 c = c .is-within2 .ensures ∙ ap (λ r. isWithin (c .before .before .before .args .b) r) (sym (three-high (c .before .before .before .args .first) (c .before .before .before .pre) (c .before .if2 .taken)))
 
--- src/utf8.rt:30:5
 is-within-requires-3 : tie.Need-is-within-requires-3
 is-within-requires-3 c κs = search needs
 
--- src/utf8.rt:20:1
 returns-3 : tie.Need-returns-3
 returns-3 c = c .is-within3 .ensures ∙ ap (λ r. isWithin (c .before .before .before .args .b) r) (sym (three-wide (c .before .before .before .args .first) (c .before .before .before .pre) (c .before .before .if1 .left) (c .before .if2 .left)))
 

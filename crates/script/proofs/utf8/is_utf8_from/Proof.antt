@@ -10,27 +10,21 @@ use Rattle.script.proofs.utf8.are_blocks.Reads as are-blocks-reads
 use Rattle.script.proofs.utf8.are_sequences.Reads as are-sequences-reads
 use Rattle.script.proofs.utf8.past_ascii.Reads as past-ascii-reads
 
--- src/utf8.rt:384:9
 past-ascii-requires : tie.Need-past-ascii-requires
 past-ascii-requires c κs = search needs
 
--- src/utf8.rt:386:9
 returns : tie.Need-returns
 returns c = reach-all (c .before .before .before .args .s .now) (c .before .before .before .args .from) (c .before .past-ascii .result) (record { within = c .before .past-ascii .ensures .1; same = c .before .past-ascii .ensures .2 }) (omega arith)
 
--- src/utf8.rt:389:9
 are-sequences-requires : tie.Need-are-sequences-requires
 are-sequences-requires c κs = search needs
 
--- src/utf8.rt:389:9
 returns-2 : tie.Need-returns-2
 returns-2 c = c .are-sequences .ensures ∙ c .before .before .before .past-ascii .ensures .2
 
--- src/utf8.rt:391:5
 are-blocks-requires : tie.Need-are-blocks-requires
 are-blocks-requires c κs = search needs
 
--- src/utf8.rt:380:1
 returns-3 : tie.Need-returns-3
 returns-3 c = c .are-blocks .ensures ∙ c .before .before .before .past-ascii .ensures .2
 

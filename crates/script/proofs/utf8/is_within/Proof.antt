@@ -4,11 +4,9 @@ use Rattle.script.proofs.utf8.is_within.Tie as tie
 use Rattle.script.proofs.utf8.is_within.Reads as reads
 use Rattle.script.proofs.utf8.is_within.Lts as lts
 
--- src/utf8.rt:14:9
 returns : tie.Need-returns
 returns c = rw (lt-leb (c .before .args .least) (c .before .args .b) (c .if1 .taken))
 
--- src/utf8.rt:10:1
 returns-2 : tie.Need-returns-2
 returns-2 c = rw (le-leb (c .before .args .least) (c .before .args .b) (c .if1 .left))
 

@@ -16,67 +16,51 @@ use Rattle.script.proofs.utf8.has_misplaced.Reads as has-misplaced-read
 use Rattle.script.proofs.utf8.has_misplaced_of_two.Reads as has-misplaced-of-two-reads
 use Rattle.script.proofs.utf8.is_ascii.Reads as is-ascii-reads
 
--- src/utf8.rt:309:8
 is-ascii-requires : tie.Need-is-ascii-requires
 is-ascii-requires c κs = search needs
 
--- src/utf8.rt:310:16
 add-result : tie.Need-add-result
 add-result c = search needs
 
--- src/utf8.rt:310:9
 returns : tie.Need-returns
 returns c = let r : Reach (c .before .before .before .args .s .now) (c .before .before .before .args .i) ((c .before .before .before .args .i) + 32) = reach-block (c .before .before .before .args .s .now) (c .before .before .before .args .i) 32 (omega arith) (c .before .is-ascii .ensures .0 (c .if1 .taken)) in (omega arith, r .within, r .same)
 
--- src/utf8.rt:312:24
 sub-begun-at : tie.Need-sub-begun-at
 sub-begun-at c = search needs
 
--- src/utf8.rt:312:12
 begun-at-requires : tie.Need-begun-at-requires
 begun-at-requires c κs = search needs
 
--- src/utf8.rt:313:9
 returns-2 : tie.Need-returns-2
 returns-2 c = search needs
 
--- src/utf8.rt:315:32
 sub-has-misplaced-of-two : tie.Need-sub-has-misplaced-of-two
 sub-has-misplaced-of-two c = search needs
 
--- src/utf8.rt:315:8
 has-misplaced-of-two-requires : tie.Need-has-misplaced-of-two-requires
 has-misplaced-of-two-requires c κs = search needs
 
--- src/utf8.rt:316:29
 sub-has-misplaced : tie.Need-sub-has-misplaced
 sub-has-misplaced c = search needs
 
--- src/utf8.rt:316:12
 has-misplaced-requires : tie.Need-has-misplaced-requires
 has-misplaced-requires c κs = search needs
 
--- src/utf8.rt:317:13
 returns-3 : tie.Need-returns-3
 returns-3 c = search needs
 
--- src/utf8.rt:320:5
 add-result-2 : tie.Need-add-result-2
 add-result-2 c = search needs
 
--- src/utf8.rt:320:26
 add-begun-at : tie.Need-add-begun-at
 add-begun-at c = search needs
 
--- src/utf8.rt:320:14
 begun-at-requires-2 : tie.Need-begun-at-requires-2
 begun-at-requires-2 c κs = search needs
 
--- src/utf8.rt:320:5
 sub-result : tie.Need-sub-result
 sub-result c = omega (arith, c .begun-at2 .ensures, begun-most (c .before .before .before .before .before .before .before .before .args .s .now) ((c .before .before .before .before .before .before .before .before .args .i) + 29))
 
--- src/utf8.rt:304:1
 returns-4 : tie.Need-returns-4
 returns-4 c = let x : begunAt (c .before .before .before .before .before .before .before .before .args .s .now) ((c .before .before .before .before .before .before .before .before .args .i) + 32 - 3) ≡ c .begun-at2 .result = ap (λ n. begunAt (c .before .before .before .before .before .before .before .before .args .s .now) n) (let y : (c .before .before .before .before .before .before .before .before .args .i) + 32 - 3 ≡ (c .before .before .before .before .before .before .before .before .args .i) + 29 = omega arith in y) ∙ sym (c .begun-at2 .ensures) in let r : Reach (c .before .before .before .before .before .before .before .before .args .s .now) (c .before .before .before .before .before .before .before .before .args .i) ((c .before .before .before .before .before .before .before .before .args .i) + 32 - c .begun-at2 .result) = subst (λ n. Reach (c .before .before .before .before .before .before .before .before .args .s .now) (c .before .before .before .before .before .before .before .before .args .i) ((c .before .before .before .before .before .before .before .before .args .i) + 32 - n)) x (⊎-elim (λ w. block-reach (c .before .before .before .before .before .before .before .before .args .s .now) (c .before .before .before .before .before .before .before .before .args .i) 32 (omega arith) (omega arith) (sym (c .before .before .before .before .begun-at .ensures) ∙ omega (arith, c .before .before .before .if2 .left)) (sym (w .1 .ensures) ∙ w .2 .left)) (λ w. block-of-two-reach (c .before .before .before .before .before .before .before .before .args .s .now) (c .before .before .before .before .before .before .before .before .args .i) 32 (omega arith) (omega arith) (sym (c .before .before .before .before .begun-at .ensures) ∙ omega (arith, c .before .before .before .if2 .left)) (sym (c .before .before .has-misplaced-of-two .ensures) ∙ w .left)) (c .before .if3 .came)) in (omega (arith, c .begun-at2 .ensures, begun-most (c .before .before .before .before .before .before .before .before .args .s .now) ((c .before .before .before .before .before .before .before .before .args .i) + 29)), r .within, r .same)
 

@@ -17,35 +17,27 @@ Inv-loop s from i₀ i = (from ≤ i) × Reach s from i
 abbrev μ-loop : tie.MeasureT-loop
 μ-loop s from i₀ i = length s - i
 
--- src/utf8.rt:345:5
 loop-holds : tie.Need-loop-holds Inv-loop μ-loop
 loop-holds c = (omega arith, reach-none _ _ (omega arith))
 
--- src/utf8.rt:345:17
 sub-loop : tie.Need-sub-loop Inv-loop μ-loop
 sub-loop c = search needs
 
--- src/utf8.rt:346:13
 past-block-requires : tie.Need-past-block-requires Inv-loop μ-loop
 past-block-requires c κs = search needs
 
--- src/utf8.rt:348:13
 returns : tie.Need-returns Inv-loop μ-loop
 returns c = (c .before .before .before .loop .inv .1 .within, c .before .before .before .loop .inv .1 .same)
 
--- src/utf8.rt:345:5
 loop-less : tie.Need-loop-less Inv-loop μ-loop
 loop-less c = search needs
 
--- src/utf8.rt:345:5
 loop-again : tie.Need-loop-again Inv-loop μ-loop
 loop-again c = (omega arith, record { within = c .before .past-block .ensures .1; same = c .before .past-block .ensures .2 ∙ c .before .before .before .loop .inv .1 .same })
 
--- src/utf8.rt:352:5
 past-last-requires : tie.Need-past-last-requires Inv-loop μ-loop
 past-last-requires c κs = search needs
 
--- src/utf8.rt:339:1
 returns-2 : tie.Need-returns-2 Inv-loop μ-loop
 returns-2 c = (c .past-last .ensures .0, c .past-last .ensures .1 ∙ c .before .before .loop .inv .1 .same)
 

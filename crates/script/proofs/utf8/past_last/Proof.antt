@@ -13,43 +13,33 @@ use Rattle.script.proofs.utf8.past_last.Lts as lts
 use Rattle.script.proofs.utf8.begun_at.Reads as begun-at-reads
 use Rattle.script.proofs.utf8.has_misplaced.Reads as has-misplaced-reads
 
--- src/utf8.rt:329:24
 sub-begun-at : tie.Need-sub-begun-at
 sub-begun-at c = search needs
 
--- src/utf8.rt:329:12
 begun-at-requires : tie.Need-begun-at-requires
 begun-at-requires c κs = search needs
 
--- src/utf8.rt:330:9
 returns : tie.Need-returns
 returns c = search needs
 
--- src/utf8.rt:332:25
 sub-has-misplaced : tie.Need-sub-has-misplaced
 sub-has-misplaced c = search needs
 
--- src/utf8.rt:332:8
 has-misplaced-requires : tie.Need-has-misplaced-requires
 has-misplaced-requires c κs = search needs
 
--- src/utf8.rt:333:9
 returns-2 : tie.Need-returns-2
 returns-2 c = search needs
 
--- src/utf8.rt:335:27
 sub-begun-at-2 : tie.Need-sub-begun-at-2
 sub-begun-at-2 c = search needs
 
--- src/utf8.rt:335:15
 begun-at-requires-2 : tie.Need-begun-at-requires-2
 begun-at-requires-2 c κs = search needs
 
--- src/utf8.rt:335:5
 sub-result : tie.Need-sub-result
 sub-result c = omega (arith, c .begun-at2 .ensures, begun-most (c .before .before .before .before .before .before .args .s .now) (length (c .before .before .before .before .before .before .args .s .now) - 3))
 
--- src/utf8.rt:324:1
 returns-3 : tie.Need-returns-3
 returns-3 c = let r : Reach (c .before .before .before .before .before .before .args .s .now) (c .before .before .before .before .before .before .args .i) (length (c .before .before .before .before .before .before .args .s .now) - c .begun-at2 .result) = subst (λ n. Reach (c .before .before .before .before .before .before .args .s .now) (c .before .before .before .before .before .before .args .i) (length (c .before .before .before .before .before .before .args .s .now) - n)) (sym (c .begun-at2 .ensures)) (last-reach (c .before .before .before .before .before .before .args .s .now) (c .before .before .before .before .before .before .args .i) 32 (omega arith) (omega arith) (omega arith) (omega arith) (sym (c .before .before .before .before .begun-at .ensures) ∙ omega (arith, c .before .before .before .if1 .left)) (sym (c .before .before .has-misplaced .ensures) ∙ c .before .if2 .left)) in (r .within, r .same)
 

@@ -15,31 +15,24 @@ Inv-loop s from stop i₀ i = Reach s from i
 abbrev μ-loop : tie.MeasureT-loop
 μ-loop s from stop i₀ i = length s - i
 
--- src/utf8.rt:211:5
 loop-holds : tie.Need-loop-holds Inv-loop μ-loop
 loop-holds c = reach-none _ _ (omega arith)
 
--- src/utf8.rt:212:13
 sequence-at-requires : tie.Need-sequence-at-requires Inv-loop μ-loop
 sequence-at-requires c κs = search needs
 
--- src/utf8.rt:214:13
 returns : tie.Need-returns Inv-loop μ-loop
 returns c = (c .before .before .before .loop .inv .within, c .before .before .before .loop .inv .same, λ l. reach-bad (c .before .before .before .before .before .args .s .now) (c .before .before .before .loop .i) (omega arith) (c .before .sequence-at .result) (c .before .sequence-at .ensures) (c .if1 .taken))
 
--- src/utf8.rt:216:9
 add-i : tie.Need-add-i Inv-loop μ-loop
 add-i c = omega (arith, (reach-join (c .before .before .before .before .before .args .s .now) (c .before .before .before .before .before .args .from) (c .before .before .before .loop .i) (c .before .before .before .loop .i + c .before .sequence-at .result) (c .before .before .before .loop .inv) (reach-on (c .before .before .before .before .before .args .s .now) (c .before .before .before .loop .i) (omega arith) (c .before .sequence-at .result) (c .before .sequence-at .ensures) (c .if1 .left))) .within)
 
--- src/utf8.rt:211:5
 loop-less : tie.Need-loop-less Inv-loop μ-loop
 loop-less c = omega (arith, (reach-join (c .before .before .before .before .before .args .s .now) (c .before .before .before .before .before .args .from) (c .before .before .before .loop .i) (c .before .before .before .loop .i + c .before .sequence-at .result) (c .before .before .before .loop .inv) (reach-on (c .before .before .before .before .before .args .s .now) (c .before .before .before .loop .i) (omega arith) (c .before .sequence-at .result) (c .before .sequence-at .ensures) (c .if1 .left))) .within)
 
--- src/utf8.rt:211:5
 loop-again : tie.Need-loop-again Inv-loop μ-loop
 loop-again c = (reach-join (c .before .before .before .before .before .args .s .now) (c .before .before .before .before .before .args .from) (c .before .before .before .loop .i) (c .before .before .before .loop .i + c .before .sequence-at .result) (c .before .before .before .loop .inv) (reach-on (c .before .before .before .before .before .args .s .now) (c .before .before .before .loop .i) (omega arith) (c .before .sequence-at .result) (c .before .sequence-at .ensures) (c .if1 .left)))
 
--- src/utf8.rt:204:1
 returns-2 : tie.Need-returns-2 Inv-loop μ-loop
 returns-2 c = (c .before .loop .inv .within, c .before .loop .inv .same, λ l. absurd (omega arith))
 

@@ -12,59 +12,45 @@ use Rattle.script.proofs.utf8.four_at.Reads as four-at-reads
 use Rattle.script.proofs.utf8.three_at.Reads as three-at-reads
 use Rattle.script.proofs.utf8.two_at.Reads as two-at-reads
 
--- src/utf8.rt:104:13
 shared-slice-read-b : tie.Need-shared-slice-read-b
 shared-slice-read-b c = search needs
 
--- src/utf8.rt:106:9
 returns : tie.Need-returns
 returns c = one (c .before .before .before .args .s .now) (c .before .before .before .args .i) 1 (c .before .before .before .pre) (omega (arith, c .before .shared-slice-known2 .given (c .before .before .before .args .i))) (sym (ascii-length (getD (c .before .before .before .args .s .now) (c .before .before .before .args .i) 0) (c .if1 .taken))) (omega arith)
 
--- src/utf8.rt:108:31
 sub-n : tie.Need-sub-n
 sub-n c = omega (arith, c .before .shared-slice-known2 .given (c .before .before .before .args .i))
 
--- src/utf8.rt:111:13
 returns-2 : tie.Need-returns-2
 returns-2 c = one (c .before .before .before .before .before .args .s .now) (c .before .before .before .before .before .args .i) 0 (c .before .before .before .before .before .pre) (omega (arith, c .before .before .before .shared-slice-known2 .given (c .before .before .before .before .before .args .i))) (sym (ones-two-none (getD (c .before .before .before .before .before .args .s .now) (c .before .before .before .before .before .args .i) 0) (omega (arith, c .before .before .before .shared-slice-known2 .given (c .before .before .before .before .before .args .i))) (c .before .before .if1 .left) (c .before .if2 .taken) (c .if3 .taken))) (omega arith)
 
--- src/utf8.rt:113:9
 two-at-requires : tie.Need-two-at-requires
 two-at-requires c κs = (c .before .before .before .before .before .pre, ones-two (getD (c .before .before .before .before .before .args .s .now) (c .before .before .before .before .before .args .i) 0) (omega (arith, c .before .before .before .shared-slice-known2 .given (c .before .before .before .before .before .args .i))) (c .before .before .if1 .left) (c .before .if2 .taken) (c .if3 .left))
 
--- src/utf8.rt:113:9
 returns-3 : tie.Need-returns-3
 returns-3 c = search needs
 
--- src/utf8.rt:115:8
 sub-if4 : tie.Need-sub-if4
 sub-if4 c = search needs
 
--- src/utf8.rt:116:9
 returns-4 : tie.Need-returns-4
 returns-4 c = few (c .before .before .before .before .before .args .s .now) (c .before .before .before .before .before .args .i) (lengthOf (getD (c .before .before .before .before .before .args .s .now) (c .before .before .before .before .before .args .i) 0)) (c .before .before .before .before .before .pre) (omega (arith, c .before .before .before .shared-slice-known2 .given (c .before .before .before .before .before .args .i))) refl (c .before .before .if1 .left) (c .before .if2 .left) (omega arith)
 
--- src/utf8.rt:119:9
 three-at-requires : tie.Need-three-at-requires
 three-at-requires c κs = (omega arith, ones-three (getD (c .before .before .before .before .before .before .args .s .now) (c .before .before .before .before .before .before .args .i) 0) (omega (arith, c .before .before .before .before .shared-slice-known2 .given (c .before .before .before .before .before .before .args .i))) (c .before .before .before .if1 .left) (c .if5 .taken))
 
--- src/utf8.rt:119:9
 returns-5 : tie.Need-returns-5
 returns-5 c = search needs
 
--- src/utf8.rt:123:13
 returns-6 : tie.Need-returns-6
 returns-6 c = one (c .before .before .before .before .before .before .before .before .args .s .now) (c .before .before .before .before .before .before .before .before .args .i) 0 (c .before .before .before .before .before .before .before .before .pre) (omega (arith, c .before .before .before .before .before .before .shared-slice-known2 .given (c .before .before .before .before .before .before .before .before .args .i))) (sym (ones-four-none (getD (c .before .before .before .before .before .before .before .before .args .s .now) (c .before .before .before .before .before .before .before .before .args .i) 0) (omega (arith, c .before .before .before .before .before .before .shared-slice-known2 .given (c .before .before .before .before .before .before .before .before .args .i))) (c .before .before .before .before .before .if1 .left) (c .before .if6 .taken) (c .if7 .taken))) (omega arith)
 
--- src/utf8.rt:125:9
 four-at-requires : tie.Need-four-at-requires
 four-at-requires c κs = (c .before .before .before .before .before .before .before .before .pre, ones-four (getD (c .before .before .before .before .before .before .before .before .args .s .now) (c .before .before .before .before .before .before .before .before .args .i) 0) (omega (arith, c .before .before .before .before .before .before .shared-slice-known2 .given (c .before .before .before .before .before .before .before .before .args .i))) (c .before .before .before .before .before .if1 .left) (c .before .if6 .taken) (c .if7 .left))
 
--- src/utf8.rt:125:9
 returns-7 : tie.Need-returns-7
 returns-7 c = search needs
 
--- src/utf8.rt:100:1
 returns-8 : tie.Need-returns-8
 returns-8 c = one (c .before .before .before .before .before .before .before .args .s .now) (c .before .before .before .before .before .before .before .args .i) 0 (c .before .before .before .before .before .before .before .pre) (omega (arith, c .before .before .before .before .before .shared-slice-known2 .given (c .before .before .before .before .before .before .before .args .i))) (sym (ones-none (getD (c .before .before .before .before .before .before .before .args .s .now) (c .before .before .before .before .before .before .before .args .i) 0) (omega (arith, c .before .before .before .before .before .shared-slice-known2 .given (c .before .before .before .before .before .before .before .args .i))) (c .before .before .before .before .if1 .left) (c .before .before .before .if2 .left) (c .before .if5 .left) (c .if6 .left))) (omega arith)
 

@@ -11,43 +11,33 @@ use Rattle.script.proofs.utf8.three_at.Lts as lts
 use Rattle.script.proofs.utf8.is_second_of_three.Reads as is-second-of-three-reads
 use Rattle.script.proofs.utf8.is_within.Reads as is-within-reads
 
--- src/utf8.rt:68:28
 shared-slice-read-is-second-of-three : tie.Need-shared-slice-read-is-second-of-three
 shared-slice-read-is-second-of-three c = search needs
 
--- src/utf8.rt:68:36
 add-is-second-of-three : tie.Need-add-is-second-of-three
 add-is-second-of-three c = search needs
 
--- src/utf8.rt:68:34
 shared-slice-read-is-second-of-three-2 : tie.Need-shared-slice-read-is-second-of-three-2
 shared-slice-read-is-second-of-three-2 c = search needs
 
--- src/utf8.rt:68:9
 is-second-of-three-requires : tie.Need-is-second-of-three-requires
 is-second-of-three-requires c κs = search needs
 
--- src/utf8.rt:69:9
 returns : tie.Need-returns
 returns c = bad-second (c .before .before .before .before .before .args .s .now) (c .before .before .before .before .before .args .i) 3 (omega arith) (first-most (getD (c .before .before .before .before .before .args .s .now) (c .before .before .before .before .before .args .i) 0) 2 (c .before .before .before .before .before .pre .1)) (sym (c .before .before .before .before .before .pre .1)) (omega arith) (omega arith) (sym (c .before .is-second-of-three .ensures) ∙ not-true _ (c .if1 .taken))
 
--- src/utf8.rt:71:21
 add-is-within : tie.Need-add-is-within
 add-is-within c = search needs
 
--- src/utf8.rt:71:19
 shared-slice-read-is-within : tie.Need-shared-slice-read-is-within
 shared-slice-read-is-within c = search needs
 
--- src/utf8.rt:71:9
 is-within-requires : tie.Need-is-within-requires
 is-within-requires c κs = search needs
 
--- src/utf8.rt:72:9
 returns-2 : tie.Need-returns-2
 returns-2 c = bad-third (c .before .before .before .before .before .before .before .before .args .s .now) (c .before .before .before .before .before .before .before .before .args .i) 3 (omega arith) (first-most (getD (c .before .before .before .before .before .before .before .before .args .s .now) (c .before .before .before .before .before .before .before .before .args .i) 0) 2 (c .before .before .before .before .before .before .before .before .pre .1)) (sym (c .before .before .before .before .before .before .before .before .pre .1)) (record { room = omega arith; size = omega arith; fits = sym (c .before .before .before .before .is-second-of-three .ensures) ∙ not-false _ (c .before .before .before .if1 .left) }) (omega arith) (sym (c .before .is-within .ensures) ∙ not-true _ (c .if2 .taken))
 
--- src/utf8.rt:63:1
 returns-3 : tie.Need-returns-3
 returns-3 c = three (c .before .before .before .before .before .before .before .before .args .s .now) (c .before .before .before .before .before .before .before .before .args .i) 3 (omega arith) (first-most (getD (c .before .before .before .before .before .before .before .before .args .s .now) (c .before .before .before .before .before .before .before .before .args .i) 0) 2 (c .before .before .before .before .before .before .before .before .pre .1)) (sym (c .before .before .before .before .before .before .before .before .pre .1)) (record { second = (record { room = omega arith; size = omega arith; fits = sym (c .before .before .before .before .is-second-of-three .ensures) ∙ not-false _ (c .before .before .before .if1 .left) }); size = omega arith; fits = sym (c .before .is-within .ensures) ∙ not-false _ (c .if2 .left) }) (omega arith)
 

@@ -12,31 +12,24 @@ use Rattle.script.proofs.utf8.two_at.Reads as reads
 use Rattle.script.proofs.utf8.two_at.Lts as lts
 use Rattle.script.proofs.utf8.is_within.Reads as is-within-reads
 
--- src/utf8.rt:53:8
 sub-if1 : tie.Need-sub-if1
 sub-if1 c = search needs
 
--- src/utf8.rt:54:9
 returns : tie.Need-returns
 returns c = cut (c .before .before .args .s .now) (c .before .before .args .i) 2 (c .before .before .pre .0) (first-most (getD (c .before .before .args .s .now) (c .before .before .args .i) 0) 1 (c .before .before .pre .1)) (sym (c .before .before .pre .1)) (omega arith)
 
--- src/utf8.rt:56:21
 add-is-within : tie.Need-add-is-within
 add-is-within c = search needs
 
--- src/utf8.rt:56:19
 shared-slice-read-is-within : tie.Need-shared-slice-read-is-within
 shared-slice-read-is-within c = search needs
 
--- src/utf8.rt:56:9
 is-within-requires : tie.Need-is-within-requires
 is-within-requires c κs = search needs
 
--- src/utf8.rt:57:9
 returns-2 : tie.Need-returns-2
 returns-2 c = bad-second (c .before .before .before .before .before .args .s .now) (c .before .before .before .before .before .args .i) 2 (c .before .before .before .before .before .pre .0) (first-most (getD (c .before .before .before .before .before .args .s .now) (c .before .before .before .before .before .args .i) 0) 1 (c .before .before .before .before .before .pre .1)) (sym (c .before .before .before .before .before .pre .1)) (omega arith) (omega arith) ((ap (λ r. isWithin (getD (c .before .before .before .before .before .args .s .now) (c .before .before .before .before .before .args .i + 1) 0) r) (second-of-two (getD (c .before .before .before .before .before .args .s .now) (c .before .before .before .before .before .args .i) 0) (c .before .before .before .before .before .pre .1)) ∙ sym (c .before .is-within .ensures)) ∙ not-true _ (c .if2 .taken))
 
--- src/utf8.rt:48:1
 returns-3 : tie.Need-returns-3
 returns-3 c = two (c .before .before .before .before .before .args .s .now) (c .before .before .before .before .before .args .i) 2 (c .before .before .before .before .before .pre .0) (first-most (getD (c .before .before .before .before .before .args .s .now) (c .before .before .before .before .before .args .i) 0) 1 (c .before .before .before .before .before .pre .1)) (sym (c .before .before .before .before .before .pre .1)) (record { room = omega arith; size = omega arith; fits = (ap (λ r. isWithin (getD (c .before .before .before .before .before .args .s .now) (c .before .before .before .before .before .args .i + 1) 0) r) (second-of-two (getD (c .before .before .before .before .before .args .s .now) (c .before .before .before .before .before .args .i) 0) (c .before .before .before .before .before .pre .1)) ∙ sym (c .before .is-within .ensures)) ∙ not-false _ (c .if2 .left) }) (omega arith)
 

@@ -8,27 +8,21 @@ use Rattle.vectors.proofs.input.bytes.Lts as lts
 use Rattle.io.proofs.read_full.Reads as read-full-reads
 use Rattle.vectors.proofs.input.least.Reads as least-reads
 
--- src/input.rt:33:9
 least-requires : tie.Need-least-requires
 least-requires c κs = search needs
 
--- src/input.rt:34:33
 slice-relend-prefix-read-full : tie.Need-slice-relend-prefix-read-full
 slice-relend-prefix-read-full c = search needs
 
--- src/input.rt:34:33
 slice-aggregate-read-full : tie.Need-slice-aggregate-read-full
 slice-aggregate-read-full c = rw length-take (omega arith)
 
--- src/input.rt:34:5
 read-full-requires : tie.Need-read-full-requires
 read-full-requires c κs = search needs
 
--- src/input.rt:30:1
 same-length : tie.Need-same-length
 same-length c = search needs
 
--- src/input.rt:30:1
 returns : tie.Need-returns
 returns c = search needs
 

@@ -16,43 +16,33 @@ Inv-loop to₀ n k i₀ to i = (i ≤ k) × (k ≤ length to₀) × (length to �
 abbrev μ-loop : tie.MeasureT-loop
 μ-loop to₀ n k i₀ to i = k - i
 
--- src/input.rt:42:9
 least-requires : tie.Need-least-requires Inv-loop μ-loop
 least-requires c κs = search needs
 
--- src/input.rt:44:5
 loop-holds : tie.Need-loop-holds Inv-loop μ-loop
 loop-holds c = (omega arith, omega arith, refl)
 
--- src/input.rt:45:17
 number-requires : tie.Need-number-requires Inv-loop μ-loop
 number-requires c κs = search needs
 
--- src/input.rt:45:9
 mul-to : tie.Need-mul-to Inv-loop μ-loop
 mul-to c = search needs
 
--- src/input.rt:45:9
 slice-write-to : tie.Need-slice-write-to Inv-loop μ-loop
 slice-write-to c = search needs
 
--- src/input.rt:46:9
 add-i : tie.Need-add-i Inv-loop μ-loop
 add-i c = search needs
 
--- src/input.rt:44:5
 loop-less : tie.Need-loop-less Inv-loop μ-loop
 loop-less c = omega arith
 
--- src/input.rt:44:5
 loop-again : tie.Need-loop-again Inv-loop μ-loop
 loop-again c = (omega arith, omega arith, rw length-set (omega arith))
 
--- src/input.rt:39:1
 same-length : tie.Need-same-length Inv-loop μ-loop
 same-length c = omega arith
 
--- src/input.rt:39:1
 returns : tie.Need-returns Inv-loop μ-loop
 returns c = search needs
 

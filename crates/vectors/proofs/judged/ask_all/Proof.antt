@@ -14,31 +14,24 @@ Inv-loop nodes attributes text characters counts n i₀ i = i ≤ n
 abbrev μ-loop : tie.MeasureT-loop
 μ-loop nodes attributes text characters counts n i₀ i = n - i
 
--- src/judged.rt:110:9
 number-requires : tie.Need-number-requires Inv-loop μ-loop
 number-requires c κs = search needs
 
--- src/judged.rt:112:5
 loop-holds : tie.Need-loop-holds Inv-loop μ-loop
 loop-holds c = omega arith
 
--- src/judged.rt:113:9
 ask-requires : tie.Need-ask-requires Inv-loop μ-loop
 ask-requires c κs = search needs
 
--- src/judged.rt:114:9
 add-i : tie.Need-add-i Inv-loop μ-loop
 add-i c = search needs
 
--- src/judged.rt:112:5
 loop-less : tie.Need-loop-less Inv-loop μ-loop
 loop-less c = omega arith
 
--- src/judged.rt:112:5
 loop-again : tie.Need-loop-again Inv-loop μ-loop
 loop-again c = omega arith
 
--- src/judged.rt:103:1
 returns : tie.Need-returns Inv-loop μ-loop
 returns c = search needs
 

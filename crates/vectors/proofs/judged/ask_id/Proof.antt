@@ -10,35 +10,27 @@ use Rattle.vectors.proofs.input.bytes.Reads as bytes-reads
 use Rattle.vectors.proofs.input.number.Reads as number-reads
 use Rattle.vectors.proofs.judged.say_answer.Reads as say-answer-reads
 
--- src/judged.rt:63:9
 number-requires : tie.Need-number-requires
 number-requires c κs = search needs
 
--- src/judged.rt:65:26
 slice-aggregate-bytes : tie.Need-slice-aggregate-bytes
 slice-aggregate-bytes c = search needs
 
--- src/judged.rt:65:9
 bytes-requires : tie.Need-bytes-requires
 bytes-requires c κs = search needs
 
--- src/judged.rt:66:91
 array-share-prefix-id : tie.Need-array-share-prefix-id
 array-share-prefix-id c = search needs
 
--- src/judged.rt:66:91
 slice-aggregate-element-by-id : tie.Need-slice-aggregate-element-by-id
 slice-aggregate-element-by-id c = rw length-take (omega arith)
 
--- src/judged.rt:66:16
 element-by-id-requires : tie.Need-element-by-id-requires
 element-by-id-requires c κs = search needs
 
--- src/judged.rt:66:5
 say-answer-requires : tie.Need-say-answer-requires
 say-answer-requires c κs = search needs
 
--- src/judged.rt:62:1
 returns : tie.Need-returns
 returns c = search needs
 

@@ -11,59 +11,45 @@ use Rattle.vectors.proofs.input.number.Reads as number-reads
 use Rattle.vectors.proofs.judged.line.Reads as line-reads
 use Rattle.vectors.proofs.judged.say.Reads as say-reads
 
--- src/judged.rt:19:9
 number-requires : tie.Need-number-requires
 number-requires c κs = search needs
 
--- src/judged.rt:20:9
 number-requires-2 : tie.Need-number-requires-2
 number-requires-2 c κs = search needs
 
--- src/judged.rt:23:26
 slice-aggregate-bytes : tie.Need-slice-aggregate-bytes
 slice-aggregate-bytes c = search needs
 
--- src/judged.rt:23:9
 bytes-requires : tie.Need-bytes-requires
 bytes-requires c κs = search needs
 
--- src/judged.rt:24:26
 slice-aggregate-bytes-2 : tie.Need-slice-aggregate-bytes-2
 slice-aggregate-bytes-2 c = search needs
 
--- src/judged.rt:24:9
 bytes-requires-2 : tie.Need-bytes-requires-2
 bytes-requires-2 c κs = search needs
 
--- src/judged.rt:25:30
 array-share-prefix-script : tie.Need-array-share-prefix-script
 array-share-prefix-script c = search needs
 
--- src/judged.rt:25:30
 slice-aggregate-check : tie.Need-slice-aggregate-check
 slice-aggregate-check c = rw length-take (omega arith)
 
--- src/judged.rt:25:44
 array-share-prefix-characters : tie.Need-array-share-prefix-characters
 array-share-prefix-characters c = search needs
 
--- src/judged.rt:25:44
 slice-aggregate-check-2 : tie.Need-slice-aggregate-check-2
 slice-aggregate-check-2 c = rw length-take (omega arith)
 
--- src/judged.rt:25:9
 check-requires : tie.Need-check-requires
 check-requires c κs = search needs
 
--- src/judged.rt:25:5
 say-requires : tie.Need-say-requires
 say-requires c κs = search needs
 
--- src/judged.rt:26:5
 line-requires : tie.Need-line-requires
 line-requires c κs = search needs
 
--- src/judged.rt:18:1
 returns : tie.Need-returns
 returns c = search needs
 

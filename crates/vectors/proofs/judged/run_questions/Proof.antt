@@ -10,103 +10,78 @@ use Rattle.vectors.proofs.input.number.Reads as number-reads
 use Rattle.vectors.proofs.input.numbers.Reads as numbers-reads
 use Rattle.vectors.proofs.judged.ask_all.Reads as ask-all-reads
 
--- src/judged.rt:120:9
 number-requires : tie.Need-number-requires
 number-requires c κs = search needs
 
--- src/judged.rt:121:9
 number-requires-2 : tie.Need-number-requires-2
 number-requires-2 c κs = search needs
 
--- src/judged.rt:122:9
 number-requires-3 : tie.Need-number-requires-3
 number-requires-3 c κs = search needs
 
--- src/judged.rt:123:9
 number-requires-4 : tie.Need-number-requires-4
 number-requires-4 c κs = search needs
 
--- src/judged.rt:125:16
 number-requires-5 : tie.Need-number-requires-5
 number-requires-5 c κs = search needs
 
--- src/judged.rt:126:21
 number-requires-6 : tie.Need-number-requires-6
 number-requires-6 c κs = search needs
 
--- src/judged.rt:127:15
 number-requires-7 : tie.Need-number-requires-7
 number-requires-7 c κs = search needs
 
--- src/judged.rt:133:28
 slice-aggregate-numbers : tie.Need-slice-aggregate-numbers
 slice-aggregate-numbers c = search needs
 
--- src/judged.rt:133:9
 numbers-requires : tie.Need-numbers-requires
 numbers-requires c κs = search needs
 
--- src/judged.rt:134:28
 slice-aggregate-numbers-2 : tie.Need-slice-aggregate-numbers-2
 slice-aggregate-numbers-2 c = search needs
 
--- src/judged.rt:134:9
 numbers-requires-2 : tie.Need-numbers-requires-2
 numbers-requires-2 c κs = search needs
 
--- src/judged.rt:135:26
 slice-aggregate-bytes : tie.Need-slice-aggregate-bytes
 slice-aggregate-bytes c = search needs
 
--- src/judged.rt:135:9
 bytes-requires : tie.Need-bytes-requires
 bytes-requires c κs = search needs
 
--- src/judged.rt:136:26
 slice-aggregate-bytes-2 : tie.Need-slice-aggregate-bytes-2
 slice-aggregate-bytes-2 c = search needs
 
--- src/judged.rt:136:9
 bytes-requires-2 : tie.Need-bytes-requires-2
 bytes-requires-2 c κs = search needs
 
--- src/judged.rt:138:9
 array-share-prefix-nodes : tie.Need-array-share-prefix-nodes
 array-share-prefix-nodes c = search needs
 
--- src/judged.rt:138:9
 slice-aggregate-ask-all : tie.Need-slice-aggregate-ask-all
 slice-aggregate-ask-all c = rw length-take (omega arith)
 
--- src/judged.rt:139:9
 array-share-prefix-attributes : tie.Need-array-share-prefix-attributes
 array-share-prefix-attributes c = search needs
 
--- src/judged.rt:139:9
 slice-aggregate-ask-all-2 : tie.Need-slice-aggregate-ask-all-2
 slice-aggregate-ask-all-2 c = rw length-take (omega arith)
 
--- src/judged.rt:140:9
 array-share-prefix-text : tie.Need-array-share-prefix-text
 array-share-prefix-text c = search needs
 
--- src/judged.rt:140:9
 slice-aggregate-ask-all-3 : tie.Need-slice-aggregate-ask-all-3
 slice-aggregate-ask-all-3 c = rw length-take (omega arith)
 
--- src/judged.rt:141:9
 array-share-prefix-characters : tie.Need-array-share-prefix-characters
 array-share-prefix-characters c = search needs
 
--- src/judged.rt:141:9
 slice-aggregate-ask-all-4 : tie.Need-slice-aggregate-ask-all-4
 slice-aggregate-ask-all-4 c = rw length-take (omega arith)
 
--- src/judged.rt:137:5
 ask-all-requires : tie.Need-ask-all-requires
 ask-all-requires c κs = search needs
 
--- src/judged.rt:119:1
 returns : tie.Need-returns
 returns c = search needs
 

@@ -15,35 +15,27 @@ Inv-loop s i₀ i = i ≤ length s
 abbrev μ-loop : tie.MeasureT-loop
 μ-loop s i₀ i = length s - i
 
--- src/judged.rt:42:5
 loop-holds : tie.Need-loop-holds Inv-loop μ-loop
 loop-holds c = omega arith
 
--- src/judged.rt:43:18
 shared-slice-read-say-byte : tie.Need-shared-slice-read-say-byte Inv-loop μ-loop
 shared-slice-read-say-byte c = search needs
 
--- src/judged.rt:43:9
 say-byte-requires : tie.Need-say-byte-requires Inv-loop μ-loop
 say-byte-requires c κs = search needs
 
--- src/judged.rt:44:9
 add-i : tie.Need-add-i Inv-loop μ-loop
 add-i c = search needs
 
--- src/judged.rt:42:5
 loop-less : tie.Need-loop-less Inv-loop μ-loop
 loop-less c = omega arith
 
--- src/judged.rt:42:5
 loop-again : tie.Need-loop-again Inv-loop μ-loop
 loop-again c = omega arith
 
--- src/judged.rt:46:5
 line-requires : tie.Need-line-requires Inv-loop μ-loop
 line-requires c κs = search needs
 
--- src/judged.rt:40:1
 returns : tie.Need-returns Inv-loop μ-loop
 returns c = search needs
 
