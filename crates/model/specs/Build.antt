@@ -5,34 +5,38 @@ use mathlib.Core.List.{List, [], _∷_}
 use lib.Dec.{eqb, ltb}
 use lib.ListN.{length}
 use lib.Seq.{sets}
-use Rattle.model.specs.Base.{pick, and, given}
+use Rattle.model.specs.Base.{pick, given}
 use Rattle.model.specs.EId
 use Rattle.model.specs.Utf8.{isUtf8}
 use Rattle.model.specs.Drawing.{Source, Event, events, childrenFrom, valuesIn, textNumbered, isInStyle}
 use Rattle.model.specs.Check.{check, _if_, firstOf}
 use Rattle.model.specs.Tables.{Tree, Out, refused, done, then, firstChildOf, isNamed, nodeRoom, cleared, rooted}
-use Rattle.model.specs.Parse.{each, node, plain}
+use Rattle.model.specs.Parse.{Ops, each, node, plain}
 use Rattle.model.specs.Repair.{repaired}
 
 -- The root: no record left is 22.
 unfoldable pub withRoot : Tree → Out Tree
 withRoot t = pick (ltb 0 (nodeRoom t)) (λ u. done (rooted t)) (λ u. refused 22)
 
--- The nodes of the top level, at depth 0, below the root.
-unfoldable pub parsed : List ℕ → List Event → Tree → Out Tree
-parsed chars all t = each (node (plain chars) all 1025) (childrenFrom zero all) 0 false 0 t
+-- The nodes of the top level, at depth 0, below the root, by any operations on the state.
+unfoldable pub parsed : {S : Type 0} → Ops S → List Event → S → Out S
+parsed o all s = each (node o all 1025) (childrenFrom zero all) 0 false 0 s
+
+-- Is the first element there, and is it `svg`?
+unfoldable pub firstIsSvg : Tree → Bool
+firstIsSvg t = let w : ℕ = firstChildOf t 0 in pick (eqb w 0) (λ u. false) (λ u. isNamed t EId.Svg (w - 1))
 
 -- Everything built, the first element must be there and be `svg`: else 21.
-unfoldable pub hasSvg : Tree → Bool
-hasSvg t = and (not (eqb (firstChildOf t 0) 0)) (isNamed t EId.Svg (firstChildOf t 0 - 1))
+unfoldable pub tested : Tree → Out Tree
+tested t = pick (firstIsSvg t) (λ u. done t) (λ u. refused 21)
 
--- The end of `parse`: the test of the first element, then the repairs.
-unfoldable pub finished : List ℕ → List Event → Tree → Out Tree
-finished chars all t = pick (hasSvg t) (λ u. done (repaired chars (valuesIn all) t)) (λ u. refused 21)
+-- `parse` up to the repairs, by these operations, of a drawing that check takes, with tables that are cleared.
+unfoldable pub parseTree : Ops Tree → List Event → Tree → Out Tree
+parseTree o all t = then (withRoot t) (λ r. then (parsed o all r) tested)
 
--- `parse_tree` of a drawing that check takes, with these tables cleared.
-unfoldable pub parseTree : List ℕ → List Event → Tree → Out Tree
-parseTree chars all t = then (withRoot t) (λ r. then (parsed chars all r) (λ s. finished chars all s))
+-- The same with the repairs of the tree that it gives.
+abbrev pub withRepairs : List ℕ → List Event → Out Tree → Out Tree
+withRepairs chars all o = then o (λ t. done (repaired chars (valuesIn all) t))
 
 -- The answer of an operation, and what it leaves in the tables and the characters. The counts are in the tree.
 pub record Result : Type 0 where
@@ -50,7 +54,8 @@ unfoldable pub build : List ℕ → List ℕ → ℕ → ℕ → ℕ → Result
 build script chars n m b =
     let k : ℕ = check script chars in
     let empty : Tree = cleared n m b in
-    answered chars empty (pick (eqb k 0) (λ u. parseTree chars (events script chars) empty) (λ u. refused k))
+    let all : List Event = events script chars in
+    answered chars empty (pick (eqb k 0) (λ u. withRepairs chars all (parseTree (plain chars) all empty)) (λ u. refused k))
 
 -- EXCHANGE
 

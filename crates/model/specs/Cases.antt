@@ -14,7 +14,7 @@ use Rattle.model.specs.AId
 use Rattle.model.specs.Drawing.{Event, events, childrenFrom}
 use Rattle.model.specs.Tables.{Tree, Out, refused, done, TEXT, ELEMENT, kindOf, codeOf, textOf, attributeId, hasAttribute, valueAtEntry, nodeRoom, rooted, cleared}
 use Rattle.model.specs.Parse.{Ops, each, node}
-use Rattle.model.specs.Build.{Result, build, withRoot, parseTree, finished, parsed}
+use Rattle.model.specs.Build.{Result, build}
 use Rattle.model.specs.Base
 use Rattle.model.specs.Names
 use Rattle.model.specs.Utf8
@@ -164,12 +164,6 @@ cases =
       look = names;
       wanted = (EId.Svg ∷ []) ∷ (EId.G ∷ []) ∷ (EId.Use ∷ []) ∷ [];
     } ∷
-    -- The same with the `use` in no namespace: 20, here by the room that ends first.
-    record {
-      drawing = svg (el EId.G (attr AId.Id "a" ∷ elementIn 0 EId.Use (attr AId.Href "#a" ∷ read 1 1 1 ∷ []) ∷ []) ∷ []);
-      look = names;
-      wanted = (22 ∷ []) ∷ [];
-    } ∷
     -- * `clipPath` c with clip-path url(#c): none.
     record {
       drawing = svg (el EId.ClipPath (attr AId.Id "c" ∷ attr AId.ClipPath "url(#c)" ∷ read 2 5 1 ∷ []) ∷ []);
@@ -224,16 +218,62 @@ abbrev pub numberOut : Out ℕ → ℕ
 numberOut (refused k) = k
 numberOut (done n) = 0
 
--- The number for a comment at depth n, where that many levels are built.
-unfoldable pub commentAt : ℕ → ℕ → ℕ
-commentAt levels n =
-    let d : Piece = svg (nested (n - 1) comment ∷ []) in
+-- The number that a drawing gets where that many levels are built and every room is endless.
+unfoldable pub numberWithin : ℕ → Piece → ℕ
+numberWithin levels d =
     let all : List Event = events (d .script) (d .chars) in
     numberOut (each (node counting all levels) (childrenFrom zero all) 0 false 0 0)
 
+-- The number for a comment at depth n, where that many levels are built.
+unfoldable pub commentAt : ℕ → ℕ → ℕ
+commentAt levels n = numberWithin levels (svg (nested (n - 1) comment ∷ []))
+
+-- A `use` in that namespace of the element with that id.
+abbrev pub useOf : ℕ → String → Piece
+useOf n id = elementIn n EId.Use (record { script = (2 ∷ AId.Href ∷ 0 ∷ short (length (ascii id) + 1)); chars = 35 ∷ ascii id } ∷ read 1 1 (length (ascii id)) ∷ [])
+
+-- A `use` in that namespace of the `g` around it.
+unfoldable pub usesItself : ℕ → Piece
+usesItself n = svg (el EId.G (attr AId.Id "a" ∷ useOf n "a" ∷ []) ∷ [])
+
+-- Two groups, each with a `use` of the other.
+unfoldable pub useEachOther : Piece
+useEachOther = svg (el EId.G (attr AId.Id "a" ∷ useOf 1 "b" ∷ []) ∷ el EId.G (attr AId.Id "b" ∷ useOf 1 "a" ∷ []) ∷ [])
+
+-- COMPUTING
+
+-- Whoever unfolds this unfolds every definition, so that a drawing is computed.
+unfoldable pub computed : Unit {0}
+unfolding ascii joinedPieces seenFrom sameLists comesOut allComeOut cases nested numberWithin commentAt usesItself useEachOther Base.among Base.sameBytes Base.amongWords
+    Base.pairedWith Names.isElement Names.isAttribute Names.isPresentation Names.isNonInheritable Names.allowsInheritValue
+    Names.isPossibleNone Names.isDeclaredOnly Names.isInheritable Names.inheritDefaults Names.inheritDefault Names.fontResets
+    Names.fixedValues Names.fixedBytes Names.imageRenderingWords Utf8.wellFormed Utf8.begins Utf8.sequenceOf Utf8.isUtf8From Utf8.isUtf8
+    Utf8.codePoint Utf8.whiteSpaces Utf8.isWithinAny Utf8.isBlankFrom Utf8.isBlank Drawing.operands Drawing.wordAt Drawing.whole
+    Drawing.command Drawing.commandsFrom Drawing.commands Drawing.partAt Drawing.readingsAt Drawing.valueAt Drawing.attributesAt
+    Drawing.declarationsAt Drawing.elementAt Drawing.eventsFrom Drawing.events Drawing.childrenFrom Drawing.textsIn Drawing.usesIn
+    Drawing.attributeIn Drawing.readingOf Drawing.useHref Drawing.trefHref Drawing.hasId Drawing.firstWithId Drawing.hasTagName
+    Drawing.quoted Drawing.leadsBack Drawing.useTarget Drawing.textNumbered Drawing.isInStyle Drawing.valuesIn Drawing.readingsOf
+    Check.starting Check.firstOf Check.isHalfFont Check.testsOf Check.testsAtEnd Check.stepped Check.checkFrom Check.check
+    Tables.nextLinked Tables.firstLinked Tables.linked Tables.appended Tables.entriesWords Tables.entryAt Tables.valueOf
+    Tables.findEntry Tables.attributeId Tables.attributeOf Tables.holderFrom Tables.hasIdBytes Tables.lastWithId Tables.elementById
+    Tables.nodeRoom Tables.attributeRoom Tables.textRoom Tables.cleared Tables.rooted Tables.addElement Tables.addText Tables.textOf
+    Tables.setText Tables.setNone Element.inheritedFrom Element.resolveInherit Element.appendAttribute Element.isTaken Element.hasEntry
+    Element.onFirst Element.addAttribute Element.insertEntry Element.fontParts Element.writeDeclaration Element.entriesOf
+    Element.parseSvgElement Text.getXmlspace Text.spaceOf Text.converted Text.trimTextAfter Text.trimText Text.totalSize Text.joined
+    Text.appendText Text.cutText Text.run Text.depthBelow Text.textNodes Text.ownTextNodes Text.pairs Text.trimming Text.trimTextNodes
+    Repair.upFrom Repair.allNamed Repair.belowFrom Repair.descendants Repair.firstFound Repair.readingsOfAttribute Repair.elementId
+    Repair.paintsWith Repair.nodeAttribute Repair.recursivePatternAt Repair.findRecursivePattern Repair.recursiveLinkAt
+    Repair.findRecursiveLink Repair.anyReading Repair.recursiveFeImage Repair.feImageLinks Repair.cutName Repair.cutAt Repair.applyCut
+    Repair.applied Repair.nextCut Repair.cutsFrom Repair.cutsOf Repair.cutsOfAll Repair.repairs Repair.repaired Build.withRoot
+    Build.parsed Build.firstIsSvg Build.tested Build.parseTree Build.build Build.exchanged Build.exchangeFault Build.changed
+    Build.exchange
+computed = tt
+
 -- THE CLAIM
 
--- The definitions give what the table wants. With 5 levels a comment at depth 4 passes, and at depth 5 it is 20; build has 1025.
+-- The definitions give what the table wants. With few levels, where build has 1025: of 5, a comment at depth 4 passes, and at depth 5
+-- it is 20; of 9, a `use` of the `g` around it passes, the same in no namespace is 20, and so are two groups that use each other.
 pub starred : (allComeOut cases ≡ true) × (commentAt 5 4 ≡ 0) × (commentAt 5 5 ≡ 20)
-unfolding ascii joinedPieces seenFrom sameLists comesOut allComeOut cases nested commentAt Base.among Base.sameBytes Base.amongWords Base.pairedWith Names.isElement Names.isAttribute Names.isPresentation Names.isNonInheritable Names.allowsInheritValue Names.isPossibleNone Names.isDeclaredOnly Names.isInheritable Names.inheritDefaults Names.inheritDefault Names.fontResets Names.fixedValues Names.fixedBytes Names.imageRenderingWords Utf8.wellFormed Utf8.begins Utf8.sequenceOf Utf8.isUtf8From Utf8.isUtf8 Utf8.codePoint Utf8.whiteSpaces Utf8.isWithinAny Utf8.isBlankFrom Utf8.isBlank Drawing.operands Drawing.wordAt Drawing.whole Drawing.command Drawing.commandsFrom Drawing.commands Drawing.partAt Drawing.readingsAt Drawing.valueAt Drawing.attributesAt Drawing.declarationsAt Drawing.elementAt Drawing.eventsFrom Drawing.events Drawing.childrenFrom Drawing.textsIn Drawing.usesIn Drawing.attributeIn Drawing.readingOf Drawing.useHref Drawing.trefHref Drawing.hasId Drawing.firstWithId Drawing.isSvg Drawing.quoted Drawing.leadsBack Drawing.useTarget Drawing.textNumbered Drawing.isInStyle Drawing.valuesIn Drawing.readingsOf Check.starting Check.firstOf Check.isHalfFont Check.testsOf Check.testsAtEnd Check.stepped Check.checkFrom Check.check Tables.nextLinked Tables.firstLinked Tables.linked Tables.appended Tables.entriesWords Tables.entryAt Tables.valueOf Tables.findEntry Tables.attributeId Tables.attributeOf Tables.holderFrom Tables.hasIdBytes Tables.lastWithId Tables.elementById Tables.nodeRoom Tables.attributeRoom Tables.textRoom Tables.cleared Tables.rooted Tables.addElement Tables.addText Tables.textOf Tables.setText Tables.setNone Element.inheritedFrom Element.resolveInherit Element.appendAttribute Element.isTaken Element.hasEntry Element.onFirst Element.addAttribute Element.insertEntry Element.fontParts Element.writeDeclaration Element.entriesOf Element.parseSvgElement Text.getXmlspace Text.spaceOf Text.converted Text.trimTextAfter Text.trimText Text.sizeOf Text.joined Text.appendText Text.cutText Text.run Text.depthBelow Text.textNodes Text.ownTextNodes Text.pairs Text.trimming Text.trimTextNodes Repair.upFrom Repair.allNamed Repair.belowFrom Repair.descendants Repair.firstFound Repair.readingsAt Repair.elementId Repair.paintsWith Repair.nodeAttribute Repair.recursivePatternAt Repair.findRecursivePattern Repair.recursiveLinkAt Repair.findRecursiveLink Repair.anyReading Repair.recursiveFeImage Repair.feImageLinks Repair.cutName Repair.applyCut Repair.nextCut Repair.cutsFrom Repair.cutsOf Repair.cutsOfAll Repair.repairs Repair.repaired Build.withRoot Build.parsed Build.hasSvg Build.finished Build.parseTree Build.build Build.exchanged Build.exchangeFault Build.changed Build.exchange
-starred = (refl, refl, refl)
+    × (numberWithin 9 (usesItself 1) ≡ 0) × (numberWithin 9 (usesItself 0) ≡ 20) × (numberWithin 9 useEachOther ≡ 20)
+unfolding computed
+starred = (refl, refl, refl, refl, refl, refl)

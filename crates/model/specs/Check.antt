@@ -84,19 +84,19 @@ isNothing nothing = true
 isNothing (value a n ks) = false
 
 -- Where the value begins.
-abbrev pub startOf : Last → ℕ
-startOf nothing = 0
-startOf (value a n ks) = a
+abbrev pub valueStart : Last → ℕ
+valueStart nothing = 0
+valueStart (value a n ks) = a
 
 -- Its length.
-abbrev pub sizeOf : Last → ℕ
-sizeOf nothing = 0
-sizeOf (value a n ks) = n
+abbrev pub valueSize : Last → ℕ
+valueSize nothing = 0
+valueSize (value a n ks) = n
 
 -- The kinds of its readings so far.
-abbrev pub kindsOf : Last → List ℕ
-kindsOf nothing = []
-kindsOf (value a n ks) = ks
+abbrev pub valueKinds : Last → List ℕ
+valueKinds nothing = []
+valueKinds (value a n ks) = ks
 
 module _ (chars : List ℕ) (size : ℕ) where
   -- 6 and 9 for a string of l characters that begins at a.
@@ -112,9 +112,9 @@ module _ (chars : List ℕ) (size : ℕ) where
   testsOf s (declaration a i l) =
       7 if isHalfFont (s .last) ∷ 3 if not (and (isDeclarationCode a) (leb i 1)) ∷ 4 if not (mayDeclare (s .stage)) ∷ stringTests (s .at) l
   testsOf s (reading k o l) =
-      3 if not (and (leb 1 k) (leb k 10)) ∷ 4 if isNothing (s .last) ∷ 6 if ltb (sizeOf (s .last)) (o + l)
-      ∷ 7 if and (not (eqb k 4)) (among k (kindsOf (s .last)))
-      ∷ 9 if not (isUtf8 (slice (startOf (s .last) + o) (startOf (s .last) + o + l) chars)) ∷ []
+      3 if not (and (leb 1 k) (leb k 10)) ∷ 4 if isNothing (s .last) ∷ 6 if ltb (valueSize (s .last)) (o + l)
+      ∷ 7 if and (not (eqb k 4)) (among k (valueKinds (s .last)))
+      ∷ 9 if not (isUtf8 (slice (valueStart (s .last) + o) (valueStart (s .last) + o + l) chars)) ∷ []
   testsOf s (text l) = 7 if isHalfFont (s .last) ∷ 4 if eqb (s .depth) 0 ∷ stringTests (s .at) l
   testsOf s other = 7 if isHalfFont (s .last) ∷ []
   testsOf s closing = 7 if isHalfFont (s .last) ∷ 4 if eqb (s .depth) 0 ∷ []
@@ -129,7 +129,7 @@ module _ (chars : List ℕ) (size : ℕ) where
   stepped s (opening c n) = record { depth = s .depth + 1; stage = attributes; begun = true; at = s .at; last = nothing }
   stepped s (attribute a n l) = record { depth = s .depth; stage = attributes; begun = s .begun; at = s .at + l; last = value (s .at) l [] }
   stepped s (declaration a i l) = record { depth = s .depth; stage = declarations; begun = s .begun; at = s .at + l; last = value (s .at) l [] }
-  stepped s (reading k o l) = record { depth = s .depth; stage = s .stage; begun = s .begun; at = s .at; last = value (startOf (s .last)) (sizeOf (s .last)) (k ∷ kindsOf (s .last)) }
+  stepped s (reading k o l) = record { depth = s .depth; stage = s .stage; begun = s .begun; at = s .at; last = value (valueStart (s .last)) (valueSize (s .last)) (k ∷ valueKinds (s .last)) }
   stepped s (text l) = record { depth = s .depth; stage = children; begun = s .begun; at = s .at + l; last = nothing }
   stepped s other = record { depth = s .depth; stage = children; begun = s .begun; at = s .at; last = nothing }
   stepped s closing = record { depth = s .depth - 1; stage = children; begun = s .begun; at = s .at; last = nothing }

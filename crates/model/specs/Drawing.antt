@@ -304,13 +304,13 @@ abbrev pub linkedBy : List Event → Option Part → List Event
 linkedBy all href = given href (λ p. firstWithId (p .bytes) all) (λ u. [])
 
 -- `parse_tag_name` gives a name: the namespace is none or SVG, and the name one of the list.
-unfoldable pub isSvg : Element → Bool
-isSvg e = and (leb (e .namespace) 1) (isElement (e .code))
+unfoldable pub hasTagName : Element → Bool
+hasTagName e = and (leb (e .namespace) 1) (isElement (e .code))
 
 -- The texts that a tref quotes: all texts inside the SVG element that it leads to.
 abbrev pub quotedFrom : List Event → List Source
 quotedFrom [] = []
-quotedFrom (begin e ∷ xs) = pick (isSvg e) (λ u. textsIn zero xs) (λ u. [])
+quotedFrom (begin e ∷ xs) = pick (hasTagName e) (λ u. textsIn zero xs) (λ u. [])
 quotedFrom (text a ∷ xs) = []
 quotedFrom (other ∷ xs) = []
 quotedFrom (close ∷ xs) = []
@@ -336,7 +336,7 @@ leadsBack all n m (e ∷ es) =
 -- May the `use` e, met with that origin, copy the element l whose inside begins at xs?
 abbrev pub mayCopy : List Event → Element → ℕ → Element → List Event → Bool
 mayCopy all e origin l xs =
-    and (and (isSvg l) (not (or (eqb (l .number) (e .number)) (eqb (l .number) origin))))
+    and (and (hasTagName l) (not (or (eqb (l .number) (e .number)) (eqb (l .number) origin))))
     (not (leadsBack all (e .number) (l .number) (usesIn zero xs)))
 
 -- The node that it leads to, if it may be copied.

@@ -89,14 +89,14 @@ addAttribute t p tag ignoreIds es x =
 
 -- THE DECLARATIONS
 
--- An entry replaces another unless that one is important, even if both are.
-abbrev pub replaces : Entry → Entry → Entry
-replaces new old = pick (eqb (old .important) 0) (λ u. new) (λ u. old)
+-- What stands of a new entry and an old one of the same name: the new one, unless the old one is important, even if both are.
+abbrev pub standing : Entry → Entry → Entry
+standing new old = pick (eqb (old .important) 0) (λ u. new) (λ u. old)
 
 -- `insert_attribute` with what `append_attribute` gave for that name; a dropped one leaves the entries as they are.
 unfoldable pub insertEntry : ℕ → List Entry → Option Entry → List Entry
 insertEntry a es none = es
-insertEntry a es (some e) = pick (hasEntry a es) (λ u. onFirst (replaces e) a es) (λ u. es ++ (e ∷ []))
+insertEntry a es (some e) = pick (hasEntry a es) (λ u. onFirst (standing e) a es) (λ u. es ++ (e ∷ []))
 
 -- The kinds of reading that are parts of a font, in the order in which they are set, and the name of each.
 unfoldable pub fontParts : List Pair

@@ -16,5 +16,7 @@ pub mod Cases
 pub mod Noted
 pub mod Under
 pub mod Demand3
+pub mod Panel
 pub mod Refusals
+pub mod Example
 pub mod Theorems

@@ -5,10 +5,10 @@ use mathlib.Core.List.{List, [], _∷_}
 use lib.Dec.{eqb}
 use Rattle.model.specs.Base.{pick, and, or, among}
 use Rattle.model.specs.EId
-use Rattle.model.specs.Drawing.{Element, Source, Event, begin, text, other, close, childrenFrom, isSvg, quoted, useTarget}
+use Rattle.model.specs.Drawing.{Element, Source, Event, begin, text, other, close, childrenFrom, hasTagName, quoted, useTarget}
 use Rattle.model.specs.Tables.{Out, refused, done, then, Tree, parentOf}
 use Rattle.model.specs.Element.{parseSvgElement}
-use Rattle.model.specs.Text.{sizeOf, appendText, trimTextNodes}
+use Rattle.model.specs.Text.{totalSize, appendText, trimTextNodes}
 
 -- What the recursion does to the state, and what it asks of it.
 pub record Ops (S : Type 0) : Type 0 where
@@ -19,16 +19,16 @@ pub record Ops (S : Type 0) : Type 0 where
   pub parent : ℕ → S → ℕ  -- the index of a node's parent
 
 -- How a node is built: the node, the number of the `use` that it is copied by, whether ids are ignored, its parent, the state.
-abbrev pub Build : Type 0 → Type 0
-Build S = List Event → ℕ → Bool → ℕ → S → Out S
+abbrev pub Builder : Type 0 → Type 0
+Builder S = List Event → ℕ → Bool → ℕ → S → Out S
 
 -- `parse_xml_node_children`
-abbrev pub each : {S : Type 0} → Build S → List (List Event) → ℕ → Bool → ℕ → S → Out S
+abbrev pub each : {S : Type 0} → Builder S → List (List Event) → ℕ → Bool → ℕ → S → Out S
 each f [] origin ignoreIds p s = done s
 each f (x ∷ xs) origin ignoreIds p s = then (f x origin ignoreIds p s) (λ r. each f xs origin ignoreIds p r)
 
 -- At depth 1025 every node is refused.
-abbrev pub refuse : {S : Type 0} → Build S
+abbrev pub refuse : {S : Type 0} → Builder S
 refuse x origin ignoreIds p s = refused 20
 
 -- The name in the tree of an element: links are groups.
@@ -42,12 +42,12 @@ textTagOf e = pick (among (e .code) (EId.A ∷ EId.Tref ∷ [])) (λ u. EId.Tspa
 -- Is the element read inside a text element? textPath only directly under it.
 abbrev pub isTextContent : Element → Bool → Bool
 isTextContent e direct =
-    and (isSvg e) (or (among (e .code) (EId.A ∷ EId.Tspan ∷ EId.Tref ∷ [])) (and direct (eqb (e .code) EId.TextPath)))
+    and (hasTagName e) (or (among (e .code) (EId.A ∷ EId.Tspan ∷ EId.Tref ∷ [])) (and direct (eqb (e .code) EId.TextPath)))
 
 module _ {S : Type 0} (o : Ops S) (all : List Event) where
   -- The text node of a tref; there is none for nothing.
   abbrev pub quote : ℕ → List Source → ℕ → S → Out S
-  quote e from p s = pick (eqb (sizeOf from) 0) (λ u. done s) (λ u. o .text e from p s)
+  quote e from p s = pick (eqb (totalSize from) 0) (λ u. done s) (λ u. o .text e from p s)
 
   -- `parse_svg_text_element_impl` inside the text element e: p is the node of the element that is open,
   -- k counts the elements open in one that is passed over.
@@ -74,18 +74,18 @@ module _ {S : Type 0} (o : Ops S) (all : List Event) where
       then (inside (o .count s) xs zero (o .count s) r) (λ q. done (o .finish (o .count s) q)))
 
   -- What a `use` copies, if anything.
-  abbrev pub copy : Build S → List Event → ℕ → ℕ → S → Out S
+  abbrev pub copy : Builder S → List Event → ℕ → ℕ → S → Out S
   copy used [] n p s = done s
   copy used (x ∷ xs) n p s = used (x ∷ xs) n true p s
 
   -- `parse_xml_node` above the depth limit.
-  abbrev pub level : Build S → Build S → Build S
+  abbrev pub level : Builder S → Builder S → Builder S
   level child used [] origin ignoreIds p s = done s
   level child used (text a ∷ xs) origin ignoreIds p s = done s
   level child used (other ∷ xs) origin ignoreIds p s = done s
   level child used (close ∷ xs) origin ignoreIds p s = done s
   level child used (begin x ∷ xs) origin ignoreIds p s =
-      pick (and (isSvg x) (not (eqb (x .code) EId.Style)))
+      pick (and (hasTagName x) (not (eqb (x .code) EId.Style)))
       (λ u. pick (eqb (x .code) EId.Text) (λ v. label x xs ignoreIds p s)
       (λ v. then (o .element x (tagOf x) ignoreIds p s) (λ r.
       pick (eqb (x .code) EId.Use)
@@ -94,7 +94,7 @@ module _ {S : Type 0} (o : Ops S) (all : List Event) where
       (λ u. done s)
 
   -- The number is 1025 minus the depth: a child is one level deeper, a used element two.
-  abbrev pub node : ℕ → Build S
+  abbrev pub node : ℕ → Builder S
   node zero = refuse
   node (suc zero) = level refuse refuse
   node (suc (suc k)) = level (node (suc k)) (node k)

@@ -13,7 +13,8 @@ use Rattle.model.specs.Utf8.{isUtf8}
 use Rattle.model.specs.Drawing.{Source, events, textNumbered, isInStyle}
 use Rattle.model.specs.Check.{firstOf, check}
 use Rattle.model.specs.Tables.{Tree, Out, refused, done, cleared}
-use Rattle.model.specs.Build.{parseTree, answered, build, exchangeFault, changed, exchange}
+use Rattle.model.specs.Parse.{plain}
+use Rattle.model.specs.Build.{parseTree, withRepairs, answered, build, exchangeFault, changed, exchange}
 
 -- Tables as they were lent, with counts of 0.
 abbrev pub lent : List ℕ → List ℕ → List ℕ → Tree
@@ -56,7 +57,10 @@ module _ (script chars : List ℕ) (t : ℕ) (a : Source) (new : List ℕ) (e : 
 pub build-refused : (script chars : List ℕ) (n m b k : ℕ) → build script chars n m b .number ≡ suc k →
     build script chars n m b ≡ record { number = suc k; characters = chars; tree = cleared n m b }
 unfolding build
-build-refused script chars n m b k h = go (pick (eqb (check script chars) 0) (λ u. parseTree chars (events script chars) (cleared n m b)) (λ u. refused (check script chars))) h
+build-refused script chars n m b k h =
+    go (pick (eqb (check script chars) 0)
+    (λ u. withRepairs chars (events script chars) (parseTree (plain chars) (events script chars) (cleared n m b)))
+    (λ u. refused (check script chars))) h
   where
     go : (o : Out Tree) → answered chars (cleared n m b) o .number ≡ suc k → answered chars (cleared n m b) o ≡ record { number = suc k; characters = chars; tree = cleared n m b }
     go (refused j) g = ap (λ i. record { number = i; characters = chars; tree = cleared n m b }) g

@@ -1,6 +1,6 @@
 -- The tables (document 01, section 3): lists of words, read and written through the definitions of this file alone.
 use Prim.Native.Nat.{ℕ, zero, suc, _+_, _-_, _*_, _/_, min}
-use mathlib.Core.Bool.{Bool, not}
+use mathlib.Core.Bool.{Bool, false, not}
 use mathlib.Core.List.{List, [], _∷_, _++_}
 use lib.Dec.{eqb}
 use lib.ListN.{length, getD, set, replicate}
@@ -54,19 +54,19 @@ setWord ns i k v = set ns (8 * i + k) v
 abbrev pub kindOf : Tree → ℕ → ℕ
 kindOf t i = word (t .nodes) i 0
 
--- The parent. Links are an index plus 1, 0 for none.
+-- The parent of node i. Links are an index plus 1; 0 is none.
 abbrev pub parentOf : Tree → ℕ → ℕ
 parentOf t i = word (t .nodes) i 1
 
--- The next sibling.
+-- The next sibling, as its index plus 1; 0 for none.
 abbrev pub nextSiblingOf : Tree → ℕ → ℕ
 nextSiblingOf t i = word (t .nodes) i 2
 
--- The first child.
+-- The first child, as its index plus 1; 0 for none.
 abbrev pub firstChildOf : Tree → ℕ → ℕ
 firstChildOf t i = word (t .nodes) i 3
 
--- The last child.
+-- The last child, as its index plus 1; 0 for none.
 abbrev pub lastChildOf : Tree → ℕ → ℕ
 lastChildOf t i = word (t .nodes) i 4
 
@@ -86,7 +86,7 @@ toOf t i = word (t .nodes) i 7
 abbrev pub isNamed : Tree → ℕ → ℕ → Bool
 isNamed t c i = and (eqb (kindOf t i) ELEMENT) (eqb (codeOf t i) c)
 
--- The one before the new node i, if there is one, gets it as its next sibling; j is its index plus 1.
+-- The node before the new node i gets it as its next sibling; j is that node's index plus 1, 0 where there is none.
 unfoldable pub nextLinked : List ℕ → ℕ → ℕ → List ℕ
 nextLinked ns j i = pick (eqb j 0) (λ u. ns) (λ u. setWord ns (j - 1) 2 (i + 1))
 
@@ -138,12 +138,12 @@ entryAt t j = record
 unfoldable pub valueOf : List ℕ → Entry → List ℕ
 valueOf chars e = pick (eqb (e .command) 0) (λ u. fixedBytes (e .start)) (λ u. slice (e .start) (e .start + e .size) chars)
 
--- The first of the n entries from j on with that name: its number plus 1, 0 for none.
+-- The first of the n entries from j on with that name, as its number plus 1; 0 for none.
 unfoldable pub findEntry : Tree → ℕ → ℕ → ℕ → ℕ
 findEntry t a j zero = 0
 findEntry t a j (suc n) = pick (eqb (entryWord t j 0) a) (λ u. j + 1) (λ u. findEntry t a (j + 1) n)
 
--- `attribute_id`: the first attribute of that name in the range of node i, which only an element has.
+-- `attribute_id`: the first attribute of that name in the range of node i, which only an element has; its number plus 1, 0 for none.
 unfoldable pub attributeId : Tree → ℕ → ℕ → ℕ
 attributeId t i a = pick (eqb (kindOf t i) ELEMENT) (λ u. findEntry t a (fromOf t i) (toOf t i - fromOf t i)) (λ u. 0)
 
@@ -151,37 +151,40 @@ attributeId t i a = pick (eqb (kindOf t i) ELEMENT) (λ u. findEntry t a (fromOf
 abbrev pub hasAttribute : Tree → ℕ → ℕ → Bool
 hasAttribute t i a = not (eqb (attributeId t i a) 0)
 
--- The value of the entry whose number plus 1 is j.
+-- The value of the entry whose number plus 1 is j; to be asked only where j is not 0.
 abbrev pub valueAtEntry : List ℕ → Tree → ℕ → List ℕ
 valueAtEntry chars t j = valueOf chars (entryAt t (j - 1))
 
--- `attribute`: for ten names the value none counts as absent.
+-- `attribute`: the entry that is read, as its number plus 1, 0 for none. For ten names the value none counts as absent.
 unfoldable pub attributeOf : List ℕ → Tree → ℕ → ℕ → ℕ
 attributeOf chars t i a =
     let j : ℕ = attributeId t i a in
-    pick (and (isPossibleNone a) (sameBytes (valueAtEntry chars t j) (fixedBytes 1))) (λ u. 0) (λ u. j)
+    pick (eqb j 0) (λ u. 0)
+    (λ u. pick (and (isPossibleNone a) (sameBytes (valueAtEntry chars t j) (fixedBytes 1))) (λ v. 0) (λ v. j))
 
--- The nearest node that has the attribute, from the one whose index plus 1 is w up; its index plus 1, 0 for none.
+-- The nearest node that has the attribute, from the one whose index plus 1 is w up, as its index plus 1; 0 for none, and where w is 0.
 -- Parents have smaller indexes, so that w steps are enough.
 unfoldable pub holderFrom : Tree → ℕ → ℕ → ℕ → ℕ
 holderFrom t a zero w = 0
 holderFrom t a (suc n) w =
     pick (eqb w 0) (λ u. 0) (λ u. pick (hasAttribute t (w - 1) a) (λ v. w) (λ v. holderFrom t a n (parentOf t (w - 1))))
 
--- `ancestors().find(has_attribute)` from node i.
+-- `ancestors().find(has_attribute)` from node i: its index plus 1, 0 for none.
 abbrev pub holderOf : Tree → ℕ → ℕ → ℕ
 holderOf t a i = holderFrom t a (i + 1) (i + 1)
 
 -- Is node i an element whose first id is this?
 unfoldable pub hasIdBytes : List ℕ → Tree → List ℕ → ℕ → Bool
-hasIdBytes chars t id i = and (hasAttribute t i AId.Id) (sameBytes (valueAtEntry chars t (attributeId t i AId.Id)) id)
+hasIdBytes chars t id i =
+    let j : ℕ = attributeId t i AId.Id in
+    pick (eqb j 0) (λ u. false) (λ u. sameBytes (valueAtEntry chars t j) id)
 
--- The last of the first n nodes with that id; its index plus 1, 0 for none.
+-- The last of the first n nodes with that id, as its index plus 1; 0 for none.
 unfoldable pub lastWithId : List ℕ → Tree → List ℕ → ℕ → ℕ
 lastWithId chars t id zero = 0
 lastWithId chars t id (suc n) = pick (hasIdBytes chars t id n) (λ u. n + 1) (λ u. lastWithId chars t id n)
 
--- `element_by_id` over all counted nodes.
+-- `element_by_id` over all counted nodes: the index plus 1, 0 for none.
 unfoldable pub elementById : List ℕ → Tree → List ℕ → ℕ
 elementById chars t id = lastWithId chars t id (t .nodeCount)
 

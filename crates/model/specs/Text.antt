@@ -2,10 +2,11 @@
 use Prim.Native.Nat.{ℕ, zero, suc, _+_, _-_, min, max}
 use mathlib.Core.Bool.{Bool, true, false, not}
 use mathlib.Core.List.{List, [], _∷_, _++_}
+use mathlib.Core.Option.{Option, none, some}
 use lib.Dec.{eqb, leb, ltb}
 use lib.ListN.{length, getD}
 use lib.Seq.{slice}
-use Rattle.model.specs.Base.{pick, and, among, sameBytes}
+use Rattle.model.specs.Base.{pick, and, given, among, sameBytes}
 use Rattle.model.specs.Utf8.{isBlank}
 use Rattle.model.specs.AId
 use Rattle.model.specs.Drawing.{Source}
@@ -30,7 +31,9 @@ getXmlspace chars t i w =
     let j : ℕ = attributeId t i AId.Space in
     pick (eqb j 0) (λ u. w) (λ u. pick (sameBytes (valueAtEntry chars t j) preserveWord) (λ v. preserve) (λ v. default))
 
--- The space that is handed down to node i: what the nearest of it and its ancestors says that says anything.
+-- The space that is handed down to node i. The Rust hands it from each element to its children, and an element that says `xml:space`
+-- hands down its own; so what reaches node i is what the nearest of it and its ancestors says that says anything, and default where
+-- none does. Here that one is searched for upward.
 unfoldable pub spaceOf : List ℕ → Tree → ℕ → XmlSpace
 spaceOf chars t i =
     let w : ℕ = holderOf t AId.Space i in
@@ -53,16 +56,16 @@ trimTextAfter w prev (b ∷ bs) =
     let c : ℕ = converted b in
     pick (and (isDefault w) (and (eqb c SPACE) (eqb c prev))) (λ u. trimTextAfter w prev bs) (λ u. c ∷ trimTextAfter w c bs)
 
--- `trim_text`: before the first character stands none that is a space.
+-- `trim_text`: the Rust begins with the digit 0, byte 48, as the character before the first; any byte that is no space would do.
 unfoldable pub trimText : XmlSpace → List ℕ → List ℕ
 trimText w bs = trimTextAfter w 48 bs
 
 -- TEXT NODES
 
 -- How many bytes the texts have together.
-unfoldable pub sizeOf : List Source → ℕ
-sizeOf [] = 0
-sizeOf (a ∷ more) = a .size + sizeOf more
+unfoldable pub totalSize : List Source → ℕ
+totalSize [] = 0
+totalSize (a ∷ more) = a .size + totalSize more
 
 -- The bytes of the texts, one after another.
 unfoldable pub joined : List ℕ → List Source → List ℕ
@@ -72,9 +75,9 @@ joined chars (a ∷ more) = slice (a .start) (a .start + a .size) chars ++ joine
 -- A text node below p, made from these texts: text bytes lacking is 24, no record left 22.
 unfoldable pub appendText : List ℕ → List Source → ℕ → Tree → Out Tree
 appendText chars from p t =
-    pick (leb (t .textCount + sizeOf from) (textRoom t))
+    pick (leb (t .textCount + totalSize from) (textRoom t))
     (λ u. pick (ltb (t .nodeCount) (nodeRoom t))
-    (λ v. done (addText (trimText (spaceOf chars t p) (joined chars from)) (sizeOf from) p t)) (λ v. refused 22))
+    (λ v. done (addText (trimText (spaceOf chars t p) (joined chars from)) (totalSize from) p t)) (λ v. refused 22))
     (λ u. refused 24)
 
 -- TRIM_TEXT_NODES
@@ -85,11 +88,11 @@ pub data Trimming : Type 0 where
   look : ℕ → (List ℕ → Trimming) → Trimming
   cut : ℕ → ℕ → ℕ → Trimming → Trimming  -- the node, bytes in front, bytes at the end
 
--- Where a text begins without f bytes in front and b bytes at the end, as far as it has them.
+-- Where the text from `from` to `to` begins without f bytes in front, as far as it has them.
 abbrev pub cutFrom : ℕ → ℕ → ℕ → ℕ
 cutFrom from to f = min (from + f) to
 
--- Where the text ends then.
+-- Where it ends then, without b bytes at the end, as far as it has them.
 abbrev pub cutTo : ℕ → ℕ → ℕ → ℕ → ℕ
 cutTo from to f b = max (cutFrom from to f) (to - b)
 
@@ -109,7 +112,8 @@ pub record TextNode : Type 0 where
   pub depth : ℕ
   pub space : XmlSpace
 
--- How many elements stand between node i and the text element e; n bounds the steps.
+-- How many elements stand between node i and the text element e above it. n bounds the steps: a parent has a smaller index than
+-- its child, so that i steps are enough.
 unfoldable pub depthBelow : Tree → ℕ → ℕ → ℕ → ℕ
 depthBelow t e zero i = 0
 depthBelow t e (suc n) i = pick (eqb (parentOf t i) (e + 1)) (λ u. 0) (λ u. suc (depthBelow t e n (parentOf t i - 1)))
@@ -167,8 +171,8 @@ between deeper a b v w k =
     (λ x. pick (isDefault (a .space)) (λ y. removeLastSpace a k) (λ y. removeFirstSpace b k)) (λ x. k))
 
 -- Then a leading space of the first text node, or else a trailing space of the last one.
-abbrev pub edges : Bool → Bool → TextNode → TextNode → List ℕ → List ℕ → Trimming → Trimming
-edges isFirst isLast a b v w k = look (a .node) (λ x. look (b .node) (λ y.
+abbrev pub outerSpaces : Bool → Bool → TextNode → TextNode → List ℕ → List ℕ → Trimming → Trimming
+outerSpaces isFirst isLast a b v w k = look (a .node) (λ x. look (b .node) (λ y.
     pick (and (and isFirst (beginsWithSpace v)) (and (isDefault (a .space)) (not (isEmpty x)))) (λ u. removeFirstSpace a k)
     (λ u. onlyIf (and (and isLast (endsWithSpace w)) (and (not (isEmpty y)) (isDefault (b .space)))) (removeLastSpace b) k)))
 
@@ -180,30 +184,30 @@ lastEdge isLast a b v k = look (a .node) (λ x. look (b .node) (λ y.
 -- One pair whole; `deeper` says that the second stands deeper than the first.
 abbrev pub pair : Bool → Bool → Bool → TextNode → TextNode → Trimming → Trimming
 pair deeper isFirst isLast a b k = look (a .node) (λ v. look (b .node) (λ w.
-    between deeper a b v w (edges isFirst isLast a b v w (lastEdge isLast a b v k))))
+    between deeper a b v w (outerSpaces isFirst isLast a b v w (lastEdge isLast a b v k))))
 
 -- The node that stands for a in a pair: a text that is empty gives way to the last one before it that was not blank, if there is one.
-abbrev pub standsFor : List ℕ → TextNode → Bool → TextNode → TextNode
-standsFor v a known last = pick (and (isEmpty v) known) (λ u. last) (λ u. a)
+abbrev pub standsFor : List ℕ → TextNode → Option TextNode → TextNode
+standsFor v a last = pick (isEmpty v) (λ u. given last (λ n. n) (λ w. a)) (λ u. a)
 
 -- Is it the last pair?
 abbrev pub isNil : List TextNode → Bool
 isNil [] = true
 isNil (a ∷ more) = false
 
--- All pairs from a on; `known` says that an earlier text was not blank, and `last` is the last such.
-unfoldable pub pairs : Bool → Bool → TextNode → TextNode → List TextNode → Trimming
-pairs isFirst known last a [] = stop
-pairs isFirst known last a (b ∷ more) = look (a .node) (λ v.
-    let c : TextNode = standsFor v a known last in
+-- All pairs from a on; `last` is the last text before that was not blank, if there is one (`last_non_empty`).
+unfoldable pub pairs : Bool → Option TextNode → TextNode → List TextNode → Trimming
+pairs isFirst last a [] = stop
+pairs isFirst last a (b ∷ more) = look (a .node) (λ v.
+    let c : TextNode = standsFor v a last in
     pair (ltb (a .depth) (b .depth)) isFirst (isNil more) c b
-    (look (c .node) (λ x. pick (isBlank x) (λ u. pairs false known last b more) (λ u. pairs false true c b more))))
+    (look (c .node) (λ x. pairs false (pick (isBlank x) (λ u. last) (λ u. some c)) b more)))
 
 -- The program for the text nodes of an element: none, a single one, or pairs.
 unfoldable pub trimming : XmlSpace → List TextNode → Trimming
 trimming w [] = stop
 trimming w (a ∷ []) = pick (isDefault w) (λ u. single a) (λ u. stop)
-trimming w (a ∷ b ∷ more) = pairs true false a a (b ∷ more)
+trimming w (a ∷ b ∷ more) = pairs true none a (b ∷ more)
 
 -- `trim_text_nodes` of the text element e.
 unfoldable pub trimTextNodes : List ℕ → ℕ → Tree → Tree

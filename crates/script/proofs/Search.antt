@@ -14,7 +14,7 @@ use Rattle.model.specs.Base.{pick, and, or, among}
 use Rattle.model.specs.Names.{isElement}
 use Rattle.model.specs.EId
 use Rattle.model.specs.Drawing as model
-use Rattle.model.specs.Drawing.{Mark, Command, Event, begin, close, events, eventsFrom, elementAt, sourceAt, hasId, firstWithId, textNumbered, isInStyle, partAt, useHref, linkedBy, numberOf, leadsBack, usesIn, isSvg, copied, useTarget, trefHref, quotedFrom, quoted, textsIn}
+use Rattle.model.specs.Drawing.{Mark, Command, Event, begin, close, events, eventsFrom, elementAt, sourceAt, hasId, firstWithId, textNumbered, isInStyle, partAt, useHref, linkedBy, numberOf, leadsBack, usesIn, hasTagName, copied, useTarget, trefHref, quotedFrom, quoted, textsIn}
 use Rattle.script.specs.declared.cursor.Cursor.{Cursor}
 use Rattle.script.specs.declared.walk.UseIn.{UseIn}
 use Rattle.script.specs.declared.walk.UseIn.the-variants as useIn
@@ -230,7 +230,7 @@ module _ (s chars : List ℕ) (e : model.Element) (number origin : ℕ) (h : e .
   module _ (o : Cursor) (a b : ℕ) (n : Cursor) (z : v ≡ node.At o a b n) where
     copying : pick (and (and (and (leb b 1) (isElement a)) (not (or (eqb (o .number + 1) number) (eqb (o .number + 1) origin)))) (not (leadsBack (events s chars) number (o .number + 1) (usesIn zero (eventsAt s chars n)))))
         (λ u. nodeOf s chars v) (λ u. []) ≡ useTarget (events s chars) e origin
-    unfolding isSvg elementAt
+    unfolding hasTagName elementAt
     copying = rw (z, ← h) (ap (λ w. copied (events s chars) e origin (nodeOf s chars w)) (sym z) ∙ target)
 
     pub not-svg : and (leb b 1) (isElement a) ≡ false → [] ≡ useTarget (events s chars) e origin
@@ -268,7 +268,7 @@ module _ (s chars : List ℕ) (e : model.Element) (p : Option model.Part) (f : p
 
   module _ (o : Cursor) (a b : ℕ) (n : Cursor) (z : v ≡ node.At o a b n) where
     quotes : pick (and (leb b 1) (isElement a)) (λ u. textsIn zero (eventsAt s chars n)) (λ u. []) ≡ quoted (events s chars) e
-    unfolding isSvg elementAt
+    unfolding hasTagName elementAt
     quotes = ap (λ w. quotedFrom (nodeOf s chars w)) (sym z) ∙ quoting
 
     pub quotes-foreign : and (leb b 1) (isElement a) ≡ false → [] ≡ quoted (events s chars) e

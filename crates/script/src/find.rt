@@ -361,7 +361,7 @@ pub fn leads_back(script: &[u8], characters: &[u8], from: Cursor, n: usize, m: u
 }
 
 // Does the name give an element of the tree: no namespace or SVG, and a name of the list?
-pub fn is_svg(name: u8, space: u8) -> bool
+pub fn has_tag_name(name: u8, space: u8) -> bool
     ensures { λ r. ⌜ r ≡ and (leb space 1) (isElement name) ⌝ }
 {
     if 1 < space {
@@ -386,7 +386,7 @@ pub fn use_target(
     let node = linked(script, characters, use_href(script, inside));
     match node {
         Node::At(own, name, space, n) => {
-            if !is_svg(name, space) {
+            if !has_tag_name(name, space) {
                 return Node::Nothing;
             }
             let k = own.number + 1;
@@ -415,7 +415,7 @@ pub fn quoted(script: &[u8], characters: &[u8], inside: Cursor) -> Node
     let node = linked(script, characters, tref_href(script, inside));
     match node {
         Node::At(_, name, space, _) => {
-            if !is_svg(name, space) {
+            if !has_tag_name(name, space) {
                 return Node::Nothing;
             }
             node

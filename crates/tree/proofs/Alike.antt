@@ -41,7 +41,8 @@ module _ (t : Tree) where
   pub attribute-same : (chars : List ℕ) (i a : ℕ) → attributeOf chars seen i a ≡ attributeOf chars t i a
   unfolding attributeOf entryAt
   attribute-same chars i a =
-      ap (λ (j : ℕ). pick (and (isPossibleNone a) (sameBytes (valueAtEntry chars t j) (fixedBytes 1))) (λ u. 0) (λ u. j)) (id-same i a)
+      ap (λ (j : ℕ). pick (eqb j 0) (λ u. 0)
+      (λ u. pick (and (isPossibleNone a) (sameBytes (valueAtEntry chars t j) (fixedBytes 1))) (λ v. 0) (λ v. j))) (id-same i a)
 
   pub holder-same : (a n w : ℕ) → holderFrom seen a n w ≡ holderFrom t a n w
   holder-same a n w =
@@ -69,7 +70,7 @@ module _ (t : Tree) where
 
   pub has-id-same : (chars id : List ℕ) (i : ℕ) → hasIdBytes chars seen id i ≡ hasIdBytes chars t id i
   unfolding hasIdBytes entryAt
-  has-id-same chars id i = ap (λ (j : ℕ). and (not (eqb j 0)) (sameBytes (valueAtEntry chars t j) id)) (id-same i 65)
+  has-id-same chars id i = ap (λ (j : ℕ). pick (eqb j 0) (λ u. false) (λ u. sameBytes (valueAtEntry chars t j) id)) (id-same i 65)
 
   pub last-same : (chars id : List ℕ) (n : ℕ) → lastWithId chars seen id n ≡ lastWithId chars t id n
   unfolding lastWithId

@@ -27,11 +27,17 @@ part-slice (suc f) n [] = take-nil n ∙ sym (ap (drop (suc f)) (take-nil (suc f
 part-slice (suc f) n (x ∷ l) = let e : suc f + n ≡ suc (f + n) = omega arith in part-slice f n l ∙ sym (ap (λ (k : ℕ). drop (suc f) (take k (x ∷ l))) e)
 
 -- An attribute is there, or it is not.
+pub some-there : {r v : ℕ} → r ≡ v → (r ≡ 0 → ⊥) → eqb v 0 ≡ false
+some-there {r} {v} e h = ne-eqb v 0 (λ z. h (e ∙ z))
+
+pub none-there : {r v : ℕ} → r ≡ v → r ≡ 0 → eqb v 0 ≡ true
+none-there {r} {v} e h = eq-eqb v 0 (sym e ∙ h)
+
 pub has : {r v : ℕ} → r ≡ v → (r ≡ 0 → ⊥) → not (eqb v 0) ≡ true
-has {r} {v} e h = rw (ne-eqb v 0 (λ z. h (e ∙ z)))
+has e h = rw (some-there e h)
 
 pub has-not : {r v : ℕ} → r ≡ v → r ≡ 0 → not (eqb v 0) ≡ false
-has-not {r} {v} e h = rw (eq-eqb v 0 (sym e ∙ h))
+has-not e h = rw (none-there e h)
 
 pub part-of : (s n : ℕ) (l : List ℕ) → take (s + n - s) (drop s l) ≡ slice s (s + n) l
 part-of s n l = let e : s + n - s ≡ n = omega arith in ap (λ (k : ℕ). take k (drop s l)) e ∙ part-slice s n l

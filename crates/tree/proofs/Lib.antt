@@ -1,8 +1,6 @@
 pub mod Bools
-pub mod Counted
 pub mod Entries
 pub mod Climbs
 pub mod Alike
 pub mod Facts
 pub mod Stores
-pub mod Keeping

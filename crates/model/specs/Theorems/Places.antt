@@ -1,6 +1,6 @@
 -- Places in the characters: a text's place is disjoint from every other string's, which follows from the decoding; so a drawing with one text
 -- exchanged has the same events, and check takes it.
-use Prim.Native.Nat.{ℕ, suc, _+_, _≤_, _<_}
+use Prim.Native.Nat.{ℕ, _+_, _≤_, _<_}
 use mathlib.Core.Path.{_≡_, refl, sym, ap, _∙_}
 use mathlib.Core.Logic.{_⊎_, inl, inr}
 use mathlib.Core.Bool.{Bool, true, false, not}
@@ -14,83 +14,13 @@ use lib.Seq.{slice}
 use Rattle.model.specs.Base.{pick}
 use Rattle.model.specs.Utf8.{isUtf8}
 use Rattle.model.specs.Drawing.{Command, opening, attribute, declaration, reading, closing, broken, Reading, Attribute, Declaration, Source, Event, begin, text, other, close, Mark, past, partAt, readingsAt, valueAt, attributesAt, declarationsAt, elementAt, sourceAt, eventsFrom, textNumbered}
-use Rattle.model.specs.Check.{State, Last, nothing, value, Test, _if_, firstOf, isNothing, startOf, sizeOf, kindsOf, testsOf, testsAtEnd, stepped, checkFrom}
+use Rattle.model.specs.Check.{State, Last, nothing, value, _if_, firstOf, isNothing, valueStart, valueSize, valueKinds, testsOf, testsAtEnd, stepped, checkFrom}
 use Rattle.model.specs.Theorems.Sim.{Every, Events}
 use Rattle.model.specs.Theorems.Agree.{Agree, agree-slice}
 use Rattle.model.specs.Theorems.Spelled.{Spelled, SpelledElement}
-use Rattle.model.specs.Theorems.Related.{Harmless, absurd-bool}
-
--- WHAT CHECK HAS SEEN
-
--- One test did not apply, and neither did the rest.
-first-drop : (n : ℕ) (b : Bool) (ts : List Test) → firstOf ((suc n) if b ∷ ts) ≡ 0 → (b ≡ false) × (firstOf ts ≡ 0)
-unfolding firstOf
-first-drop n true ts h = absurd (omega arith)
-first-drop n false ts h = (refl, h)
-
-first-keep : (n : ℕ) (b : Bool) (ts : List Test) → b ≡ false → firstOf ts ≡ 0 → firstOf (n if b ∷ ts) ≡ 0
-unfolding firstOf
-first-keep n true ts h g = absurd-bool h
-first-keep n false ts h g = g
-
-first-none : firstOf [] ≡ 0
-unfolding firstOf
-first-none = refl
-
--- A reading has a value before it, and a broken command does not pass.
-reading-placed : (chars : List ℕ) (size : ℕ) (s : State) (k o l : ℕ) → firstOf (testsOf chars size s (reading k o l)) ≡ 0 → isNothing (s .last) ≡ false
-unfolding testsOf
-reading-placed chars size s k o l h = first-drop 3 _ _ (first-drop 2 _ _ h .1) .0
-
-never-broken : (chars : List ℕ) (size : ℕ) (s : State) (b : ℕ) → firstOf (testsOf chars size s (broken b)) ≡ 0 → ⊥
-unfolding testsOf
-never-broken chars size s b h = absurd-bool (first-drop 1 true [] (first-drop 6 _ _ h .1) .0)
-
--- The first command passed, and so did the rest.
-check-cons : (chars : List ℕ) (size : ℕ) (s : State) (c : Command) (cs : List Command) → checkFrom chars size s (c ∷ cs) ≡ 0 →
-    (firstOf (testsOf chars size s c) ≡ 0) × (checkFrom chars size (stepped chars size s c) cs ≡ 0)
-unfolding checkFrom
-check-cons chars size s c cs h = go (eqb (firstOf (testsOf chars size s c)) 0) refl h
-  where
-    go : (b : Bool) → eqb (firstOf (testsOf chars size s c)) 0 ≡ b →
-        pick b (λ u. checkFrom chars size (stepped chars size s c) cs) (λ u. firstOf (testsOf chars size s c)) ≡ 0 →
-        (firstOf (testsOf chars size s c) ≡ 0) × (checkFrom chars size (stepped chars size s c) cs ≡ 0)
-    go true e g = (eqb-true _ _ e, g)
-    go false e g = absurd (eqb-false _ _ e g)
-
-check-step : (chars : List ℕ) (size : ℕ) (s : State) (c : Command) (cs : List Command) → firstOf (testsOf chars size s c) ≡ 0 →
-    checkFrom chars size (stepped chars size s c) cs ≡ 0 → checkFrom chars size s (c ∷ cs) ≡ 0
-unfolding checkFrom
-check-step chars size s c cs h g = rw h g
-
--- Every reading lies within its value; n is the length of the value that stands before.
-abbrev pub Bounded : ℕ → List Command → Type 0
-Bounded n [] = Unit {0}
-Bounded n (reading k o l ∷ cs) = (o + l ≤ n) × Bounded n cs
-Bounded n (attribute a s l ∷ cs) = Bounded l cs
-Bounded n (declaration a i l ∷ cs) = Bounded l cs
-Bounded n (opening c s ∷ cs) = Bounded 0 cs
-Bounded n (Command.text l ∷ cs) = Bounded 0 cs
-Bounded n (Command.other ∷ cs) = Bounded 0 cs
-Bounded n (closing ∷ cs) = Bounded 0 cs
-Bounded n (broken b ∷ cs) = Unit {0}
-
-pub bounded : (chars : List ℕ) (size : ℕ) (s : State) (cs : List Command) → checkFrom chars size s cs ≡ 0 → Bounded (sizeOf (s .last)) cs
-unfolding testsOf stepped
-bounded chars size s [] h = tt
-bounded chars size s (reading k o l ∷ cs) h =
-    let c = check-cons chars size s (reading k o l) cs h in
-    let a = first-drop 2 _ _ (c .0) in
-    let b = first-drop 3 _ _ (a .1) in
-    let d = first-drop 5 _ _ (b .1) in
-    (ltb-false _ _ (d .0), bounded chars size _ cs (c .1))
-bounded chars size s (attribute a n l ∷ cs) h = bounded chars size _ cs (check-cons chars size s (attribute a n l) cs h .1)
-bounded chars size s (declaration a i l ∷ cs) h = bounded chars size _ cs (check-cons chars size s (declaration a i l) cs h .1)
-bounded chars size s (opening c n ∷ cs) h = bounded chars size _ cs (check-cons chars size s (opening c n) cs h .1)
-bounded chars size s (Command.text l ∷ cs) h = bounded chars size _ cs (check-cons chars size s (Command.text l) cs h .1)
-bounded chars size s (Command.other ∷ cs) h = bounded chars size _ cs (check-cons chars size s Command.other cs h .1)
-bounded chars size s (closing ∷ cs) h = bounded chars size _ cs (check-cons chars size s closing cs h .1)
-bounded chars size s (broken b ∷ cs) h = tt
+use Rattle.model.specs.Theorems.Related.{Harmless}
+use Rattle.model.specs.Theorems.Entries.{absurd-bool}
+use Rattle.model.specs.Theorems.Inside.{first-drop, first-keep, first-none, reading-placed, never-broken, check-cons, check-step, Bounded}
 
 -- A string that was taken ends within the characters.
 text-within : (chars : List ℕ) (size : ℕ) (s : State) (l : ℕ) → firstOf (testsOf chars size s (Command.text l)) ≡ 0 → s .at + l ≤ size
@@ -322,12 +252,12 @@ module _ (t : ℕ) (a : Source) where
       passes s m (reading k o n) cs e l h f = go (s .last) l f
         where
           go : (w : Last) → LastAway w →
-              firstOf (3 if not (Rattle.model.specs.Base.and (lib.Dec.leb 1 k) (lib.Dec.leb k 10)) ∷ 4 if isNothing w ∷ 6 if ltb (sizeOf w) (o + n)
-              ∷ 7 if Rattle.model.specs.Base.and (not (eqb k 4)) (Rattle.model.specs.Base.among k (kindsOf w))
-              ∷ 9 if not (isUtf8 (slice (startOf w + o) (startOf w + o + n) one)) ∷ []) ≡ 0 →
-              firstOf (3 if not (Rattle.model.specs.Base.and (lib.Dec.leb 1 k) (lib.Dec.leb k 10)) ∷ 4 if isNothing w ∷ 6 if ltb (sizeOf w) (o + n)
-              ∷ 7 if Rattle.model.specs.Base.and (not (eqb k 4)) (Rattle.model.specs.Base.among k (kindsOf w))
-              ∷ 9 if not (isUtf8 (slice (startOf w + o) (startOf w + o + n) two)) ∷ []) ≡ 0
+              firstOf (3 if not (Rattle.model.specs.Base.and (lib.Dec.leb 1 k) (lib.Dec.leb k 10)) ∷ 4 if isNothing w ∷ 6 if ltb (valueSize w) (o + n)
+              ∷ 7 if Rattle.model.specs.Base.and (not (eqb k 4)) (Rattle.model.specs.Base.among k (valueKinds w))
+              ∷ 9 if not (isUtf8 (slice (valueStart w + o) (valueStart w + o + n) one)) ∷ []) ≡ 0 →
+              firstOf (3 if not (Rattle.model.specs.Base.and (lib.Dec.leb 1 k) (lib.Dec.leb k 10)) ∷ 4 if isNothing w ∷ 6 if ltb (valueSize w) (o + n)
+              ∷ 7 if Rattle.model.specs.Base.and (not (eqb k 4)) (Rattle.model.specs.Base.among k (valueKinds w))
+              ∷ 9 if not (isUtf8 (slice (valueStart w + o) (valueStart w + o + n) two)) ∷ []) ≡ 0
           go nothing q f = absurd-bool (first-drop 3 _ _ (first-drop 2 _ _ f .1) .0)
           go (value v z ks) q f =
               let d = first-drop 5 _ _ (first-drop 3 _ _ (first-drop 2 _ _ f .1) .1) in
@@ -367,7 +297,7 @@ module _ (t : ℕ) (a : Source) where
           check-step two size s (reading c o j) cs (passes s m (reading c o j) cs e l h (d .0))
           (check-same _ (past m (reading c o j)) cs (omega arith) (still (s .last) l (reading-placed one size s c o j (d .0))) h (d .1))
         where
-          still : (w : Last) → LastAway w → isNothing w ≡ false → Away a (startOf w) (sizeOf w)
+          still : (w : Last) → LastAway w → isNothing w ≡ false → Away a (valueStart w) (valueSize w)
           still nothing q f = absurd-bool f
           still (value v n ks) q f = q
       check-same s m (Command.text j ∷ cs) e l h k =

@@ -4,20 +4,22 @@ use mathlib.Core.Path.{_≡_, refl, sym, ap, _∙_, subst}
 use mathlib.Core.Logic.{_⊎_, inl, inr}
 use mathlib.Core.Bool.{Bool, true, false, not}
 use mathlib.Core.List.{List, [], _∷_}
+use mathlib.Core.Option.{Option, none, some}
 use native.Mathlib.Omega.{arith}
 use borrow.Author.Tests.{eqb-true}
 use lib.Dec.{eqb, ltb}
 use lib.ListN.{length, getD, set, replicate, length-replicate}
 use lib.Seq.{getD-set-other}
-use Rattle.model.specs.Base.{pick, and}
+use Rattle.model.specs.Base.{pick, and, given}
 use Rattle.model.specs.Utf8.{isBlank}
 use Rattle.model.specs.Tables.{Tree, TEXT, word, kindOf, parentOf, fromOf, toOf, textOf, setText}
-use Rattle.model.specs.Text.{XmlSpace, isDefault, getXmlspace, Trimming, stop, look, cut, cutFrom, cutTo, cutText, run, TextNode, depthBelow, textNodes, ownTextNodes, beginsWithSpace, endsWithSpace, isEmpty, single, between, edges, lastEdge, pair, isNil, pairs, trimming}
+use Rattle.model.specs.Text.{XmlSpace, isDefault, getXmlspace, Trimming, stop, look, cut, cutFrom, cutTo, cutText, run, TextNode, depthBelow, textNodes, ownTextNodes, beginsWithSpace, endsWithSpace, isEmpty, single, between, outerSpaces, lastEdge, pair, standsFor, isNil, pairs, trimming}
 use Rattle.model.specs.Theorems.Sim.{Every}
-use Rattle.model.specs.Noted.{Note, In}
+use Rattle.model.specs.Noted.{Note, size, In}
 use Rattle.model.specs.Theorems.Agree.{Agree, agree-refl, agree-trans, agree-set, agree-sets, agree-out, agree-outs, agree-slice, set-cases}
 use Rattle.model.specs.Under.{under-keep}
-use Rattle.model.specs.Theorems.Good.{Fits, Good}
+use Rattle.model.specs.Theorems.Kept.{Tidy, tidy-bounds}
+use Rattle.model.specs.Theorems.Good.{Fits, Good, text-nodes-keep}
 
 -- ONE CUT
 
@@ -102,9 +104,23 @@ fits-cut n i a b t h = go (cut-from i a b t (n .node)) (cut-to i a b t (n .node)
         let m = moved f g a b (omega (arith, h .mid)) in
         record { kind = k; low = omega (arith, h .low); mid = omega arith; high = omega (arith, h .high) }
 
-good-cut : (ns : List Note) (i a b : ℕ) (t : Tree) → Good ns t → Good ns (cutText i a b t)
+-- A text node of the tree.
+abbrev pub IsText : Tree → ℕ → Type 0
+IsText t i = (i < t .nodeCount) × (kindOf t i ≡ TEXT)
+
+pub tidy-cut : (size′ : ℕ) (i a b : ℕ) (t : Tree) → IsText t i → Tidy size′ t → Tidy size′ (cutText i a b t)
+unfolding cutText
+tidy-cut size′ i a b t h k =
+    let n = k .kept .nodes i (h .0) .bytes (h .1) in
+    let m = moved (fromOf t i) (toOf t i) a b (n .0) in
+    tidy-bounds size′ t k i _ _ (h .0) (h .1) (m .1) (omega (arith, m .2, n .1))
+
+good-cut : (size′ : ℕ) (ns : List Note) (i a b : ℕ) (t : Tree) → IsText t i → Good size′ ns t → Good size′ ns (cutText i a b t)
 unfolding cutText setText
-good-cut ns i a b t g = record {
+good-cut size′ ns i a b t x g = record {
+  tidy = tidy-cut size′ i a b t x (g .tidy);
+  tiles = g .tiles;
+  each = g .each ∙ sym (text-nodes-keep (cutText i a b t) t (t .nodeCount) (λ j l. cut-word i a b t j 0 (λ e. omega arith) (λ e. omega arith)));
   fits = λ n h. fits-cut n i a b t (g .fits n h);
   below = g .below;
   apart = g .apart;
@@ -117,12 +133,6 @@ good-cut ns i a b t g = record {
 }
 
 -- A PROGRAM
-
-pub good-run : (ns : List Note) (g : Trimming) (t : Tree) → Good ns t → Good ns (run g t)
-unfolding run
-good-run ns stop t h = h
-good-run ns (look i k) t h = good-run ns (k (textOf t i)) t h
-good-run ns (cut i a b k) t h = good-run ns k (cutText i a b t) (good-cut ns i a b t h)
 
 -- What a trimming leaves alone.
 pub record Unmoved (s t : Tree) : Type 0 where
@@ -144,8 +154,31 @@ Within Q stop = Unit {0}
 Within Q (look i k) = Q i × ((v : List ℕ) → Within Q (k v))
 Within Q (cut i a b k) = Q i × Within Q k
 
+-- A weaker condition.
+within-map : (P Q : ℕ → Type 0) → ((i : ℕ) → P i → Q i) → (g : Trimming) → Within P g → Within Q g
+within-map P Q f stop h = tt
+within-map P Q f (look i k) h = (f i (h .0), λ v. within-map P Q f (k v) (h .1 v))
+within-map P Q f (cut i a b k) h = (f i (h .0), within-map P Q f k (h .1))
+
+-- A cut makes no node a text, and none another.
+text-cut : (i a b : ℕ) (t : Tree) (j : ℕ) → IsText t j → IsText (cutText i a b t) j
+unfolding cutText setText
+text-cut i a b t j h = (h .0, cut-word i a b t j 0 (λ e. omega arith) (λ e. omega arith) ∙ h .1)
+
+pub good-run : (size′ : ℕ) (ns : List Note) (g : Trimming) (t : Tree) → Within (IsText t) g → Good size′ ns t → Good size′ ns (run g t)
+unfolding run
+good-run size′ ns stop t w h = h
+good-run size′ ns (look i k) t w h = good-run size′ ns (k (textOf t i)) t (w .1 (textOf t i)) h
+good-run size′ ns (cut i a b k) t w h =
+    good-run size′ ns k (cutText i a b t) (within-map (IsText t) (IsText (cutText i a b t)) (λ j x. text-cut i a b t j x) k (w .1))
+    (good-cut size′ ns i a b t (w .0) h)
+
+-- The node of a note is a text node.
+noted-text : (size′ : ℕ) (ns : List Note) (t : Tree) → Good size′ ns t → (n : Note) → In n ns → (i : ℕ) → n .node ≡ i → IsText t i
+noted-text size′ ns t g n h i e = rw (← e) (g .below n h .0, g .fits n h .kind)
+
 cut-out : {P Q : ℕ → Type 0} (n : Note) (i a b : ℕ) (t : Tree) → Fits n t → n .node ≡ i → (P (8 * i + 6) → ⊥) → (P (8 * i + 7) → ⊥) →
-    ((j : ℕ) → n .start ≤ j → j < n .start + n .size → Q j → ⊥) →
+    ((j : ℕ) → n .start ≤ j → j < n .start + size n → Q j → ⊥) →
     Agree P (cutText i a b t .nodes) (t .nodes) × Agree Q (cutText i a b t .text) (t .text)
 unfolding cutText setText
 cut-out {P} {Q} n i a b t h e x y out =
@@ -163,16 +196,16 @@ cut-out {P} {Q} n i a b t h e x y out =
     )
 
 -- It touches from and to of the nodes that it names, and bytes in their places.
-pub run-out : {P Q : ℕ → Type 0} (ns : List Note) (g : Trimming) (t : Tree) → Good ns t →
+pub run-out : {P Q : ℕ → Type 0} (size′ : ℕ) (ns : List Note) (g : Trimming) (t : Tree) → Good size′ ns t →
     Within (λ i. (P (8 * i + 6) → ⊥) × (P (8 * i + 7) → ⊥)
-    × ((n : Note) × In n ns × (n .node ≡ i) × ((j : ℕ) → n .start ≤ j → j < n .start + n .size → Q j → ⊥))) g →
+    × ((n : Note) × In n ns × (n .node ≡ i) × ((j : ℕ) → n .start ≤ j → j < n .start + size n → Q j → ⊥))) g →
     Agree P (run g t .nodes) (t .nodes) × Agree Q (run g t .text) (t .text)
 unfolding run
-run-out ns stop t g h = (agree-refl _ _, agree-refl _ _)
-run-out {P} {Q} ns (look i k) t g h = run-out {P = P} {Q = Q} ns (k (textOf t i)) t g (h .1 (textOf t i))
-run-out {P} {Q} ns (cut i a b k) t g h =
-    let r = run-out {P = P} {Q = Q} ns k (cutText i a b t) (good-cut ns i a b t g) (h .1) in
+run-out size′ ns stop t g h = (agree-refl _ _, agree-refl _ _)
+run-out {P} {Q} size′ ns (look i k) t g h = run-out {P = P} {Q = Q} size′ ns (k (textOf t i)) t g (h .1 (textOf t i))
+run-out {P} {Q} size′ ns (cut i a b k) t g h =
     let w = h .0 .2 in
+    let r = run-out {P = P} {Q = Q} size′ ns k (cutText i a b t) (good-cut size′ ns i a b t (noted-text size′ ns t g (w .0) (w .1) i (w .2)) g) (h .1) in
     let o = cut-out {P = P} {Q = Q} (w .0) i a b t (g .fits (w .0) (w .1)) (w .2) (h .0 .0) (h .0 .1) (w .3) in
     (agree-trans (r .0) (o .0), agree-trans (r .1) (o .1))
 
@@ -194,7 +227,7 @@ cut-both {P} {Q} i a b s t p q x y =
     (set-text-both {P = P} {Q = Q} i (fromOf s i) (toOf s i) _ _ s t refl (sym (x .at (8 * i + 6) p)) refl (sym (x .at (8 * i + 7) q)) x y)
 
 text-same : {P Q : ℕ → Type 0} (n : Note) (i : ℕ) (s t : Tree) → Fits n s → n .node ≡ i → P (8 * i + 6) → P (8 * i + 7) →
-    ((j : ℕ) → n .start ≤ j → j < n .start + n .size → Q j) → Agree P (s .nodes) (t .nodes) → Agree Q (s .text) (t .text) → textOf s i ≡ textOf t i
+    ((j : ℕ) → n .start ≤ j → j < n .start + size n → Q j) → Agree P (s .nodes) (t .nodes) → Agree Q (s .text) (t .text) → textOf s i ≡ textOf t i
 unfolding textOf
 text-same n i s t h e p q f x y =
     let e6 : fromOf s (n .node) ≡ fromOf s i = ap (λ j. fromOf s j) e in
@@ -203,19 +236,21 @@ text-same n i s t h e p q f x y =
     (agree-slice (fromOf s i) (toOf s i) (λ j u v. f j (omega (arith, h .low)) (omega (arith, h .high))) y)
 
 -- It does the same to tables that agree on what it names.
-pub run-both : {P Q : ℕ → Type 0} (ns : List Note) (g : Trimming) (s t : Tree) → Good ns s →
-    Within (λ i. P (8 * i + 6) × P (8 * i + 7) × ((n : Note) × In n ns × (n .node ≡ i) × ((j : ℕ) → n .start ≤ j → j < n .start + n .size → Q j))) g →
+pub run-both : {P Q : ℕ → Type 0} (size′ : ℕ) (ns : List Note) (g : Trimming) (s t : Tree) → Good size′ ns s →
+    Within (λ i. P (8 * i + 6) × P (8 * i + 7) × ((n : Note) × In n ns × (n .node ≡ i) × ((j : ℕ) → n .start ≤ j → j < n .start + size n → Q j))) g →
     Agree P (s .nodes) (t .nodes) → Agree Q (s .text) (t .text) → Agree P (run g s .nodes) (run g t .nodes) × Agree Q (run g s .text) (run g t .text)
 unfolding run
-run-both ns stop s t g h x y = (x, y)
-run-both {P} {Q} ns (look i k) s t g h x y =
+run-both size′ ns stop s t g h x y = (x, y)
+run-both {P} {Q} size′ ns (look i k) s t g h x y =
     let w = h .0 .2 in
     subst (λ (v : List ℕ). Agree P (run (k (textOf s i)) s .nodes) (run (k v) t .nodes) × Agree Q (run (k (textOf s i)) s .text) (run (k v) t .text))
     (text-same {P = P} {Q = Q} (w .0) i s t (g .fits (w .0) (w .1)) (w .2) (h .0 .0) (h .0 .1) (w .3) x y)
-    (run-both {P = P} {Q = Q} ns (k (textOf s i)) s t g (h .1 (textOf s i)) x y)
-run-both {P} {Q} ns (cut i a b k) s t g h x y =
+    (run-both {P = P} {Q = Q} size′ ns (k (textOf s i)) s t g (h .1 (textOf s i)) x y)
+run-both {P} {Q} size′ ns (cut i a b k) s t g h x y =
+    let w = h .0 .2 in
     let o = cut-both {P = P} {Q = Q} i a b s t (h .0 .0) (h .0 .1) x y in
-    run-both {P = P} {Q = Q} ns k (cutText i a b s) (cutText i a b t) (good-cut ns i a b s g) (h .1) (o .0) (o .1)
+    run-both {P = P} {Q = Q} size′ ns k (cutText i a b s) (cutText i a b t)
+    (good-cut size′ ns i a b s (noted-text size′ ns s g (w .0) (w .1) i (w .2)) g) (h .1) (o .0) (o .1)
 
 -- TRIM_TEXT_NODES names only the text nodes that it is given
 
@@ -235,8 +270,8 @@ module _ (Q : ℕ → Type 0) where
   within-last : (z : Bool) (a b : TextNode) (v : List ℕ) (k : Trimming) → Q (a .node) → Q (b .node) → Within Q k → Within Q (lastEdge z a b v k)
   within-last z a b v k p q h = (p, λ x. (q, λ y. within-pick (and (and z (endsWithSpace v)) (and (isEmpty y) (endsWithSpace x))) _ _ (p, h) h))
 
-  within-edges : (f z : Bool) (a b : TextNode) (v w : List ℕ) (k : Trimming) → Q (a .node) → Q (b .node) → Within Q k → Within Q (edges f z a b v w k)
-  within-edges f z a b v w k p q h = (
+  within-outerSpaces : (f z : Bool) (a b : TextNode) (v w : List ℕ) (k : Trimming) → Q (a .node) → Q (b .node) → Within Q k → Within Q (outerSpaces f z a b v w k)
+  within-outerSpaces f z a b v w k p q h = (
     p,
     λ x. (
       q,
@@ -252,32 +287,37 @@ module _ (Q : ℕ → Type 0) where
 
   within-pair : (d f z : Bool) (a b : TextNode) (k : Trimming) → Q (a .node) → Q (b .node) → Within Q k → Within Q (pair d f z a b k)
   within-pair d f z a b k p q h =
-      (p, λ v. (q, λ w. within-between d a b v w _ p q (within-edges f z a b v w _ p q (within-last z a b v k p q h))))
+      (p, λ v. (q, λ w. within-between d a b v w _ p q (within-outerSpaces f z a b v w _ p q (within-last z a b v k p q h))))
 
-  within-pairs : (f known : Bool) (n a : TextNode) (more : List TextNode) → Q (n .node) → Q (a .node) → Every (λ (o : TextNode). Q (o .node)) more →
-      Within Q (pairs f known n a more)
+  -- A node that may be there is one that is named.
+  abbrev Named : Option TextNode → Type 0
+  Named none = Unit {0}
+  Named (some n) = Q (n .node)
+
+  named-pick : (c : Bool) (last : Option TextNode) (n : TextNode) → Named last → Q (n .node) → Named (pick c (λ u. last) (λ u. some n))
+  named-pick true last n h q = h
+  named-pick false last n h q = q
+
+  stands-named : (c : Bool) (last : Option TextNode) (a : TextNode) → Named last → Q (a .node) →
+      Q (pick c (λ u. given last (λ n. n) (λ w. a)) (λ u. a) .node)
+  stands-named true none a h q = q
+  stands-named true (some n) a h q = h
+  stands-named false last a h q = q
+
+  within-pairs : (f : Bool) (last : Option TextNode) (a : TextNode) (more : List TextNode) → Named last → Q (a .node) →
+      Every (λ (o : TextNode). Q (o .node)) more → Within Q (pairs f last a more)
   unfolding pairs
-  within-pairs f known n a [] h q e = tt
-  within-pairs f known n a (b ∷ more) h q e =
-      (q, λ v. at (and (isEmpty v) known) (λ k m g. within-pairs false k m b more g (e .0) (e .1)))
-    where
-      body : ((k : Bool) (m : TextNode) → Q (m .node) → Within Q (pairs false k m b more)) → (m : TextNode) → Q (m .node) →
-          Within Q (pair (ltb (a .depth) (b .depth)) f (isNil more) m b
-          (look (m .node) (λ x. pick (isBlank x) (λ u. pairs false known n b more) (λ u. pairs false true m b more))))
-      body r m p = within-pair (ltb (a .depth) (b .depth)) f (isNil more) m b _ p (e .0)
-          (p, λ x. within-pick (isBlank x) _ _ (r known n h) (r true m p))
-
-      at : (y : Bool) → ((k : Bool) (m : TextNode) → Q (m .node) → Within Q (pairs false k m b more)) →
-          Within Q (let c : TextNode = pick y (λ u. n) (λ u. a) in pair (ltb (a .depth) (b .depth)) f (isNil more) c b
-          (look (c .node) (λ x. pick (isBlank x) (λ u. pairs false known n b more) (λ u. pairs false true c b more))))
-      at true r = body r n h
-      at false r = body r a q
+  within-pairs f last a [] h q e = tt
+  within-pairs f last a (b ∷ more) h q e = (q, λ v.
+      let p = stands-named (isEmpty v) last a h q in
+      within-pair (ltb (a .depth) (b .depth)) f (isNil more) (standsFor v a last) b _ p (e .0)
+      (p, λ x. within-pairs false _ b more (named-pick (isBlank x) last (standsFor v a last) h p) (e .0) (e .1)))
 
   pub within-trimming : (w : XmlSpace) (is : List TextNode) → Every (λ (o : TextNode). Q (o .node)) is → Within Q (trimming w is)
   unfolding trimming
   within-trimming w [] h = tt
   within-trimming w (a ∷ []) h = within-pick (isDefault w) _ _ (within-single a (h .0)) tt
-  within-trimming w (a ∷ b ∷ more) h = within-pairs true false a a (b ∷ more) (h .0) (h .0) (h .1)
+  within-trimming w (a ∷ b ∷ more) h = within-pairs true none a (b ∷ more) tt (h .0) (h .1)
 
   -- The text nodes that are collected.
   collected : (chars : List ℕ) (t : Tree) (w : XmlSpace) (e i n : ℕ) → ((j : ℕ) → i ≤ j → j < i + n → kindOf t j ≡ TEXT → Q j) →

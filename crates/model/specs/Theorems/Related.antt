@@ -11,26 +11,29 @@ use lib.ListN.{length, getD, length-append, length-take, length-drop}
 use lib.Seq.{sets, slice}
 use Rattle.model.specs.Base.{pick, and, or, among}
 use Rattle.model.specs.EId
-use Rattle.model.specs.Drawing.{Element, Source, Event, childrenFrom}
+use Rattle.model.specs.Drawing.{Element, Source, Event}
 use Rattle.model.specs.Tables.{Tree, Out, ELEMENT, TEXT, word, kindOf, parentOf, most, nodeRoom, attributeRoom, textRoom, Entry, entryAt, addElement, addText}
 use Rattle.model.specs.Element.{entriesOf, mostNodes, parseSvgElement}
-use Rattle.model.specs.Text.{XmlSpace, isDefault, SPACE, converted, trimTextAfter, trimText, spaceOf, sizeOf, joined, appendText, Trimming, run, TextNode, ownTextNodes, trimming, trimTextNodes}
-use Rattle.model.specs.Parse.{each, node, label, plain}
-use Rattle.model.specs.Theorems.Sim.{Rel, both, same, Every, Events, then-rel, Kept, inside-sim, top-sim}
-use Rattle.model.specs.Noted.{Note, Noted, noteOf, withNotes, noting, In}
+use Rattle.model.specs.Text.{XmlSpace, isDefault, SPACE, converted, trimTextAfter, trimText, spaceOf, totalSize, joined, appendText, Trimming, run, TextNode, ownTextNodes, trimming, trimTextNodes}
+use Rattle.model.specs.Parse.{label, plain}
+use Rattle.model.specs.Build.{parsed}
+use Rattle.model.specs.Theorems.Sim.{Rel, both, same, Every, Events, rel-map, then-rel, Carried, Grown, IsCode, text-code, inside-sim, top-sim}
+use Rattle.model.specs.Noted.{Note, size, sources, Noted, noteOf, withNotes, noting, In}
 use Rattle.model.specs.Theorems.Agree.{Agree, agree-sym, agree-trans, agree-weak, agree-sets, agree-outs}
 use Rattle.model.specs.Theorems.Same.{Same, entries-same, space-same, own-nodes-same}
-use Rattle.model.specs.Theorems.SameRepair.{entry-by-words}
+use Rattle.model.specs.Theorems.Entries.{absurd-bool, entry-by-words, Closed, every-entry}
+use Rattle.model.specs.Theorems.Kept.{KeptEntry, kept-attribute}
+use Rattle.model.specs.Theorems.Inside.{LiesPart, LiesElement, lies-read}
 use Rattle.model.specs.Theorems.Laws.{appended-agree, appended-new, room-fits}
 use Rattle.model.specs.Under.{Under, here, under-keep, under-parent, under-appended, under-new, IsTextElement}
 use Rattle.model.specs.Theorems.Good.{Good, old-element, good-element, good-text}
-use Rattle.model.specs.Theorems.Reach.{good-run, run-unmoved, Within, run-out, run-both, within-trimming, own-collected}
+use Rattle.model.specs.Theorems.Reach.{IsText, good-run, run-unmoved, Within, run-out, run-both, within-trimming, own-collected}
 use Rattle.model.specs.Theorems.Spelled.{Safe, SpelledElement, safe-entries, add-safe}
 
 -- The text element e is noted with a text node made from text t.
 unfoldable pub holds : ℕ → ℕ → List Note → Bool
 holds t e [] = false
-holds t e (n ∷ ns) = or (and (eqb (n .elem) e) (among t (n .sources))) (holds t e ns)
+holds t e (n ∷ ns) = or (and (eqb (n .elem) e) (among t (sources n))) (holds t e ns)
 
 or-true : (a b : Bool) → b ≡ true → or a b ≡ true
 or-true true b h = refl
@@ -38,9 +41,9 @@ or-true false b h = h
 
 holds-more : (t e : ℕ) (n : Note) (ns : List Note) → holds t e ns ≡ true → holds t e (n ∷ ns) ≡ true
 unfolding holds
-holds-more t e n ns h = or-true (and (eqb (n .elem) e) (among t (n .sources))) (holds t e ns) h
+holds-more t e n ns h = or-true (and (eqb (n .elem) e) (among t (sources n))) (holds t e ns) h
 
-holds-new : (t : ℕ) (n : Note) (ns : List Note) → among t (n .sources) ≡ true → holds t (n .elem) (n ∷ ns) ≡ true
+holds-new : (t : ℕ) (n : Note) (ns : List Note) → among t (sources n) ≡ true → holds t (n .elem) (n ∷ ns) ≡ true
 unfolding holds
 holds-new t n ns h = rw (eq-eqb (n .elem) (n .elem) refl, h)
 
@@ -49,7 +52,7 @@ abbrev pub Stable : ℕ → List Note → ℕ → Type 0
 Stable t ns q = (n : Note) → In n ns → holds t (n .elem) ns ≡ true → ((q ≡ 8 * n .node + 6) → ⊥) × ((q ≡ 8 * n .node + 7) → ⊥)
 
 abbrev pub Steady : ℕ → List Note → ℕ → Type 0
-Steady t ns q = (n : Note) → In n ns → holds t (n .elem) ns ≡ true → n .start ≤ q → q < n .start + n .size → ⊥
+Steady t ns q = (n : Note) → In n ns → holds t (n .elem) ns ≡ true → n .start ≤ q → q < n .start + size n → ⊥
 
 -- A word that is neither from nor to is stable.
 pub stable-word : (t : ℕ) (ns : List Note) (i k : ℕ) → k < 6 → Stable t ns (8 * i + k)
@@ -65,20 +68,22 @@ pub record Outer (t : ℕ) (one two : List ℕ) (s r : Noted) : Type 0 where
   pub nodes : Agree (Stable t (s .notes)) (s .tree .nodes) (r .tree .nodes)
   pub text : Agree (Steady t (s .notes)) (s .tree .text) (r .tree .text)
   pub safe : (j : ℕ) → Safe one two (entryAt (s .tree) j)
-  pub left : Good (s .notes) (s .tree)
-  pub right : Good (s .notes) (r .tree)
+  pub left : Good (length one) (s .notes) (s .tree)
+  pub right : Good (length one) (s .notes) (r .tree)
+
+-- The same, and node p may get a child.
+pub record Open (t : ℕ) (one two : List ℕ) (p : ℕ) (s r : Noted) : Type 0 where
+  pub outer : Outer t one two s r
+  pub opened : p < s .tree .nodeCount
 
 -- The same inside the text element e, whose first byte is at low, with the element of node p open.
 pub record Inner (t : ℕ) (one two : List ℕ) (e low p : ℕ) (s r : Noted) : Type 0 where
   pub outer : Outer t one two s r
   pub base : low ≤ s .tree .textCount
   pub past : e < s .tree .nodeCount
-  pub split : (n : Note) → In n (s .notes) → ((n .elem ≡ e) × (low ≤ n .start)) ⊎ ((n .node ≤ e) × (n .start + n .size ≤ low))
+  pub split : (n : Note) → In n (s .notes) → ((n .elem ≡ e) × (low ≤ n .start)) ⊎ ((n .node ≤ e) × (n .start + size n ≤ low))
   pub label : IsTextElement (s .tree) e
   pub opened : (p < s .tree .nodeCount) × Under (s .tree .nodes) e p
-
-pub absurd-bool : {A : Type 0} → true ≡ false → A
-absurd-bool h = let z : _≡_ {A = ℕ} 0 1 = ap (λ (b : Bool). pick b (λ u. 0) (λ u. 1)) h in absurd (omega arith)
 
 -- Two tests that are the same test.
 pick-both : (R : Noted → Noted → Type 0) (ns ms : List Note) (b c : Bool) (x y x′ y′ : Unit {0} → Out Tree) → b ≡ c →
@@ -100,6 +105,11 @@ attribute-room-same s r h = ap (λ (l : List ℕ). min (length l / 5) most) h
 text-room-same : (s r : Tree) → length (s .text) ≡ length (r .text) → textRoom s ≡ textRoom r
 unfolding textRoom
 text-room-same s r h = ap (λ n. min n most) h
+
+-- There is room for as many bytes.
+text-room-fits : (t : Tree) (n : ℕ) → leb (t .textCount + n) (textRoom t) ≡ true → t .textCount + n ≤ length (t .text)
+unfolding textRoom
+text-room-fits t n h = omega (arith, leb-true (t .textCount + n) (min (length (t .text)) most) h)
 
 -- There is room for as many entries.
 entries-fit : (t : Tree) (n : ℕ) → leb (t .attributeCount + n) (attributeRoom t) ≡ true → 5 * (t .attributeCount + n) ≤ length (t .attributes)
@@ -136,10 +146,11 @@ module _ (t : ℕ) (one two : List ℕ) where
   abbrev grown : ℕ → List Entry → ℕ → Noted → Noted
   grown c es p s = record { tree = addElement c es p (s .tree); notes = s .notes }
 
-  outer-add : (c p : ℕ) (es : List Entry) (s r : Noted) → Outer t one two s r → 8 * s .tree .nodeCount + 8 ≤ length (s .tree .nodes) →
-      5 * (s .tree .attributeCount + length es) ≤ length (s .tree .attributes) → Every (Safe one two) es → Outer t one two (grown c es p s) (grown c es p r)
+  outer-add : (c p : ℕ) (es : List Entry) (s r : Noted) → Outer t one two s r → IsCode c → p < s .tree .nodeCount →
+      8 * s .tree .nodeCount + 8 ≤ length (s .tree .nodes) → 5 * (s .tree .attributeCount + length es) ≤ length (s .tree .attributes) →
+      Every (Safe one two) es → Every (KeptEntry (length one)) es → Outer t one two (grown c es p s) (grown c es p r)
   unfolding addElement
-  outer-add c p es s r o room fit sf = record {
+  outer-add c p es s r o is pb room fit sf ke = record {
     notes = o .notes;
     nodeCount = ap (λ n. n + 1) (o .nodeCount);
     attributeCount = ap (λ n. n + length es) (o .attributeCount);
@@ -151,15 +162,34 @@ module _ (t : ℕ) (one two : List ℕ) where
         (λ u. refl) (o .nodes));
     text = o .text;
     safe = add-safe one two c es p (s .tree) fit sf (o .safe);
-    left = good-element (s .notes) c es p (s .tree) room (o .left);
-    right = good-element (s .notes) c es p (r .tree) (rw (← o .nodeCount, ← o .nodes .long) room) (o .right);
+    left = good-element (length one) (s .notes) c es p (s .tree) is pb room fit ke (o .left);
+    right = good-element (length one) (s .notes) c es p (r .tree) is (rw (o .nodeCount) at pb) (rw (← o .nodeCount, ← o .nodes .long) room)
+        (rw (← o .attributeCount, ← o .attributes) fit) ke (o .right);
   }
 
-  element-rel : (R : Noted → Noted → Type 0) (x : Element) → SpelledElement one two x → (c : ℕ) (i : Bool) (p : ℕ) (s r : Noted) → Outer t one two s r →
+  -- What is asked of an element of the drawing: its values are spelled alike, and lie within the characters.
+  abbrev pub Fine : Element → Type 0
+  Fine x = SpelledElement one two x × LiesElement (length one) x
+
+  kept-closed : Closed (KeptEntry (length one)) (λ v c. (c ≡ 0 → ⊥) × LiesPart (length one) v)
+  kept-closed = record {
+    made = λ a i v c x h. record { name = x; fixed = λ z. absurd (h .0 z); inside = λ z. h .1 };
+    fixed = λ a i n x f. record { name = x; fixed = λ z. (f .0, f .1, refl); inside = λ z. absurd (z refl) };
+    over = λ v e h k. record { name = k .name; fixed = λ z. absurd (h .0 z); inside = λ z. h .1 };
+  }
+
+  entries-kept : (n : List Note) (u : Tree) → Good (length one) n u → (p c : ℕ) → p < u .nodeCount → (i : Bool) (x : Element) →
+      LiesElement (length one) x → Every (KeptEntry (length one)) (entriesOf u p c i x)
+  entries-kept n u g p c l i x h =
+      every-entry (KeptEntry (length one)) _ kept-closed u p c (λ j b. g .tidy .kept .nodes j (omega arith) .falls)
+      (λ j a b z. kept-attribute (length one) u (g .tidy .kept) j a (omega arith) z) i x (lies-read (length one) x h)
+
+  element-rel : (R : Noted → Noted → Type 0) (x : Element) → Fine x → (c : ℕ) → IsCode c → (i : Bool) (p : ℕ) (s r : Noted) → Open t one two p s r →
       ((es : List Entry) → 8 * s .tree .nodeCount + 8 ≤ length (s .tree .nodes) → Outer t one two (grown c es p s) (grown c es p r) → R (grown c es p s) (grown c es p r)) →
       Rel R (noting (plain one) .element x c i p s) (noting (plain two) .element x c i p r)
   unfolding parseSvgElement
-  element-rel R x g c i p s r o f =
+  element-rel R x g c is i p s r q f =
+      let o = q .outer in
       rw (← entries-same one two (s .tree) (r .tree) (outer-same s r o) p c i x)
       (pick-both R (s .notes) (r .notes) (leb (s .tree .attributeCount + length es) (attributeRoom (s .tree))) (leb (r .tree .attributeCount + length es) (attributeRoom (r .tree))) _ _ _ _
       (ap (λ n. leb (n + length es) (attributeRoom (s .tree))) (o .attributeCount) ∙ ap (λ n. leb (r .tree .attributeCount + length es) n) (attribute-room-same _ _ (o .attributes)))
@@ -167,29 +197,39 @@ module _ (t : ℕ) (one two : List ℕ) where
       (λ few. pick-both R (s .notes) (r .notes) (ltb (s .tree .nodeCount) (nodeRoom (s .tree))) (ltb (r .tree .nodeCount) (nodeRoom (r .tree))) _ _ _ _
       (ap (λ n. ltb n (nodeRoom (s .tree))) (o .nodeCount) ∙ ap (λ n. ltb (r .tree .nodeCount) n) (node-room-same _ _ (o .nodes .long)))
       (λ room. same (f es (room-fits (s .tree) room)
-      (outer-add c p es s r o (room-fits (s .tree) room) (entries-fit (s .tree) (length es) fit) (safe-entries one two (s .tree) p c (o .safe) i x g)))) (both 22))
+      (outer-add c p es s r o is (q .opened) (room-fits (s .tree) room) (entries-fit (s .tree) (length es) fit)
+      (safe-entries one two (s .tree) p c (λ j b. o .left .tidy .kept .nodes j (omega (arith, q .opened)) .falls) (o .safe) i x (g .0))
+      (entries-kept (s .notes) (s .tree) (o .left) p c (q .opened) i x (g .1))))) (both 22))
       (both 20))
       (both 23))
     where
       es : List Entry
       es = entriesOf (s .tree) p c i x
 
-  outer-element : (x : Element) → SpelledElement one two x → (c : ℕ) (i : Bool) (p : ℕ) (s r : Noted) → Outer t one two s r →
-      Rel (Outer t one two) (noting (plain one) .element x c i p s) (noting (plain two) .element x c i p r)
-  outer-element x g c i p s r o = element-rel (Outer t one two) x g c i p s r o (λ es room q. q)
+  -- With the new node open, or any that was.
+  open-grown : (c p : ℕ) (es : List Entry) (s r : Noted) → Outer t one two s r → Outer t one two (grown c es p s) (grown c es p r) →
+      Grown (Open t one two) (r .tree .nodeCount) s r (grown c es p s) (grown c es p r)
+  unfolding addElement
+  open-grown c p es s r o q =
+      (record { outer = q; opened = omega (arith, o .nodeCount) }, λ p′ k. record { outer = q; opened = omega (arith, k .opened) })
+
+  outer-element : (x : Element) → Fine x → (c : ℕ) → IsCode c → (i : Bool) (p : ℕ) (s r : Noted) → Open t one two p s r →
+      Rel (Grown (Open t one two) (r .tree .nodeCount) s r) (noting (plain one) .element x c i p s) (noting (plain two) .element x c i p r)
+  outer-element x g c is i p s r o =
+      element-rel (Grown (Open t one two) (r .tree .nodeCount) s r) x g c is i p s r o (λ es room q. open-grown c p es s r (o .outer) q)
 
   -- INSIDE A TEXT ELEMENT
 
   -- The text element itself has been appended.
-  enter : (x : Element) → SpelledElement one two x → (i : Bool) (p : ℕ) (s r : Noted) → Outer t one two s r →
+  enter : (x : Element) → Fine x → (i : Bool) (p : ℕ) (s r : Noted) → Open t one two p s r →
       Rel (Inner t one two (s .tree .nodeCount) (s .tree .textCount) (s .tree .nodeCount)) (noting (plain one) .element x EId.Text i p s)
       (noting (plain two) .element x EId.Text i p r)
   unfolding addElement
-  enter x g i p s r o = element-rel (Inner t one two (s .tree .nodeCount) (s .tree .textCount) (s .tree .nodeCount)) x g EId.Text i p s r o (λ es room q. record {
+  enter x g i p s r o = element-rel (Inner t one two (s .tree .nodeCount) (s .tree .textCount) (s .tree .nodeCount)) x g EId.Text text-code i p s r o (λ es room q. record {
     outer = q;
     base = omega arith;
     past = omega arith;
-    split = λ n h. inr (omega (arith, o .left .below n h .0), o .left .below n h .1);
+    split = λ n h. inr (omega (arith, o .outer .left .below n h .0), o .outer .left .below n h .1);
     label = (its es room 0 (omega arith) (λ x y. omega arith), its es room 5 (omega arith) (λ x y. omega arith));
     opened = (omega arith, here);
   })
@@ -199,11 +239,10 @@ module _ (t : ℕ) (one two : List ℕ) where
           ≡ getD (ELEMENT ∷ (p + 1) ∷ 0 ∷ 0 ∷ 0 ∷ EId.Text ∷ s .tree .attributeCount ∷ (s .tree .attributeCount + length es) ∷ []) k 0
       its es room k b h = appended-new ELEMENT EId.Text _ _ (s .tree .nodes) p (s .tree .nodeCount) k room b h
 
-  inner-element : (e low : ℕ) (x : Element) → SpelledElement one two x → (c p : ℕ) (s r : Noted) → Inner t one two e low p s r →
-      Rel (λ s′ r′. Inner t one two e low (r .tree .nodeCount) s′ r′ × Kept (Inner t one two e low) s r s′ r′)
-      (noting (plain one) .element x c false p s) (noting (plain two) .element x c false p r)
+  inner-element : (e low : ℕ) (x : Element) → Fine x → (c : ℕ) → IsCode c → (p : ℕ) (s r : Noted) → Inner t one two e low p s r →
+      Rel (Grown (Inner t one two e low) (r .tree .nodeCount) s r) (noting (plain one) .element x c false p s) (noting (plain two) .element x c false p r)
   unfolding addElement
-  inner-element e low x g c p s r i = element-rel _ x g c false p s r (i .outer) (λ es room q. let keep = kept es q in (
+  inner-element e low x g c is p s r i = element-rel _ x g c is false p s r (record { outer = i .outer; opened = i .opened .0 }) (λ es room q. let keep = kept es q in (
     record {
       outer = q;
       base = i .base;
@@ -215,7 +254,7 @@ module _ (t : ℕ) (one two : List ℕ) where
     keep,
   ))
     where
-      kept : (es : List Entry) → Outer t one two (grown c es p s) (grown c es p r) → Kept (Inner t one two e low) s r (grown c es p s) (grown c es p r)
+      kept : (es : List Entry) → Outer t one two (grown c es p s) (grown c es p r) → Carried (Inner t one two e low) s r (grown c es p s) (grown c es p r)
       kept es q p′ j = record {
         outer = q;
         base = j .base;
@@ -249,30 +288,32 @@ module _ (t : ℕ) (one two : List ℕ) where
       go k false e g = rw (h .0 (λ x. eqb-false t (a .number) e (sym x)), k g)
 
   -- All texts that a text node is made from are noted.
-  all-noted : (e : ℕ) (from : List Source) (i j : ℕ) → among t (map (λ a. a .number) from) ≡ true → among t (noteOf e from i j .sources) ≡ true
+  all-noted : (e : ℕ) (from : List Source) (i j : ℕ) → among t (map (λ a. a .number) from) ≡ true → among t (sources (noteOf e from i j)) ≡ true
   all-noted e from i j h = h
 
   -- Both trees with a new text node.
   abbrev worded : ℕ → List Source → List ℕ → ℕ → Noted → Noted
-  worded e from bs p s = record { tree = addText bs (sizeOf from) p (s .tree); notes = noteOf e from (s .tree .nodeCount) (s .tree .textCount) ∷ s .notes }
+  worded e from bs p s = record { tree = addText bs (totalSize from) p (s .tree); notes = noteOf e from (s .tree .nodeCount) (s .tree .textCount) ∷ s .notes }
 
-  inner-worded : (e low p : ℕ) (from : List Source) (s r : Noted) (us vs : List ℕ) → length us ≤ sizeOf from → length vs ≤ sizeOf from →
-      ((us ≡ vs) ⊎ (among t (map (λ a. a .number) from) ≡ true)) → 8 * s .tree .nodeCount + 8 ≤ length (s .tree .nodes) → Inner t one two e low p s r →
-      Kept (Inner t one two e low) s r (worded e from us p s) (worded e from vs p r)
+  inner-worded : (e low p : ℕ) (from : List Source) (s r : Noted) (us vs : List ℕ) → length us ≤ totalSize from → length vs ≤ totalSize from →
+      ((us ≡ vs) ⊎ (among t (map (λ a. a .number) from) ≡ true)) → 8 * s .tree .nodeCount + 8 ≤ length (s .tree .nodes) →
+      s .tree .textCount + totalSize from ≤ length (s .tree .text) → Inner t one two e low p s r →
+      Carried (Inner t one two e low) s r (worded e from us p s) (worded e from vs p r)
   unfolding addText entryAt
-  inner-worded e low p from s r us vs la lb c room i p′ j = record {
+  inner-worded e low p from s r us vs la lb c room space i p′ j = record {
     outer = record {
       notes = notes-same;
       nodeCount = ap (λ n. n + 1) (o .nodeCount);
       attributeCount = o .attributeCount;
-      textCount = ap (λ n. n + sizeOf from) (o .textCount);
+      textCount = ap (λ n. n + totalSize from) (o .textCount);
       attributes = o .attributes;
       nodes = rw (← o .nodeCount, ← o .textCount) (appended-agree TEXT 0 (s .tree .textCount) _ _ p (s .tree .nodeCount) (stable-word t ns p 3 (omega arith)) (stable-word t ns p 4 (omega arith))
           (λ f. to f c) (agree-weak (λ q f n h d. f n (inr h) (holds-more t (n .elem) new (s .notes) d)) (o .nodes)));
       text = bytes c;
       safe = o .safe;
-      left = good-text (s .notes) e p us (sizeOf from) _ (s .tree) room la (i .past) (i .label) (i .opened .0) (i .opened .1) (o .left);
-      right = rw (o .nodeCount, o .textCount) (good-text (s .notes) e p vs (sizeOf from) _ (r .tree) (rw (← o .nodeCount, ← o .nodes .long) room) lb (rw (o .nodeCount) at (i .past))
+      left = good-text (length one) (s .notes) e p us from (s .tree) room space la (i .past) (i .label) (i .opened .0) (i .opened .1) (o .left);
+      right = rw (o .nodeCount, o .textCount) (good-text (length one) (s .notes) e p vs from (r .tree) (rw (← o .nodeCount, ← o .nodes .long) room)
+          (rw (← o .textCount, ← o .text .long) space) lb (rw (o .nodeCount) at (i .past))
           (sym (o .nodes .at (8 * e + 0) (stable-word t (s .notes) e 0 (omega arith))) ∙ i .label .0, sym (o .nodes .at (8 * e + 5) (stable-word t (s .notes) e 5 (omega arith))) ∙ i .label .1)
           (rw (o .nodeCount) at (i .opened .0))
           (under-keep (s .tree .nodes) (r .tree .nodes) e (s .tree .nodeCount) (λ m b. sym (o .nodes .at (8 * m + 1) (stable-word t (s .notes) m 1 (omega arith)))) p (i .opened .0) (i .opened .1))
@@ -311,7 +352,7 @@ module _ (t : ℕ) (one two : List ℕ) where
           agree-trans (agree-outs us (s .tree .text) (s .tree .textCount) (λ j a b f. f new (inl refl) w a (omega arith)))
           (agree-trans weak (agree-sym (agree-outs vs (r .tree .text) (r .tree .textCount) (λ j a b f. f new (inl refl) w (omega (arith, o .textCount)) (omega (arith, o .textCount))))))
 
-      split : (n : Note) → In n ns → ((n .elem ≡ e) × (low ≤ n .start)) ⊎ ((n .node ≤ e) × (n .start + n .size ≤ low))
+      split : (n : Note) → In n ns → ((n .elem ≡ e) × (low ≤ n .start)) ⊎ ((n .node ≤ e) × (n .start + size n ≤ low))
       split n (inl h) = inl (ap (λ (m : Note). m .elem) h, rw h (i .base))
       split n (inr h) = i .split n h
 
@@ -325,14 +366,14 @@ module _ (t : ℕ) (one two : List ℕ) where
       go f g true = omega arith
       go f g false = omega arith
 
-  joined-fits : (chars : List ℕ) (from : List Source) → length (joined chars from) ≤ sizeOf from
-  unfolding joined sizeOf
+  joined-fits : (chars : List ℕ) (from : List Source) → length (joined chars from) ≤ totalSize from
+  unfolding joined totalSize
   joined-fits chars [] = omega arith
   joined-fits chars (a ∷ more) =
       let h : length (slice (a .start) (a .start + a .size) chars) ≤ a .size = simp (length-drop, length-take) (omega arith) in
       rw length-append (omega (arith, h, joined-fits chars more))
 
-  text-fits : (w : XmlSpace) (chars : List ℕ) (from : List Source) → length (trimText w (joined chars from)) ≤ sizeOf from
+  text-fits : (w : XmlSpace) (chars : List ℕ) (from : List Source) → length (trimText w (joined chars from)) ≤ totalSize from
   unfolding trimText
   text-fits w chars from = omega (arith, trim-fits w 48 (joined chars from), joined-fits chars from)
 
@@ -346,15 +387,15 @@ module _ (t : ℕ) (one two : List ℕ) where
       go false e = inl (rw (q, joined-same from h e))
 
   inner-text : (e low : ℕ) (from : List Source) → Every Harmless from → (p : ℕ) (s r : Noted) → Inner t one two e low p s r →
-      Rel (Kept (Inner t one two e low) s r) (noting (plain one) .text e from p s) (noting (plain two) .text e from p r)
+      Rel (Carried (Inner t one two e low) s r) (noting (plain one) .text e from p s) (noting (plain two) .text e from p r)
   unfolding appendText
   inner-text e low from h p s r i =
-      pick-both (Kept (Inner t one two e low) s r) _ _ (leb (s .tree .textCount + sizeOf from) (textRoom (s .tree))) (leb (r .tree .textCount + sizeOf from) (textRoom (r .tree))) _ _ _ _
-      (ap (λ n. leb (n + sizeOf from) (textRoom (s .tree))) (i .outer .textCount) ∙ ap (λ n. leb (r .tree .textCount + sizeOf from) n) (text-room-same _ _ (i .outer .text .long)))
-      (λ x. pick-both (Kept (Inner t one two e low) s r) _ _ (ltb (s .tree .nodeCount) (nodeRoom (s .tree))) (ltb (r .tree .nodeCount) (nodeRoom (r .tree))) _ _ _ _
+      pick-both (Carried (Inner t one two e low) s r) _ _ (leb (s .tree .textCount + totalSize from) (textRoom (s .tree))) (leb (r .tree .textCount + totalSize from) (textRoom (r .tree))) _ _ _ _
+      (ap (λ n. leb (n + totalSize from) (textRoom (s .tree))) (i .outer .textCount) ∙ ap (λ n. leb (r .tree .textCount + totalSize from) n) (text-room-same _ _ (i .outer .text .long)))
+      (λ x. pick-both (Carried (Inner t one two e low) s r) _ _ (ltb (s .tree .nodeCount) (nodeRoom (s .tree))) (ltb (r .tree .nodeCount) (nodeRoom (r .tree))) _ _ _ _
       (ap (λ n. ltb n (nodeRoom (s .tree))) (i .outer .nodeCount) ∙ ap (λ n. ltb (r .tree .nodeCount) n) (node-room-same _ _ (i .outer .nodes .long)))
       (λ room. same (inner-worded e low p from s r _ _ (text-fits _ one from) (text-fits _ two from)
-      (texts-same _ _ (space-same one two (s .tree) (r .tree) (outer-same s r (i .outer)) p) from h) (room-fits (s .tree) room) i)) (both 22))
+      (texts-same _ _ (space-same one two (s .tree) (r .tree) (outer-same s r (i .outer)) p) from h) (room-fits (s .tree) room) (text-room-fits (s .tree) (totalSize from) x) i)) (both 22))
       (both 24)
 
   -- THE END OF A TEXT ELEMENT
@@ -365,7 +406,7 @@ module _ (t : ℕ) (one two : List ℕ) where
     mine j a b k = let f = i .outer .left .noted j b k in go f (i .split (f .0) (f .1))
       where
         go : (f : (n : Note) × In n (s .notes) × (n .node ≡ j)) →
-            ((f .0 .elem ≡ e) × (low ≤ f .0 .start)) ⊎ ((f .0 .node ≤ e) × (f .0 .start + f .0 .size ≤ low)) →
+            ((f .0 .elem ≡ e) × (low ≤ f .0 .start)) ⊎ ((f .0 .node ≤ e) × (f .0 .start + size (f .0) ≤ low)) →
             (n : Note) × In n (s .notes) × (n .node ≡ j) × (n .elem ≡ e) × (low ≤ n .start)
         go f (inl x) = (f .0, f .1, f .2, x .0, x .1)
         go f (inr x) = absurd (omega (arith, f .2))
@@ -410,34 +451,34 @@ module _ (t : ℕ) (one two : List ℕ) where
     held h = (agree-trans (a .0) (agree-trans (i .outer .nodes) (agree-sym (b .0))), agree-trans (a .1) (agree-trans (i .outer .text) (agree-sym (b .1))))
       where
         loose : Within (λ j. (Stable t (s .notes) (8 * j + 6) → ⊥) × (Stable t (s .notes) (8 * j + 7) → ⊥)
-            × ((n : Note) × In n (s .notes) × (n .node ≡ j) × ((q : ℕ) → n .start ≤ q → q < n .start + n .size → Steady t (s .notes) q → ⊥))) g
+            × ((n : Note) × In n (s .notes) × (n .node ≡ j) × ((q : ℕ) → n .start ≤ q → q < n .start + size n → Steady t (s .notes) q → ⊥))) g
         loose = within _ (λ j x y k. let m = mine j x y k in
             let d : holds t (m .0 .elem) (s .notes) ≡ true = rw (m .3) h in
             (λ f. f (m .0) (m .1) d .0 (omega (arith, m .2)), λ f. f (m .0) (m .1) d .1 (omega (arith, m .2)), (m .0, m .1, m .2, λ q u v f. f (m .0) (m .1) d u v)))
 
         a : Alike (run g (s .tree)) (s .tree)
-        a = run-out (s .notes) g (s .tree) (i .outer .left) loose
+        a = run-out (length one) (s .notes) g (s .tree) (i .outer .left) loose
 
         b : Alike (run g (r .tree)) (r .tree)
-        b = run-out (s .notes) g (r .tree) (i .outer .right) loose
+        b = run-out (length one) (s .notes) g (r .tree) (i .outer .right) loose
 
     -- It does not: no word and no byte of its own may change.
     own-stable : holds t e (s .notes) ≡ false → (j k : ℕ) → e < j → 6 ≤ k → k ≤ 7 → Stable t (s .notes) (8 * j + k)
     own-stable h j k a x y n q d = go (i .split n q)
       where
-        go : ((n .elem ≡ e) × (low ≤ n .start)) ⊎ ((n .node ≤ e) × (n .start + n .size ≤ low)) → ((8 * j + k ≡ 8 * n .node + 6) → ⊥) × ((8 * j + k ≡ 8 * n .node + 7) → ⊥)
+        go : ((n .elem ≡ e) × (low ≤ n .start)) ⊎ ((n .node ≤ e) × (n .start + size n ≤ low)) → ((8 * j + k ≡ 8 * n .node + 6) → ⊥) × ((8 * j + k ≡ 8 * n .node + 7) → ⊥)
         go (inl z) = absurd-bool (sym d ∙ ap (λ m. holds t m (s .notes)) (z .0) ∙ h)
         go (inr z) = (λ f. omega arith, λ f. omega arith)
 
     own-steady : holds t e (s .notes) ≡ false → (q : ℕ) → low ≤ q → Steady t (s .notes) q
     own-steady h q a n m d x y = go (i .split n m)
       where
-        go : ((n .elem ≡ e) × (low ≤ n .start)) ⊎ ((n .node ≤ e) × (n .start + n .size ≤ low)) → ⊥
+        go : ((n .elem ≡ e) × (low ≤ n .start)) ⊎ ((n .node ≤ e) × (n .start + size n ≤ low)) → ⊥
         go (inl z) = absurd-bool (sym d ∙ ap (λ m. holds t m (s .notes)) (z .0) ∙ h)
         go (inr z) = omega arith
 
     free : holds t e (s .notes) ≡ false → Alike (run g (s .tree)) (run g (r .tree))
-    free h = run-both (s .notes) g (s .tree) (r .tree) (i .outer .left)
+    free h = run-both (length one) (s .notes) g (s .tree) (r .tree) (i .outer .left)
         (within _ (λ j x y k. let m = mine j x y k in (
           own-stable h j 6 x (omega arith) (omega arith),
           own-stable h j 7 x (omega arith) (omega arith),
@@ -466,33 +507,43 @@ module _ (t : ℕ) (one two : List ℕ) where
           nodes = trimmed-alike .0;
           text = trimmed-alike .1;
           safe = λ j. entry-safe one two (run g (s .tree)) (s .tree) (u .attributes) (o .safe) j;
-          left = good-run (s .notes) g (s .tree) (o .left);
-          right = good-run (s .notes) g (r .tree) (o .right);
+          left = good-run (length one) (s .notes) g (s .tree) (within (IsText (s .tree)) (λ j x y k. (y, k))) (o .left);
+          right = good-run (length one) (s .notes) g (r .tree) (within (IsText (r .tree)) (λ j x y k. (rw (o .nodeCount) at y,
+              sym (o .nodes .at (8 * j + 0) (stable-word t (s .notes) j 0 (omega arith))) ∙ k))) (o .right);
         })
+
+    -- A node before the text element may still get children.
+    leave-open : (q : ℕ) → q < e → Open t one two q (noting (plain one) .finish e s) (noting (plain two) .finish e r)
+    unfolding trimTextNodes g is w
+    leave-open q l = record { outer = leave; opened = omega (arith, i .past, run-unmoved g (s .tree) .nodeCount) }
 
   -- A TEXT ELEMENT WHOLE
 
-  label-rel : (all : List Event) → Events (SpelledElement one two) Harmless all → (x : Element) → SpelledElement one two x → (xs : List Event) →
-      Events (SpelledElement one two) Harmless xs → (i : Bool) (p : ℕ) (s r : Noted) → Outer t one two s r →
-      Rel (Outer t one two) (label (noting (plain one)) all x xs i p s) (label (noting (plain two)) all x xs i p r)
+  label-rel : (all : List Event) → Events Fine Harmless all → (x : Element) → Fine x → (xs : List Event) → Events Fine Harmless xs →
+      (i : Bool) (p : ℕ) (s r : Noted) → Open t one two p s r →
+      Rel (Carried (Open t one two) s r) (label (noting (plain one)) all x xs i p s) (label (noting (plain two)) all x xs i p r)
   label-rel all ok x g xs h i p s r o =
-      then-rel (Inner t one two (s .tree .nodeCount) (s .tree .textCount) (s .tree .nodeCount)) (Outer t one two) _ _ (enter x g i p s r o) (λ s′ r′ j.
-      rw (← o .nodeCount)
-      (then-rel (λ a b. (q : ℕ) × Inner t one two (s .tree .nodeCount) (s .tree .textCount) q a b) (Outer t one two) _ _
-      (inside-sim (Inner t one two (s .tree .nodeCount) (s .tree .textCount)) (λ a b. (q : ℕ) × Inner t one two (s .tree .nodeCount) (s .tree .textCount) q a b)
-      (SpelledElement one two) Harmless (noting (plain one)) (noting (plain two)) all ok (s .tree .nodeCount)
-      (λ y gy c q a b k. inner-element (s .tree .nodeCount) (s .tree .textCount) y gy c q a b k)
-      (λ from hf q a b k. inner-text (s .tree .nodeCount) (s .tree .textCount) from hf q a b k)
+      let e = s .tree .nodeCount in
+      let low = s .tree .textCount in
+      rel-map (λ a b. (q : ℕ) → q < e → Open t one two q a b) (Carried (Open t one two) s r) (λ a b f q m. f q (m .opened))
+      (then-rel (Inner t one two e low e) (λ a b. (q : ℕ) → q < e → Open t one two q a b) _ _ (enter x g i p s r o) (λ s′ r′ j.
+      rw (← o .outer .nodeCount)
+      (then-rel (λ a b. (q : ℕ) × Inner t one two e low q a b) (λ a b. (q : ℕ) → q < e → Open t one two q a b) _ _
+      (inside-sim (Inner t one two e low) (λ a b. (q : ℕ) × Inner t one two e low q a b)
+      Fine Harmless (noting (plain one)) (noting (plain two)) all ok e
+      (λ y gy c is q a b k. inner-element e low y gy c is q a b k)
+      (λ from hf q a b k. inner-text e low from hf q a b k)
       (λ q a b k. k .outer .nodeCount)
       (λ q a b k. ap (λ n. n - 1) (k .outer .nodes .at (8 * q + 1) (stable-word t (a .notes) q 1 (omega arith))))
-      (λ q a b f k. inner-up (s .tree .nodeCount) (s .tree .textCount) q a b f k)
-      (λ q a b k. (q, k)) xs h zero (s .tree .nodeCount) s′ r′ j)
-      (λ a b k. same (leave (s .tree .nodeCount) (s .tree .textCount) (k .0) a b (k .1)))))
+      (λ q a b f k. inner-up e low q a b f k)
+      (λ q a b k. (q, k)) xs h zero e s′ r′ j)
+      (λ a b k. same (λ q l. leave-open e low (k .0) a b (k .1) q l)))))
 
   -- THE NODES OF THE TOP LEVEL
 
-  pub top-related : (all : List Event) → Events (SpelledElement one two) Harmless all → (k : ℕ) (s r : Noted) → Outer t one two s r →
-      Rel (Outer t one two) (each (node (noting (plain one)) all k) (childrenFrom zero all) 0 false 0 s) (each (node (noting (plain two)) all k) (childrenFrom zero all) 0 false 0 r)
-  top-related all ok k s r o =
-      top-sim (Outer t one two) (SpelledElement one two) Harmless (noting (plain one)) (noting (plain two)) all ok
-      (λ x g c i p a b q. outer-element x g c i p a b q) (λ x g xs h i p a b q. label-rel all ok x g xs h i p a b q) (λ a b q. q .nodeCount) k s r o
+  pub top-related : (all : List Event) → Events Fine Harmless all → (s r : Noted) → Open t one two 0 s r →
+      Rel (Carried (Open t one two) s r) (parsed (noting (plain one)) all s) (parsed (noting (plain two)) all r)
+  top-related all ok s r o =
+      top-sim (Open t one two) Fine Harmless (noting (plain one)) (noting (plain two)) all ok
+      (λ x g c is i p a b q. outer-element x g c is i p a b q) (λ x g xs h i p a b q. label-rel all ok x g xs h i p a b q)
+      (λ p a b q. q .outer .nodeCount) s r o

@@ -60,10 +60,10 @@ module _ (one two : List ℕ) (s r : Tree) (h : Same one two s r) where
   unfolding attributeOf
   attribute-of-same i a = rw (attribute-id-same i a, value-same (attributeId r i a))
 
-  holder-from-same : (a n w : ℕ) → holderFrom s a n w ≡ holderFrom r a n w
+  pub holder-same : (a n w : ℕ) → holderFrom s a n w ≡ holderFrom r a n w
   unfolding holderFrom
-  holder-from-same a zero w = refl
-  holder-from-same a (suc n) w = rw (attribute-id-same (w - 1) a, h .parent (w - 1), holder-from-same a n (parentOf r (w - 1)))
+  holder-same a zero w = refl
+  holder-same a (suc n) w = rw (attribute-id-same (w - 1) a, h .parent (w - 1), holder-same a n (parentOf r (w - 1)))
 
   has-id-same : (id : List ℕ) (i : ℕ) → hasIdBytes one s id i ≡ hasIdBytes two r id i
   unfolding hasIdBytes
@@ -85,7 +85,7 @@ module _ (one two : List ℕ) (s r : Tree) (h : Same one two s r) where
 
   from-same : (p a : ℕ) → inheritedFrom s p a ≡ inheritedFrom r p a
   unfolding inheritedFrom
-  from-same p a = rw (holder-from-same a (p + 1) (p + 1))
+  from-same p a = rw (holder-same a (p + 1) (p + 1))
 
   resolve-same : (p a : ℕ) → resolveInherit s p a ≡ resolveInherit r p a
   unfolding resolveInherit
@@ -136,7 +136,7 @@ module _ (one two : List ℕ) (s r : Tree) (h : Same one two s r) where
 
   pub space-same : (i : ℕ) → spaceOf one s i ≡ spaceOf two r i
   unfolding spaceOf
-  space-same i = rw (holder-from-same AId.Space (i + 1) (i + 1), get-space-same (holderFrom r AId.Space (i + 1) (i + 1) - 1) default)
+  space-same i = rw (holder-same AId.Space (i + 1) (i + 1), get-space-same (holderFrom r AId.Space (i + 1) (i + 1) - 1) default)
 
   depth-same : (e n i : ℕ) → depthBelow s e n i ≡ depthBelow r e n i
   unfolding depthBelow

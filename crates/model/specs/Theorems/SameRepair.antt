@@ -1,5 +1,5 @@
 -- The repairs of two trees that are the same in the sense of Same make the same cuts.
-use Prim.Native.Nat.{ℕ, zero, suc, _+_, _-_, _*_, _<_}
+use Prim.Native.Nat.{ℕ, zero, suc, _+_, _-_, _*_}
 use mathlib.Core.Path.{_≡_, refl, ap, _∙_, fun-ext}
 use mathlib.Core.Bool.{Bool, true, false}
 use mathlib.Core.List.{List, [], _∷_, _++_, map}
@@ -10,14 +10,15 @@ use lib.Seq.{sets, slice}
 use native.Mathlib.Omega.{arith}
 use native.Mathlib.Decide.{ℕ-discrete}
 use borrow.Author.Tests.{eq-eqb}
-use Rattle.model.specs.Base.{pick, given, folded, sameBytes}
+use Rattle.model.specs.Base.{pick, given, sameBytes}
 use Rattle.model.specs.EId
 use Rattle.model.specs.AId
 use Rattle.model.specs.Drawing.{Value, readingOf}
-use Rattle.model.specs.Tables.{Tree, parentOf, Entry, entryWord, entryAt, valueOf, attributeId, attributeOf, elementById, setNone}
-use Rattle.model.specs.Repair.{upFrom, allNamed, belowFrom, descendants, firstFound, readingsAt, linkOf, elementId, paintsWith, linkKind, nodeAttribute, firstBelow, recursivePatternAt, findRecursivePattern, recursiveLinkAt, findRecursiveLink, recursiveFeImage, feImageLinks, Cut, cutName, applyCut, nextCut, cutsFrom, cutsOf, cutsOfAll, repairs, repaired}
+use Rattle.model.specs.Tables.{Tree, parentOf, Entry, entryAt, valueOf, attributeId, attributeOf, elementById, setNone}
+use Rattle.model.specs.Repair.{upFrom, allNamed, belowFrom, descendants, firstFound, readingsOfAttribute, linkOf, elementId, paintsWith, linkKind, nodeAttribute, firstBelow, recursivePatternAt, findRecursivePattern, recursiveLinkAt, findRecursiveLink, recursiveFeImage, feImageLinks, Cut, cutName, cutAt, applyCut, applied, nextCut, cutsFrom, cutsOf, cutsOfAll, repairs, repaired}
 use Rattle.model.specs.Names.{fixedBytes}
 use Rattle.model.specs.Theorems.Agree.{sets-out}
+use Rattle.model.specs.Theorems.Entries.{entry-by-words}
 use Rattle.model.specs.Theorems.Same.{Same, entry-same, value-same, attribute-id-same, attribute-of-same, by-id-same, named-same}
 
 given-same : {A B : Type 0} (o : Option A) (f g : A → B) (b : B) → ((a : A) → f a ≡ g a) → given o f (λ u. b) ≡ given o g (λ u. b)
@@ -40,8 +41,8 @@ module _ (one two : List ℕ) (values : List Value) (s r : Tree) (h : Same one t
   descendants-same i =
       ap (λ js. i ∷ js) (below-same i (upFrom (i + 1) (s .nodeCount - (i + 1))) ∙ ap (λ n. belowFrom r i (upFrom (i + 1) (n - (i + 1)))) (h .count))
 
-  readings-same : (a i : ℕ) → readingsAt one values s a i ≡ readingsAt two values r a i
-  unfolding readingsAt
+  readings-same : (a i : ℕ) → readingsOfAttribute one values s a i ≡ readingsOfAttribute two values r a i
+  unfolding readingsOfAttribute
   readings-same a i = rw (attribute-of-same one two s r h i a, entry-same one two s r h (attributeOf two r i a - 1))
 
   element-id-same : (i : ℕ) → elementId one s i ≡ elementId two r i
@@ -111,12 +112,6 @@ module _ (one two : List ℕ) (values : List Value) (s r : Tree) (h : Same one t
 
 -- A CUT
 
--- Two entries with the same words are the same.
-pub entry-by-words : (s t : Tree) (i : ℕ) → ((k : ℕ) → k < 5 → entryWord s i k ≡ entryWord t i k) → entryAt s i ≡ entryAt t i
-unfolding entryAt
-entry-by-words s t i f = λ x. record
-    { name = f 0 (omega arith) x; important = f 1 (omega arith) x; start = f 2 (omega arith) x; size = f 3 (omega arith) x; command = f 4 (omega arith) x }
-
 -- A fixed value is read from no characters.
 pub fixed-safe : (one two : List ℕ) (e : Entry) → e .command ≡ 0 → valueOf one e ≡ valueOf two e
 unfolding valueOf
@@ -148,33 +143,49 @@ module _ (one two : List ℕ) where
           rw (entry-by-words (setNone j t) t i (λ k b. sets-out (1 ∷ 0 ∷ 0 ∷ []) (t .attributes) (5 * j + 2) (5 * i + k)
           (λ x y. n (omega arith)))) (h i)
 
-  cut-same : (s r : Tree) (c : Cut) → Same one two s r → Same one two (applyCut s c) (applyCut r c)
-  unfolding applyCut setNone
-  cut-same s r c h = record {
+  none-same : (s r : Tree) (j : ℕ) → Same one two s r → Same one two (setNone j s) (setNone j r)
+  unfolding setNone
+  none-same s r j h = record {
     count = h .count;
     attributeCount = h .attributeCount;
-    attributes = rw (attribute-id-same one two s r h (c .node) (cutName (c .pass)))
-        (ap (λ l. sets l (5 * (attributeId r (c .node) (cutName (c .pass)) - 1) + 2) (1 ∷ 0 ∷ 0 ∷ [])) (h .attributes));
+    attributes = ap (λ l. sets l (5 * j + 2) (1 ∷ 0 ∷ 0 ∷ [])) (h .attributes);
     kind = h .kind;
     parent = h .parent;
     child = h .child;
     code = h .code;
     range = h .range;
-    safe = none-safe s (attributeId s (c .node) (cutName (c .pass)) - 1) (h .safe);
+    safe = none-safe s j (h .safe);
   }
 
-  pub cuts-applied : (s r : Tree) (cs : List Cut) → Same one two s r → Same one two (folded applyCut s cs) (folded applyCut r cs)
+  cut-same : (s r : Tree) (c : Cut) → Same one two s r → Same one two (applyCut s c) (applyCut r c)
+  unfolding applyCut
+  cut-same s r c h = rw (attribute-id-same one two s r h (c .node) (cutName (c .pass))) (go (attributeId r (c .node) (cutName (c .pass))))
+    where
+      pick-same : (b : Bool) (j : ℕ) → Same one two (pick b (λ u. s) (λ u. setNone j s)) (pick b (λ u. r) (λ u. setNone j r))
+      pick-same true j = h
+      pick-same false j = none-same s r j h
+
+      go : (j : ℕ) → Same one two (pick (eqb j 0) (λ u. s) (λ u. setNone (j - 1) s)) (pick (eqb j 0) (λ u. r) (λ u. setNone (j - 1) r))
+      go j = pick-same (eqb j 0) (j - 1)
+
+  pub cuts-applied : (s r : Tree) (cs : List Cut) → Same one two s r → Same one two (applied s cs) (applied r cs)
+  unfolding applied
   cuts-applied s r [] h = h
   cuts-applied s r (c ∷ cs) h = cuts-applied (applyCut s c) (applyCut r c) cs (cut-same s r c h)
+
+  cut-at-same : (s r : Tree) (k i : ℕ) → Same one two s r → cutAt s k i ≡ cutAt r k i
+  unfolding cutAt
+  cut-at-same s r k i h =
+      rw (attribute-id-same one two s r h i (cutName k), entry-same one two s r h (attributeId r i (cutName k) - 1)) refl
 
   module _ (values : List Value) where
     cuts-from-same : (k n : ℕ) (s r : Tree) → Same one two s r → cutsFrom one values k n s ≡ cutsFrom two values k n r
     unfolding cutsFrom
     cuts-from-same k zero s r h = refl
     cuts-from-same k (suc n) s r h =
-        rw (next-same one two values s r h k)
-        (ap (λ l. pick (eqb (nextCut two values k r) 0) (λ u. []) (λ u. record { pass = k; node = nextCut two values k r - 1 } ∷ l))
-        (cuts-from-same k n _ _ (cut-same s r (record { pass = k; node = nextCut two values k r - 1 }) h)))
+        rw (next-same one two values s r h k, cut-at-same s r k (nextCut two values k r - 1) h)
+        (ap (λ l. pick (eqb (nextCut two values k r) 0) (λ u. []) (λ u. cutAt r k (nextCut two values k r - 1) ∷ l))
+        (cuts-from-same k n _ _ (cut-same s r (cutAt r k (nextCut two values k r - 1)) h)))
 
     cuts-of-same : (k : ℕ) (s r : Tree) → Same one two s r → cutsOf one values k s ≡ cutsOf two values k r
     unfolding cutsOf
@@ -185,17 +196,18 @@ module _ (one two : List ℕ) where
             (all-named-same one two values s r h EId.FeImage _ ∙ ap (λ n. allNamed r EId.FeImage (upFrom 0 n)) (h .count))
 
         go : (b : Bool) → pick b (λ u. cutsFrom one values k (s .attributeCount) s)
-            (λ u. map (λ i. record { pass = k; node = i }) (feImageLinks one values s [] (allNamed s EId.FeImage (upFrom 0 (s .nodeCount)))))
+            (λ u. map (cutAt s k) (feImageLinks one values s [] (allNamed s EId.FeImage (upFrom 0 (s .nodeCount)))))
             ≡ pick b (λ u. cutsFrom two values k (r .attributeCount) r)
-            (λ u. map (λ i. record { pass = k; node = i }) (feImageLinks two values r [] (allNamed r EId.FeImage (upFrom 0 (r .nodeCount)))))
+            (λ u. map (cutAt r k) (feImageLinks two values r [] (allNamed r EId.FeImage (upFrom 0 (r .nodeCount)))))
         go true = cuts-from-same k (s .attributeCount) s r h ∙ ap (λ n. cutsFrom two values k n r) (h .attributeCount)
-        go false = ap (λ l. map (λ i. record { pass = k; node = i }) l) links
+        go false = ap (λ l. map (cutAt s k) l) links
+            ∙ ap (λ f. map f (feImageLinks two values r [] (allNamed r EId.FeImage (upFrom 0 (r .nodeCount))))) (fun-ext (λ i. cut-at-same s r k i h))
 
     cuts-of-all-same : (ks : List ℕ) (s r : Tree) → Same one two s r → cutsOfAll one values ks s ≡ cutsOfAll two values ks r
     unfolding cutsOfAll
     cuts-of-all-same [] s r h = refl
     cuts-of-all-same (k ∷ ks) s r h =
-        ap (λ l. l ++ cutsOfAll one values ks (folded applyCut s l)) (cuts-of-same k s r h)
+        ap (λ l. l ++ cutsOfAll one values ks (applied s l)) (cuts-of-same k s r h)
         ∙ ap (λ l. cutsOf two values k r ++ l) (cuts-of-all-same ks _ _ (cuts-applied s r (cutsOf two values k r) h))
 
     pub repairs-same : (s r : Tree) → Same one two s r → repairs one values s ≡ repairs two values r

@@ -11,11 +11,11 @@ use lib.Seq.{sets, getD-set-other, length-sets}
 use Rattle.model.specs.Base.{pick}
 use Rattle.model.specs.Tables.{Tree, word, setWord, nextLinked, firstLinked, linked, appended, Entry, entriesWords, addElement, addText, setText, setNone, rooted, cleared}
 use Rattle.model.specs.Theorems.Agree.{set-cases, sets-out}
-use Rattle.model.specs.Theorems.Spelled.{entries-long}
+use Rattle.model.specs.Theorems.Entries.{entries-long}
 
 -- LENGTHS
 
-next-long : (ns : List ℕ) (j i : ℕ) → length (nextLinked ns j i) ≡ length ns
+pub next-long : (ns : List ℕ) (j i : ℕ) → length (nextLinked ns j i) ≡ length ns
 unfolding nextLinked
 next-long ns j i = go (eqb j 0)
   where
@@ -117,7 +117,7 @@ zeros-over (suc n) xs p q h = zeros-over n (set xs p 0) (suc p) q (go (set-cases
     go (inl e) = e ∙ h
     go (inr e) = e .1
 
-replicate-zero : (n q : ℕ) → getD {A = ℕ} (replicate n 0) q 0 ≡ 0
+pub replicate-zero : (n q : ℕ) → getD {A = ℕ} (replicate n 0) q 0 ≡ 0
 replicate-zero zero q = refl
 replicate-zero (suc n) zero = refl
 replicate-zero (suc n) (suc q) = replicate-zero n q
@@ -133,7 +133,7 @@ unused-root n m b = record {
 pub unused-element : (c : ℕ) (es : List Entry) (p : ℕ) (t : Tree) → p < t .nodeCount → word (t .nodes) p 4 ≤ t .nodeCount → Unused t → Unused (addElement c es p t)
 unfolding addElement
 unused-element c es p t l w u =
-    let long : length (entriesWords es) ≡ 5 * length es = entries-long [] [] es in
+    let long : length (entriesWords es) ≡ 5 * length es = entries-long es in
     record {
       nodes = λ q h. appended-behind 2 c _ _ (t .nodes) p (t .nodeCount) q l w (omega arith) ∙ u .nodes q (omega arith);
       attributes = λ q h. sets-out (entriesWords es) (t .attributes) (5 * t .attributeCount) q (λ x y. omega (arith, long)) ∙ u .attributes q (omega arith);

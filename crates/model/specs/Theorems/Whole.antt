@@ -1,47 +1,54 @@
 -- The proof of demand 3: two builds of one drawing that differ in one text, and the exchange between them.
-use Prim.Native.Nat.{ℕ, zero, suc, _+_, _-_, _*_, _≤_, _<_}
-use mathlib.Core.Path.{_≡_, refl, sym, ap, _∙_}
+use Prim.Native.Nat.{ℕ, _+_, _-_, _*_, _≤_, _<_}
+use mathlib.Core.Path.{_≡_, refl, sym, ap, _∙_, subst}
 use mathlib.Core.Logic.{_⊎_, inl, inr}
 use mathlib.Core.Bool.{Bool, true, false}
 use mathlib.Core.List.{List, [], _∷_}
 use native.Mathlib.Omega.{arith}
-use borrow.Author.Tests.{eqb-true, eq-eqb}
+use native.Mathlib.Decide.{ℕ-discrete}
+use borrow.Author.Tests.{eqb-true, eqb-false, eq-eqb, ne-eqb}
 use lib.Dec.{eqb, ltb}
-use lib.ListN.{length, getD, take, set, replicate}
+use lib.ListN.{length, getD, take, set, replicate, length-replicate}
 use lib.Seq.{sets, slice, length-sets, sets-eq, length-slice, ext-getD, getD-drop, getD-take}
-use Rattle.model.specs.Base.{pick, and, or, among, folded}
+use Rattle.model.specs.Base.{pick, and, or, among}
 use Rattle.model.specs.Utf8.{isUtf8}
-use Rattle.model.specs.Drawing.{Source, Event, Value, Mark, commands, events, valuesIn}
+use Rattle.model.specs.Drawing.{Element, Source, Event, begin, text, other, close, Value, Mark, commands, events, valuesIn}
 use Rattle.model.specs.Check.{firstOf, starting, checkFrom, mostBytes, check}
 use Rattle.model.specs.Tables.{Tree, Out, refused, done, then, ROOT, TEXT, kindOf, fromOf, toOf, entryAt, valueOf, textOf, nodeRoom, cleared, rooted, setNone}
-use Rattle.model.specs.Repair.{Cut, applyCut, repairs, repaired}
-use Rattle.model.specs.Build.{withRoot, hasSvg, finished, parseTree, Result, answered, build, exchanged, exchangeFault, changed, settled, exchange}
-use Rattle.model.specs.Theorems.Sim.{Rel, both, same, Events, then-rel}
-use Rattle.model.specs.Noted.{Note, Noted, withNotes, notedParsed, stripped, notesOf, notes-forgotten, notedTree, In, notes}
+use Rattle.model.specs.Parse.{plain}
+use Rattle.model.specs.Repair.{Cut, cutName, cutEntry, applyCut, applied, repairs, repaired}
+use Rattle.model.specs.Build.{withRoot, firstIsSvg, tested, parseTree, withRepairs, Result, answered, build, exchanged, exchangeFault, changed, settled, exchange}
+use Rattle.model.specs.Theorems.Sim.{Rel, both, same, Events, then-rel, Carried}
+use Rattle.model.specs.Noted.{Note, size, sources, Noted, withNotes, notedParsed, stripped, notesOf, notes-forgotten, notedTree, In, notes}
 use Rattle.model.specs.Theorems.Agree.{Agree, agree-refl, agree-sym, agree-outs, agree-slice, set-cases, sets-in}
 use Rattle.model.specs.Theorems.Same.{Same}
 use Rattle.model.specs.Theorems.SameRepair.{fixed-safe, repaired-same}
 use Rattle.model.specs.Under.{Under}
-use Rattle.model.specs.Theorems.Good.{Apart, Good}
+use Rattle.model.specs.Theorems.Laws.{room-fits}
+use Rattle.model.specs.Theorems.Unused.{replicate-zero}
+use Rattle.model.specs.Theorems.Entries.{absurd-bool}
+use Rattle.model.specs.Theorems.Kept.{Tidy, withAttributes, tidy-root, tidy-none, attribute-any}
+use Rattle.model.specs.Theorems.Inside.{LiesElement, LiesText, bounded, check-walk, all-inside}
+use Rattle.model.specs.Theorems.Good.{Apart, Good, text-nodes-keep}
 use Rattle.model.specs.Theorems.Spelled.{Safe, SpelledElement}
-use Rattle.model.specs.Theorems.Related.{absurd-bool, holds, Stable, Steady, Outer, outer-same, Harmless, top-related}
-use Rattle.model.specs.Theorems.Places.{bounded, Outside, Ahead, ahead, within, events-same, check-same}
-use Rattle.model.specs.Demand3.{Spared, Alike, Exchangeable, Demand3}
+use Rattle.model.specs.Theorems.Related.{holds, Stable, Steady, Outer, Open, outer-same, Fine, Harmless, top-related}
+use Rattle.model.specs.Theorems.Places.{Outside, Ahead, ahead, within, events-same, check-same}
+use Rattle.model.specs.Demand3.{textNodesDown, Pinned, Spared, Alike, Exchangeable, Demand3}
 
-holds-out : (t e : ℕ) (ns : List Note) → holds t e ns ≡ true → (x : Note) × In x ns × (x .elem ≡ e) × (among t (x .sources) ≡ true)
+holds-out : (t e : ℕ) (ns : List Note) → holds t e ns ≡ true → (x : Note) × In x ns × (x .elem ≡ e) × (among t (sources x) ≡ true)
 unfolding holds
 holds-out t e [] h = absurd-bool (sym h)
-holds-out t e (n ∷ ns) h = go (λ g. holds-out t e ns g) (eqb (n .elem) e) refl (among t (n .sources)) refl h
+holds-out t e (n ∷ ns) h = go (λ g. holds-out t e ns g) (eqb (n .elem) e) refl (among t (sources n)) refl h
   where
-    go : (holds t e ns ≡ true → (x : Note) × In x ns × (x .elem ≡ e) × (among t (x .sources) ≡ true)) →
-        (a : Bool) → eqb (n .elem) e ≡ a → (b : Bool) → among t (n .sources) ≡ b → or (and a b) (holds t e ns) ≡ true →
-        (x : Note) × In x (n ∷ ns) × (x .elem ≡ e) × (among t (x .sources) ≡ true)
+    go : (holds t e ns ≡ true → (x : Note) × In x ns × (x .elem ≡ e) × (among t (sources x) ≡ true)) →
+        (a : Bool) → eqb (n .elem) e ≡ a → (b : Bool) → among t (sources n) ≡ b → or (and a b) (holds t e ns) ≡ true →
+        (x : Note) × In x (n ∷ ns) × (x .elem ≡ e) × (among t (sources x) ≡ true)
     go f true x true y g = (n, inl refl, eqb-true _ _ x, y)
     go f true x false y g = let r = f g in (r .0, inr (r .1), r .2, r .3)
     go f false x b y g = let r = f g in (r .0, inr (r .1), r .2, r .3)
 
 -- Two notes with a byte in common are one note.
-apart-same : (ns : List Note) → Apart ns → (m n : Note) → In m ns → In n ns → (q : ℕ) → m .start ≤ q → q < m .start + m .size → n .start ≤ q → q < n .start + n .size →
+apart-same : (ns : List Note) → Apart ns → (m n : Note) → In m ns → In n ns → (q : ℕ) → m .start ≤ q → q < m .start + size m → n .start ≤ q → q < n .start + size n →
     m .elem ≡ n .elem
 apart-same [] a m n x y q b c d e = absurd x
 apart-same (k ∷ ns) a m n (inl x) (inl y) q b c d e = ap (λ (o : Note). o .elem) (x ∙ sym y)
@@ -50,6 +57,15 @@ apart-same (k ∷ ns) a m n (inl x) (inr y) q b c d e =
 apart-same (k ∷ ns) a m n (inr x) (inl y) q b c d e =
     let s : n .start ≡ k .start = ap (λ (o : Note). o .start) y in absurd (omega (arith, a .0 m x .1))
 apart-same (k ∷ ns) a m n (inr x) (inr y) q b c d e = apart-same ns (a .1) m n x y q b c d e
+
+-- What the build keeps of its notes is what demand 3 says of them.
+pinned : (n : ℕ) (ns : List Note) (t : Tree) → Good n ns t → Pinned ns t
+pinned n ns t g = record {
+  each = g .each;
+  under = g .placed;
+  tiles = g .tiles;
+  within = λ x h. let f = g .fits x h in (f .low, f .mid, f .high);
+}
 
 module _ (t : ℕ) (one two : List ℕ) (s r : Noted) (o : Outer t one two s r) where
   -- A note of a spared node: its element holds nothing of t.
@@ -91,7 +107,7 @@ module _ (t : ℕ) (one two : List ℕ) (s r : Noted) (o : Outer t one two s r) 
         let e6 = o .nodes .at (8 * i + 6) (stable-bound i 6 h (omega arith) (omega arith)) in
         let e7 = o .nodes .at (8 * i + 7) (stable-bound i 7 h (omega arith) (omega arith)) in
         (e6, e7, rw (← e6, ← e7) (agree-slice (fromOf (s .tree) i) (toOf (s .tree) i) (λ q a b. steady-text i l k h q a b) (o .text)));
-    noted = o .left .noted;
+    pinned = pinned (length one) (s .notes) (s .tree) (o .left);
   }
     where
       bound : (i k : ℕ) → (kindOf (s .tree) i ≡ TEXT → k < 6) → (n : Note) → In n (s .notes) → n .node ≡ i → 6 ≤ k → ⊥
@@ -99,21 +115,51 @@ module _ (t : ℕ) (one two : List ℕ) (s r : Noted) (o : Outer t one two s r) 
 
 -- THE REPAIRS CHANGE ATTRIBUTES ALONE
 
-abbrev withAttributes : List ℕ → Tree → Tree
-withAttributes ats t = record
-    { nodes = t .nodes; attributes = ats; text = t .text; nodeCount = t .nodeCount; attributeCount = t .attributeCount; textCount = t .textCount }
-
-cuts-form : (t : Tree) (cs : List Cut) → folded applyCut t cs ≡ withAttributes (folded applyCut t cs .attributes) t
+cut-form : (t : Tree) (c : Cut) (ats : List ℕ) → withAttributes ats (applyCut t c) ≡ withAttributes ats t
 unfolding applyCut setNone
+cut-form t c ats = go (eqb (cutEntry t (c .pass) (c .node)) 0)
+  where
+    go : (b : Bool) → withAttributes ats (pick b (λ u. t) (λ u. setNone (cutEntry t (c .pass) (c .node) - 1) t)) ≡ withAttributes ats t
+    go true = refl
+    go false = refl
+
+cuts-form : (t : Tree) (cs : List Cut) → applied t cs ≡ withAttributes (applied t cs .attributes) t
+unfolding applied
 cuts-form t [] = refl
-cuts-form t (c ∷ cs) = cuts-form (applyCut t c) cs
+cuts-form t (c ∷ cs) = cuts-form (applyCut t c) cs ∙ cut-form t c _
 
 repaired-form : (chars : List ℕ) (values : List Value) (t : Tree) → repaired chars values t ≡ withAttributes (repaired chars values t .attributes) t
 unfolding repaired
 repaired-form chars values t = cuts-form t (repairs chars values t)
 
-good-with : (ns : List Note) (t : Tree) (ats : List ℕ) → Good ns t → Good ns (withAttributes ats t)
-good-with ns t ats g = record {
+-- They keep all that a build keeps.
+cut-tidy : (size : ℕ) (t : Tree) (c : Cut) → Tidy size t → Tidy size (applyCut t c)
+unfolding applyCut
+cut-tidy size t c k = go (eqb j 0) refl
+  where
+    j : ℕ
+    j = cutEntry t (c .pass) (c .node)
+
+    go : (b : Bool) → eqb j 0 ≡ b → Tidy size (pick b (λ u. t) (λ u. setNone (j - 1) t))
+    go true e = k
+    go false e =
+        let z : (j ≡ 0 → ⊥) = eqb-false j 0 e in
+        tidy-none size t k (j - 1) (omega (arith, attribute-any size t (k .kept) (k .unused) (c .node) (cutName (c .pass)) z))
+
+pub cuts-tidy : (size : ℕ) (t : Tree) (cs : List Cut) → Tidy size t → Tidy size (applied t cs)
+unfolding applied
+cuts-tidy size t [] k = k
+cuts-tidy size t (c ∷ cs) k = cuts-tidy size (applyCut t c) cs (cut-tidy size t c k)
+
+pub repaired-tidy : (size : ℕ) (chars : List ℕ) (values : List Value) (t : Tree) → Tidy size t → Tidy size (repaired chars values t)
+unfolding repaired
+repaired-tidy size chars values t k = cuts-tidy size t (repairs chars values t) k
+
+good-with : (n : ℕ) (ns : List Note) (t : Tree) (ats : List ℕ) → Tidy n (withAttributes ats t) → Good n ns t → Good n ns (withAttributes ats t)
+good-with n ns t ats k g = record {
+  tidy = k;
+  tiles = g .tiles;
+  each = g .each ∙ sym (text-nodes-keep (withAttributes ats t) t (t .nodeCount) (λ j l. refl));
   fits = λ n h. let f = g .fits n h in record { kind = f .kind; low = f .low; mid = f .mid; high = f .high };
   below = g .below;
   apart = g .apart;
@@ -121,13 +167,32 @@ good-with ns t ats g = record {
   noted = g .noted;
 }
 
+good-repaired : (n : ℕ) (ns : List Note) (chars : List ℕ) (values : List Value) (t : Tree) → Good n ns t →
+    Good n ns (withAttributes (repaired chars values t .attributes) t)
+good-repaired n ns chars values t g =
+    good-with n ns t _ (subst (λ (x : Tree). Tidy n x) (repaired-form chars values t) (repaired-tidy n chars values t (g .tidy))) g
+
+one-text : (t : Tree) → (kindOf t 0 ≡ TEXT → ⊥) → textNodesDown t 1 ≡ []
+unfolding textNodesDown
+one-text t e = rw (ne-eqb (kindOf t 0) TEXT e) refl
+
+-- There is room for the root.
+root-room : (n m b : ℕ) → ltb 0 (nodeRoom (cleared n m b)) ≡ true → 8 ≤ n
+unfolding cleared
+root-room n m b h = omega (arith, room-fits (cleared n m b) h, length-replicate {A = ℕ} n 0)
+
 outer-path : (t : ℕ) (one two : List ℕ) (a a′ b b′ : Noted) → a ≡ a′ → b ≡ b′ → Outer t one two a′ b′ → Outer t one two a b
 outer-path t one two a a′ b b′ p q o = rw (p, q) o
 
+-- A noted tree with its repairs.
+abbrev pub mended : List ℕ → List Value → Noted → Noted
+mended chars values s = record { tree = repaired chars values (s .tree); notes = s .notes }
+
 module _ (t : ℕ) (one two : List ℕ) where
   outer-with : (s r : Noted) (ats : List ℕ) → Outer t one two s r → ((j : ℕ) → Safe one two (entryAt (withAttributes ats (s .tree)) j)) →
+      Good (length one) (s .notes) (withAttributes ats (s .tree)) → Good (length one) (s .notes) (withAttributes ats (r .tree)) →
       Outer t one two (record { tree = withAttributes ats (s .tree); notes = s .notes }) (record { tree = withAttributes ats (r .tree); notes = r .notes })
-  outer-with s r ats o f = record {
+  outer-with s r ats o f left right = record {
     notes = o .notes;
     nodeCount = o .nodeCount;
     attributeCount = o .attributeCount;
@@ -136,12 +201,11 @@ module _ (t : ℕ) (one two : List ℕ) where
     nodes = o .nodes;
     text = o .text;
     safe = f;
-    left = good-with (s .notes) (s .tree) ats (o .left);
-    right = good-with (s .notes) (r .tree) ats (o .right);
+    left = left;
+    right = right;
   }
 
-  outer-repaired : (values : List Value) (s r : Noted) → Outer t one two s r →
-      Outer t one two (record { tree = repaired one values (s .tree); notes = s .notes }) (record { tree = repaired two values (r .tree); notes = r .notes })
+  pub outer-repaired : (values : List Value) (s r : Noted) → Outer t one two s r → Outer t one two (mended one values s) (mended two values r)
   unfolding entryAt
   outer-repaired values s r o =
       let h = repaired-same one two values (s .tree) (r .tree) (outer-same t one two s r o) in
@@ -149,22 +213,19 @@ module _ (t : ℕ) (one two : List ℕ) where
       (ap (λ (x : Tree). record { tree = x; notes = s .notes }) (repaired-form one values (s .tree)))
       (ap (λ (x : Tree). record { tree = x; notes = r .notes })
       (repaired-form two values (r .tree) ∙ ap (λ (l : List ℕ). withAttributes l (r .tree)) (sym (h .attributes))))
-      (outer-with s r (repaired one values (s .tree) .attributes) o (h .safe))
+      (outer-with s r (repaired one values (s .tree) .attributes) o (h .safe) (good-repaired (length one) (s .notes) one values (s .tree) (o .left))
+      (subst (λ (l : List ℕ). Good (length one) (s .notes) (withAttributes l (r .tree))) (sym (h .attributes))
+      (good-repaired (length one) (s .notes) two values (r .tree) (o .right))))
 
   -- THE WHOLE BUILD
 
-  zeros : (n j : ℕ) → getD {A = ℕ} (replicate n 0) j 0 ≡ 0
-  zeros zero j = refl
-  zeros (suc n) zero = refl
-  zeros (suc n) (suc j) = zeros n j
-
   cleared-safe : (n m b j : ℕ) → Safe one two (entryAt (cleared n m b) j)
   unfolding cleared entryAt
-  cleared-safe n m b j = fixed-safe one two (entryAt (cleared n m b) j) (zeros m (5 * j + 4))
+  cleared-safe n m b j = fixed-safe one two (entryAt (cleared n m b) j) (replicate-zero m (5 * j + 4))
 
-  start : (n m b : ℕ) → Outer t one two (record { tree = rooted (cleared n m b); notes = [] }) (record { tree = rooted (cleared n m b); notes = [] })
+  start : (n m b : ℕ) → 8 ≤ n → Open t one two 0 (record { tree = rooted (cleared n m b); notes = [] }) (record { tree = rooted (cleared n m b); notes = [] })
   unfolding rooted cleared entryAt
-  start n m b = record {
+  start n m b room = record { outer = record {
     notes = refl;
     nodeCount = refl;
     attributeCount = refl;
@@ -175,51 +236,70 @@ module _ (t : ℕ) (one two : List ℕ) where
     safe = λ j. cleared-safe n m b j;
     left = good;
     right = good;
-  }
+  }; opened = omega arith }
     where
       root : (j : ℕ) → getD {A = ℕ} (set (replicate n 0) (8 * 0 + 0) ROOT) j 0 ≡ TEXT → ⊥
       root j k = go (set-cases (replicate n 0) (8 * 0 + 0) ROOT j)
         where
           go : (getD {A = ℕ} (set (replicate n 0) (8 * 0 + 0) ROOT) j 0 ≡ getD {A = ℕ} (replicate n 0) j 0)
               ⊎ ((j ≡ 8 * 0 + 0) × (getD {A = ℕ} (set (replicate n 0) (8 * 0 + 0) ROOT) j 0 ≡ ROOT)) → ⊥
-          go (inl e) = omega (arith, zeros n j)
+          go (inl e) = omega (arith, replicate-zero n j)
           go (inr e) = omega arith
 
-      good : Good [] (rooted (cleared n m b))
-      good = record { fits = λ x h. absurd h; below = λ x h. absurd h; apart = tt; placed = λ x h. absurd h; noted = λ i h k. absurd (root (8 * i + 0) k) }
+      good : Good (length one) [] (rooted (cleared n m b))
+      good = record {
+        tidy = tidy-root (length one) n m b room;
+        tiles = refl;
+        each = sym (no-text (ℕ-discrete (kindOf (rooted (cleared n m b)) 0) TEXT));
+        fits = λ x h. absurd h;
+        below = λ x h. absurd h;
+        apart = tt;
+        placed = λ x h. absurd h;
+        noted = λ i h k. absurd (root (8 * i + 0) k);
+      }
+        where
+          no-text : Dec (kindOf (rooted (cleared n m b)) 0 ≡ TEXT) → textNodesDown (rooted (cleared n m b)) 1 ≡ []
+          no-text (yes e) = absurd (root (8 * 0 + 0) e)
+          no-text (no e) = one-text (rooted (cleared n m b)) e
 
-  svg-same : (s r : Tree) → Same one two s r → hasSvg s ≡ hasSvg r
-  unfolding hasSvg
+  svg-same : (s r : Tree) → Same one two s r → firstIsSvg s ≡ firstIsSvg r
+  unfolding firstIsSvg
   svg-same s r h = rw (h .child 0, h .kind (Rattle.model.specs.Tables.firstChildOf r 0 - 1), h .code (Rattle.model.specs.Tables.firstChildOf r 0 - 1))
 
-  trees-related : (all : List Event) → Events (SpelledElement one two) (Harmless t one two) all → (n m b : ℕ) →
-      Rel (Outer t one two) (notedTree one all (cleared n m b)) (notedTree two all (cleared n m b))
-  unfolding notedTree withRoot notedParsed finished
-  trees-related all ok n m b = pick-root (ltb 0 (nodeRoom (cleared n m b)))
+  pub trees-related : (all : List Event) → Events (Fine t one two) (Harmless t one two) all → (n m b : ℕ) →
+      Rel (Outer t one two) (notedTree (plain one) all (cleared n m b)) (notedTree (plain two) all (cleared n m b))
+  unfolding notedTree withRoot notedParsed tested
+  trees-related all ok n m b = pick-root (ltb 0 (nodeRoom (cleared n m b))) refl
     where
-      end : (s r : Noted) → Outer t one two s r → Rel (Outer t one two) (withNotes (s .notes) (finished one all (s .tree))) (withNotes (r .notes) (finished two all (r .tree)))
-      end s r o = rw (← svg-same (s .tree) (r .tree) (outer-same t one two s r o)) (go (hasSvg (s .tree)))
+      end : (s r : Noted) → Outer t one two s r → Rel (Outer t one two) (withNotes (s .notes) (tested (s .tree))) (withNotes (r .notes) (tested (r .tree)))
+      end s r o = rw (← svg-same (s .tree) (r .tree) (outer-same t one two s r o)) (go (firstIsSvg (s .tree)))
         where
-          go : (c : Bool) → Rel (Outer t one two) (withNotes (s .notes) (pick c (λ u. done (repaired one (valuesIn all) (s .tree))) (λ u. refused 21)))
-              (withNotes (r .notes) (pick c (λ u. done (repaired two (valuesIn all) (r .tree))) (λ u. refused 21)))
-          go true = same (outer-repaired (valuesIn all) s r o)
+          go : (c : Bool) → Rel (Outer t one two) (withNotes (s .notes) (pick c (λ u. done (s .tree)) (λ u. refused 21)))
+              (withNotes (r .notes) (pick c (λ u. done (r .tree)) (λ u. refused 21)))
+          go true = same o
           go false = both 21
 
-      pick-root : (c : Bool) → Rel (Outer t one two)
-          (then (pick c (λ u. done (rooted (cleared n m b))) (λ u. refused 22)) (λ r. then (notedParsed one all r) (λ s. withNotes (s .notes) (finished one all (s .tree)))))
-          (then (pick c (λ u. done (rooted (cleared n m b))) (λ u. refused 22)) (λ r. then (notedParsed two all r) (λ s. withNotes (s .notes) (finished two all (s .tree)))))
-      pick-root true = then-rel (Outer t one two) (Outer t one two) _ _ (top-related t one two all ok 1025 _ _ (start n m b)) (λ s r o. end s r o)
-      pick-root false = both 22
+      pick-root : (c : Bool) → ltb 0 (nodeRoom (cleared n m b)) ≡ c → Rel (Outer t one two)
+          (then (pick c (λ u. done (rooted (cleared n m b))) (λ u. refused 22)) (λ r. then (notedParsed (plain one) all r) (λ s. withNotes (s .notes) (tested (s .tree)))))
+          (then (pick c (λ u. done (rooted (cleared n m b))) (λ u. refused 22)) (λ r. then (notedParsed (plain two) all r) (λ s. withNotes (s .notes) (tested (s .tree)))))
+      pick-root true e =
+          let o = start n m b (root-room n m b e) in
+          then-rel (Carried (Open t one two) (record { tree = rooted (cleared n m b); notes = [] }) (record { tree = rooted (cleared n m b); notes = [] })) (Outer t one two) _ _
+          (top-related t one two all ok _ _ o) (λ s r k. end s r (k 0 o .outer))
+      pick-root false e = both 22
 
   -- What two related builds answer.
-  pub record Answers (x y : Out Noted) (empty : Tree) : Type 0 where
-    pub number : answered one empty (stripped x) .number ≡ answered two empty (stripped y) .number
-    pub trees : Alike t (notesOf x) one two (answered one empty (stripped x) .tree) (answered two empty (stripped y) .tree)
+  pub record Answers (all : List Event) (x y : Out Noted) (empty : Tree) : Type 0 where
+    pub number : answered one empty (withRepairs one all (stripped x)) .number ≡ answered two empty (withRepairs two all (stripped y)) .number
+    pub notes : notesOf x ≡ notesOf y
+    pub trees : Alike t (notesOf x) one two (answered one empty (withRepairs one all (stripped x)) .tree)
+        (answered two empty (withRepairs two all (stripped y)) .tree)
 
-  answers : (n m b : ℕ) (x y : Out Noted) → Rel (Outer t one two) x y → Answers x y (cleared n m b)
-  unfolding stripped notesOf cleared
-  answers n m b x y (both k) = record {
+  answers : (all : List Event) (n m b : ℕ) (x y : Out Noted) → Rel (Outer t one two) x y → Answers all x y (cleared n m b)
+  unfolding stripped notesOf cleared textNodesDown
+  answers all n m b x y (both k) = record {
     number = refl;
+    notes = refl;
     trees = record {
       nodeCount = refl;
       attributeCount = refl;
@@ -230,12 +310,22 @@ module _ (t : ℕ) (one two : List ℕ) where
       attributes = refl;
       values = cleared-safe n m b;
       texts = λ i l k h. (refl, refl, refl);
-      noted = λ i l k. let z : i < 0 = l in absurd (omega arith);
+      pinned = record { each = refl; under = λ x h. absurd h; tiles = refl; within = λ x h. absurd h };
     };
   }
-  answers n m b x y (same {s = s} {t = r} o) = record { number = refl; trees = alike t one two s r o }
+  answers all n m b x y (same {s = s} {t = r} o) =
+      record { number = refl; notes = o .notes; trees = alike t one two _ _ (outer-repaired (valuesIn all) s r o) }
 
 -- THE EXCHANGE
+
+-- Two things that hold of all elements.
+both-events : (G G′ : Element → Type 0) (H H′ : Source → Type 0) (xs : List Event) → Events G H xs → Events G′ H′ xs → Events (λ x. G x × G′ x) H xs
+both-events G G′ H H′ [] h k = tt
+both-events G G′ H H′ (begin e ∷ xs) h k = ((h .0, k .0), both-events G G′ H H′ xs (h .1) (k .1))
+both-events G G′ H H′ (text a ∷ xs) h k = (h .0, both-events G G′ H H′ xs (h .1) (k .1))
+both-events G G′ H H′ (other ∷ xs) h k = both-events G G′ H H′ xs h k
+both-events G G′ H H′ (close ∷ xs) h k = both-events G G′ H H′ xs h k
+
 
 -- A build that gives 0 was checked; check's number is build's.
 pub build-checked : (script chars : List ℕ) (n m b : ℕ) → build script chars n m b .number ≡ 0 → check script chars ≡ 0
@@ -243,18 +333,27 @@ unfolding build
 build-checked script chars n m b h = go (eqb (check script chars) 0) refl h
   where
     go : (c : Bool) → eqb (check script chars) 0 ≡ c →
-        answered chars (cleared n m b) (pick c (λ u. parseTree chars (events script chars) (cleared n m b)) (λ u. refused (check script chars))) .number ≡ 0 →
-        check script chars ≡ 0
+        answered chars (cleared n m b) (pick c (λ u. withRepairs chars (events script chars) (parseTree (plain chars) (events script chars) (cleared n m b)))
+        (λ u. refused (check script chars))) .number ≡ 0 → check script chars ≡ 0
     go true e g = eqb-true _ _ e
     go false e g = g
 
--- A build of what check takes is the parse with the tables cleared.
+-- A build of what check takes is the parse with the tables cleared, and its repairs.
 build-parsed : (script chars : List ℕ) (n m b : ℕ) → check script chars ≡ 0 →
-    build script chars n m b ≡ answered chars (cleared n m b) (parseTree chars (events script chars) (cleared n m b))
+    build script chars n m b ≡ answered chars (cleared n m b)
+    (withRepairs chars (events script chars) (parseTree (plain chars) (events script chars) (cleared n m b)))
 unfolding build
 build-parsed script chars n m b h = rw h refl
 
-answered-chars : (chars : List ℕ) (t : Tree) (o : Out Tree) → answered chars t o .characters ≡ chars
+-- The same by the build with notes.
+pub build-noted : (script chars : List ℕ) (n m b : ℕ) → check script chars ≡ 0 →
+    build script chars n m b ≡ answered chars (cleared n m b)
+    (withRepairs chars (events script chars) (stripped (notedTree (plain chars) (events script chars) (cleared n m b))))
+build-noted script chars n m b h = build-parsed script chars n m b h
+    ∙ ap (λ (o : Out Tree). answered chars (cleared n m b) (withRepairs chars (events script chars) o))
+    (sym (notes-forgotten (plain chars) (events script chars) (cleared n m b)))
+
+pub answered-chars : (chars : List ℕ) (t : Tree) (o : Out Tree) → answered chars t o .characters ≡ chars
 answered-chars chars t (refused k) = refl
 answered-chars chars t (done u) = refl
 
@@ -267,15 +366,7 @@ slice-sets vs xs p h =
     let b : i < length vs = rw long at l in
     rw (getD-drop p (take (p + length vs) (sets xs p vs)) i 0, getD-take (p + length vs) (sets xs p vs) (p + i) 0 (omega arith)) (sets-in vs xs p i h b))
 
--- check takes what its walk takes within the limits.
-check-walk : (script chars : List ℕ) → check script chars ≡ 0 → checkFrom chars (length chars) starting (commands script) ≡ 0
-unfolding check
-check-walk script chars h = go (or (ltb mostBytes (length script)) (ltb mostBytes (length chars))) h
-  where
-    go : (c : Bool) → pick c (λ u. 1) (λ u. checkFrom chars (length chars) starting (commands script)) ≡ 0 → checkFrom chars (length chars) starting (commands script) ≡ 0
-    go true g = absurd (omega arith)
-    go false g = g
-
+-- check of other characters as long.
 check-other : (script one two : List ℕ) → check script one ≡ 0 → length two ≡ length one → checkFrom two (length one) starting (commands script) ≡ 0 → check script two ≡ 0
 unfolding check
 check-other script one two h e k = rw e (go (or (ltb mostBytes (length script)) (ltb mostBytes (length one))) h)
@@ -339,27 +430,29 @@ module _ (script chars : List ℕ) (n m b t : ℕ) (a : Source) (new : List ℕ)
   checked-two = check-other script chars two checked-one two-long
       (check-same t a chars two agree (length chars) new-spelled starting first (commands script) refl tt (text-ahead .clear) walk-one)
 
-  same-events : (events script chars ≡ events script two) × Events (SpelledElement chars two) (Harmless t chars two) (events script chars)
-  unfolding events starting
-  same-events = events-same t a chars two agree first 0 (commands script) (text-ahead .clear) (bounded chars (length chars) starting (commands script) walk-one)
-
   abbrev all : List Event
   all = events script chars
 
-  related : Rel (Outer t chars two) (notedTree chars all (cleared n m b)) (notedTree two all (cleared n m b))
-  related = trees-related t chars two all (same-events .1) n m b
+  same-events : (all ≡ events script two) × Events (SpelledElement chars two) (Harmless t chars two) all
+  unfolding events starting
+  same-events = events-same t a chars two agree first 0 (commands script) (text-ahead .clear) (bounded chars (length chars) starting (commands script) walk-one)
 
-  ends : Answers t chars two (notedTree chars all (cleared n m b)) (notedTree two all (cleared n m b)) (cleared n m b)
-  ends = answers t chars two n m b _ _ related
+  fine-events : Events (Fine t chars two) (Harmless t chars two) all
+  fine-events = both-events (SpelledElement chars two) (LiesElement (length chars)) (Harmless t chars two) (LiesText (length chars)) all
+      (same-events .1) (all-inside script chars checked-one)
 
-  build-one : build script chars n m b ≡ answered chars (cleared n m b) (stripped (notedTree chars all (cleared n m b)))
-  build-one = build-parsed script chars n m b checked-one ∙ ap (λ (o : Out Tree). answered chars (cleared n m b) o) (sym (notes-forgotten chars all (cleared n m b)))
+  related : Rel (Outer t chars two) (notedTree (plain chars) all (cleared n m b)) (notedTree (plain two) all (cleared n m b))
+  related = trees-related t chars two all fine-events n m b
 
-  build-two : build script two n m b ≡ answered two (cleared n m b) (stripped (notedTree two all (cleared n m b)))
-  build-two =
-      build-parsed script two n m b checked-two
-      ∙ ap (λ (xs : List Event). answered two (cleared n m b) (parseTree two xs (cleared n m b))) (sym (same-events .0))
-      ∙ ap (λ (o : Out Tree). answered two (cleared n m b) o) (sym (notes-forgotten two all (cleared n m b)))
+  ends : Answers t chars two all (notedTree (plain chars) all (cleared n m b)) (notedTree (plain two) all (cleared n m b)) (cleared n m b)
+  ends = answers t chars two all n m b _ _ related
+
+  build-one : build script chars n m b ≡ answered chars (cleared n m b) (withRepairs chars all (stripped (notedTree (plain chars) all (cleared n m b))))
+  build-one = build-noted script chars n m b checked-one
+
+  build-two : build script two n m b ≡ answered two (cleared n m b) (withRepairs two all (stripped (notedTree (plain two) all (cleared n m b))))
+  build-two = build-noted script two n m b checked-two
+      ∙ ap (λ (xs : List Event). answered two (cleared n m b) (withRepairs two xs (stripped (notedTree (plain two) xs (cleared n m b))))) (sym (same-events .0))
 
   number-two : build script two n m b .number ≡ 0
   number-two = ap (λ (r : Result). r .number) build-two ∙ sym (ends .number) ∙ sym (ap (λ (r : Result). r .number) build-one) ∙ h .built
@@ -376,6 +469,10 @@ module _ (script chars : List ℕ) (n m b t : ℕ) (a : Source) (new : List ℕ)
   unfolding notes
   alike-two = rw (build-one, build-two) (ends .trees)
 
+  same-notes : notes script two n m b ≡ notes script chars n m b
+  unfolding notes
+  same-notes = ap (λ (xs : List Event). notesOf (notedTree (plain two) xs (cleared n m b))) (sym (same-events .0)) ∙ sym (ends .notes)
+
   pub demand3 : Demand3 script chars n m b t a new
   unfolding exchanged
   demand3 = record {
@@ -383,8 +480,11 @@ module _ (script chars : List ℕ) (n m b t : ℕ) (a : Source) (new : List ℕ)
         let e : build script two (length ns) (length ats) (length ts) ≡ build script two n m b = λ i. build script two (x i) (y i) (z i) in
         exchange-done script chars t new two ns ats ts no-fault changed-two (ap (λ (r : Result). r .number) e ∙ number-two) ∙ e;
     number = number-two;
-    characters = ap (λ (r : Result). r .characters) build-two ∙ answered-chars two (cleared n m b) (stripped (notedTree two all (cleared n m b)))
+    characters = ap (λ (r : Result). r .characters) build-two
+        ∙ answered-chars two (cleared n m b) (withRepairs two all (stripped (notedTree (plain two) all (cleared n m b))))
         ∙ (let z = sets-eq new chars (a .start) (omega (arith, text-within, h .size)) in rw (← h .size) z);
     checked = checked-two;
+    sameEvents = sym (same-events .0);
+    sameNotes = same-notes;
     alike = alike-two;
   }

@@ -18,17 +18,17 @@ linked-requires c κs = search needs
 enum-known-node : tie.Need-enum-known-node
 enum-known-node c = search needs
 
-is-svg-requires : tie.Need-is-svg-requires
-is-svg-requires c κs = search needs
+has-tag-name-requires : tie.Need-has-tag-name-requires
+has-tag-name-requires c κs = search needs
 
 returns : tie.Need-returns
-returns c = (λ e h. quotes-foreign (c .before .before .before .before .before .before .before .before .before .args .script .now) (c .before .before .before .before .before .before .before .before .before .args .characters .now) e (partOf (c .before .before .before .before .before .before .before .before .before .args .characters .now) (c .before .before .before .before .before .before .tref-href .result)) (c .before .before .before .before .before .before .tref-href .ensures .0 (c .before .before .before .before .before .before .before .before .before .args .characters .now) e h) (c .before .before .before .before .before .linked .result) (c .before .before .before .before .before .linked .ensures .0) (c .before .before .before .node .given .0 .0) (c .before .before .before .node .given .0 .1 .0) (c .before .before .before .node .given .0 .1 .1 .0) (c .before .before .before .node .given .0 .1 .1 .1 .0) (c .before .before .before .node .given .1) (sym (c .before .is-svg .ensures) ∙ not-true (c .before .is-svg .result) (c .if1 .taken)), tt)
+returns c = (λ e h. quotes-foreign (c .before .before .before .before .before .before .before .before .before .args .script .now) (c .before .before .before .before .before .before .before .before .before .args .characters .now) e (partOf (c .before .before .before .before .before .before .before .before .before .args .characters .now) (c .before .before .before .before .before .before .tref-href .result)) (c .before .before .before .before .before .before .tref-href .ensures .0 (c .before .before .before .before .before .before .before .before .before .args .characters .now) e h) (c .before .before .before .before .before .linked .result) (c .before .before .before .before .before .linked .ensures .0) (c .before .before .before .node .given .0 .0) (c .before .before .before .node .given .0 .1 .0) (c .before .before .before .node .given .0 .1 .1 .0) (c .before .before .before .node .given .0 .1 .1 .1 .0) (c .before .before .before .node .given .1) (sym (c .before .has-tag-name .ensures) ∙ not-true (c .before .has-tag-name .result) (c .if1 .taken)), tt)
 
 enum-told : tie.Need-enum-told
 enum-told c = search needs
 
 returns-2 : tie.Need-returns-2
-returns-2 c = (λ e h. quotes-texts (c .before .before .before .before .before .before .before .before .before .args .script .now) (c .before .before .before .before .before .before .before .before .before .args .characters .now) e (partOf (c .before .before .before .before .before .before .before .before .before .args .characters .now) (c .before .before .before .before .before .before .tref-href .result)) (c .before .before .before .before .before .before .tref-href .ensures .0 (c .before .before .before .before .before .before .before .before .before .args .characters .now) e h) (c .before .before .before .before .before .linked .result) (c .before .before .before .before .before .linked .ensures .0) (c .before .before .before .node .given .0 .0) (c .before .before .before .node .given .0 .1 .0) (c .before .before .before .node .given .0 .1 .1 .0) (c .before .before .before .node .given .0 .1 .1 .1 .0) (c .before .before .before .node .given .1) (sym (c .before .is-svg .ensures) ∙ not-false (c .before .is-svg .result) (c .if1 .left)), node-stands (c .before .before .before .before .before .before .before .before .before .args .script .now) (c .before .before .before .before .before .linked .result) (c .before .before .before .node .given .0 .0) (c .before .before .before .node .given .0 .1 .0) (c .before .before .before .node .given .0 .1 .1 .0) (c .before .before .before .node .given .0 .1 .1 .1 .0) (c .before .before .before .node .given .1) (c .before .before .before .before .before .linked .ensures .1))
+returns-2 c = (λ e h. quotes-texts (c .before .before .before .before .before .before .before .before .before .args .script .now) (c .before .before .before .before .before .before .before .before .before .args .characters .now) e (partOf (c .before .before .before .before .before .before .before .before .before .args .characters .now) (c .before .before .before .before .before .before .tref-href .result)) (c .before .before .before .before .before .before .tref-href .ensures .0 (c .before .before .before .before .before .before .before .before .before .args .characters .now) e h) (c .before .before .before .before .before .linked .result) (c .before .before .before .before .before .linked .ensures .0) (c .before .before .before .node .given .0 .0) (c .before .before .before .node .given .0 .1 .0) (c .before .before .before .node .given .0 .1 .1 .0) (c .before .before .before .node .given .0 .1 .1 .1 .0) (c .before .before .before .node .given .1) (sym (c .before .has-tag-name .ensures) ∙ not-false (c .before .has-tag-name .result) (c .if1 .left)), node-stands (c .before .before .before .before .before .before .before .before .before .args .script .now) (c .before .before .before .before .before .linked .result) (c .before .before .before .node .given .0 .0) (c .before .before .before .node .given .0 .1 .0) (c .before .before .before .node .given .0 .1 .1 .0) (c .before .before .before .node .given .0 .1 .1 .1 .0) (c .before .before .before .node .given .1) (c .before .before .before .before .before .linked .ensures .1))
 
 returns-3 : tie.Need-returns-3
 returns-3 c = (λ e h. quotes-nothing (c .before .before .before .before .before .before .args .script .now) (c .before .before .before .before .before .before .args .characters .now) e (partOf (c .before .before .before .before .before .before .args .characters .now) (c .before .before .before .tref-href .result)) (c .before .before .before .tref-href .ensures .0 (c .before .before .before .before .before .before .args .characters .now) e h) (c .before .before .linked .result) (c .before .before .linked .ensures .0) (c .enum-told .given .1), tt)
@@ -40,7 +40,7 @@ quoted-spec =
     tref-href-requires
     linked-requires
     enum-known-node
-    is-svg-requires
+    has-tag-name-requires
     returns
     enum-told
     returns-2

@@ -18,32 +18,32 @@ linked-requires c κs = search needs
 enum-known-node : tie.Need-enum-known-node
 enum-known-node c = search needs
 
-is-svg-requires : tie.Need-is-svg-requires
-is-svg-requires c κs = search needs
+has-tag-name-requires : tie.Need-has-tag-name-requires
+has-tag-name-requires c κs = search needs
 
 returns : tie.Need-returns
-returns c = (λ e h g. not-svg (c .before .before .before .before .before .before .before .before .before .args .script .now) (c .before .before .before .before .before .before .before .before .before .args .characters .now) e (c .before .before .before .before .before .before .before .before .before .args .number) (c .before .before .before .before .before .before .before .before .before .args .origin) g (partOf (c .before .before .before .before .before .before .before .before .before .args .characters .now) (c .before .before .before .before .before .before .use-href .result)) (c .before .before .before .before .before .before .use-href .ensures .0 (c .before .before .before .before .before .before .before .before .before .args .characters .now) e h) (c .before .before .before .before .before .linked .result) (c .before .before .before .before .before .linked .ensures .0) (c .before .before .before .node .given .0 .0) (c .before .before .before .node .given .0 .1 .0) (c .before .before .before .node .given .0 .1 .1 .0) (c .before .before .before .node .given .0 .1 .1 .1 .0) (c .before .before .before .node .given .1) (sym (c .before .is-svg .ensures) ∙ not-true (c .before .is-svg .result) (c .if1 .taken)), tt)
+returns c = (λ e h g. not-svg (c .before .before .before .before .before .before .before .before .before .args .script .now) (c .before .before .before .before .before .before .before .before .before .args .characters .now) e (c .before .before .before .before .before .before .before .before .before .args .number) (c .before .before .before .before .before .before .before .before .before .args .origin) g (partOf (c .before .before .before .before .before .before .before .before .before .args .characters .now) (c .before .before .before .before .before .before .use-href .result)) (c .before .before .before .before .before .before .use-href .ensures .0 (c .before .before .before .before .before .before .before .before .before .args .characters .now) e h) (c .before .before .before .before .before .linked .result) (c .before .before .before .before .before .linked .ensures .0) (c .before .before .before .node .given .0 .0) (c .before .before .before .node .given .0 .1 .0) (c .before .before .before .node .given .0 .1 .1 .0) (c .before .before .before .node .given .0 .1 .1 .1 .0) (c .before .before .before .node .given .1) (sym (c .before .has-tag-name .ensures) ∙ not-true (c .before .has-tag-name .result) (c .if1 .taken)), tt)
 
 add-k : tie.Need-add-k
 add-k c = omega (arith, (node-fit (c .before .before .before .before .before .before .before .before .before .before .args .script .now) (c .before .before .before .before .before .before .linked .result) (c .before .before .before .before .node .given .0 .0) (c .before .before .before .before .node .given .0 .1 .0) (c .before .before .before .before .node .given .0 .1 .1 .0) (c .before .before .before .before .node .given .0 .1 .1 .1 .0) (c .before .before .before .before .node .given .1) (c .before .before .before .before .before .before .linked .ensures .1)) .0 .number, (node-fit (c .before .before .before .before .before .before .before .before .before .before .args .script .now) (c .before .before .before .before .before .before .linked .result) (c .before .before .before .before .node .given .0 .0) (c .before .before .before .before .node .given .0 .1 .0) (c .before .before .before .before .node .given .0 .1 .1 .0) (c .before .before .before .before .node .given .0 .1 .1 .1 .0) (c .before .before .before .before .node .given .1) (c .before .before .before .before .before .before .linked .ensures .1)) .0 .at, (node-fit (c .before .before .before .before .before .before .before .before .before .before .args .script .now) (c .before .before .before .before .before .before .linked .result) (c .before .before .before .before .node .given .0 .0) (c .before .before .before .before .node .given .0 .1 .0) (c .before .before .before .before .node .given .0 .1 .1 .0) (c .before .before .before .before .node .given .0 .1 .1 .1 .0) (c .before .before .before .before .node .given .1) (c .before .before .before .before .before .before .linked .ensures .1)) .0 .size)
 
 returns-2 : tie.Need-returns-2
-returns-2 c = (λ e h g. itself (c .before .before .before .before .before .before .before .before .before .before .before .args .script .now) (c .before .before .before .before .before .before .before .before .before .before .before .args .characters .now) e (c .before .before .before .before .before .before .before .before .before .before .before .args .number) (c .before .before .before .before .before .before .before .before .before .before .before .args .origin) g (partOf (c .before .before .before .before .before .before .before .before .before .before .before .args .characters .now) (c .before .before .before .before .before .before .before .before .use-href .result)) (c .before .before .before .before .before .before .before .before .use-href .ensures .0 (c .before .before .before .before .before .before .before .before .before .before .before .args .characters .now) e h) (c .before .before .before .before .before .before .before .linked .result) (c .before .before .before .before .before .before .before .linked .ensures .0) (c .before .before .before .before .before .node .given .0 .0) (c .before .before .before .before .before .node .given .0 .1 .0) (c .before .before .before .before .before .node .given .0 .1 .1 .0) (c .before .before .before .before .before .node .given .0 .1 .1 .1 .0) (c .before .before .before .before .before .node .given .1) (sym (c .before .before .before .is-svg .ensures) ∙ not-false (c .before .before .before .is-svg .result) (c .before .before .if1 .left)) (c .if2 .taken), tt)
+returns-2 c = (λ e h g. itself (c .before .before .before .before .before .before .before .before .before .before .before .args .script .now) (c .before .before .before .before .before .before .before .before .before .before .before .args .characters .now) e (c .before .before .before .before .before .before .before .before .before .before .before .args .number) (c .before .before .before .before .before .before .before .before .before .before .before .args .origin) g (partOf (c .before .before .before .before .before .before .before .before .before .before .before .args .characters .now) (c .before .before .before .before .before .before .before .before .use-href .result)) (c .before .before .before .before .before .before .before .before .use-href .ensures .0 (c .before .before .before .before .before .before .before .before .before .before .before .args .characters .now) e h) (c .before .before .before .before .before .before .before .linked .result) (c .before .before .before .before .before .before .before .linked .ensures .0) (c .before .before .before .before .before .node .given .0 .0) (c .before .before .before .before .before .node .given .0 .1 .0) (c .before .before .before .before .before .node .given .0 .1 .1 .0) (c .before .before .before .before .before .node .given .0 .1 .1 .1 .0) (c .before .before .before .before .before .node .given .1) (sym (c .before .before .before .has-tag-name .ensures) ∙ not-false (c .before .before .before .has-tag-name .result) (c .before .before .if1 .left)) (c .if2 .taken), tt)
 
 returns-3 : tie.Need-returns-3
-returns-3 c = (λ e h g. its-origin (c .before .before .before .before .before .before .before .before .before .before .before .before .args .script .now) (c .before .before .before .before .before .before .before .before .before .before .before .before .args .characters .now) e (c .before .before .before .before .before .before .before .before .before .before .before .before .args .number) (c .before .before .before .before .before .before .before .before .before .before .before .before .args .origin) g (partOf (c .before .before .before .before .before .before .before .before .before .before .before .before .args .characters .now) (c .before .before .before .before .before .before .before .before .before .use-href .result)) (c .before .before .before .before .before .before .before .before .before .use-href .ensures .0 (c .before .before .before .before .before .before .before .before .before .before .before .before .args .characters .now) e h) (c .before .before .before .before .before .before .before .before .linked .result) (c .before .before .before .before .before .before .before .before .linked .ensures .0) (c .before .before .before .before .before .before .node .given .0 .0) (c .before .before .before .before .before .before .node .given .0 .1 .0) (c .before .before .before .before .before .before .node .given .0 .1 .1 .0) (c .before .before .before .before .before .before .node .given .0 .1 .1 .1 .0) (c .before .before .before .before .before .before .node .given .1) (sym (c .before .before .before .before .is-svg .ensures) ∙ not-false (c .before .before .before .before .is-svg .result) (c .before .before .before .if1 .left)) (c .before .if2 .left) (c .if3 .taken), tt)
+returns-3 c = (λ e h g. its-origin (c .before .before .before .before .before .before .before .before .before .before .before .before .args .script .now) (c .before .before .before .before .before .before .before .before .before .before .before .before .args .characters .now) e (c .before .before .before .before .before .before .before .before .before .before .before .before .args .number) (c .before .before .before .before .before .before .before .before .before .before .before .before .args .origin) g (partOf (c .before .before .before .before .before .before .before .before .before .before .before .before .args .characters .now) (c .before .before .before .before .before .before .before .before .before .use-href .result)) (c .before .before .before .before .before .before .before .before .before .use-href .ensures .0 (c .before .before .before .before .before .before .before .before .before .before .before .before .args .characters .now) e h) (c .before .before .before .before .before .before .before .before .linked .result) (c .before .before .before .before .before .before .before .before .linked .ensures .0) (c .before .before .before .before .before .before .node .given .0 .0) (c .before .before .before .before .before .before .node .given .0 .1 .0) (c .before .before .before .before .before .before .node .given .0 .1 .1 .0) (c .before .before .before .before .before .before .node .given .0 .1 .1 .1 .0) (c .before .before .before .before .before .before .node .given .1) (sym (c .before .before .before .before .has-tag-name .ensures) ∙ not-false (c .before .before .before .before .has-tag-name .result) (c .before .before .before .if1 .left)) (c .before .if2 .left) (c .if3 .taken), tt)
 
 leads-back-requires : tie.Need-leads-back-requires
 leads-back-requires c κs = (node-fit (c .before .before .before .before .before .before .before .before .before .before .before .before .args .script .now) (c .before .before .before .before .before .before .before .before .linked .result) (c .before .before .before .before .before .before .node .given .0 .0) (c .before .before .before .before .before .before .node .given .0 .1 .0) (c .before .before .before .before .before .before .node .given .0 .1 .1 .0) (c .before .before .before .before .before .before .node .given .0 .1 .1 .1 .0) (c .before .before .before .before .before .before .node .given .1) (c .before .before .before .before .before .before .before .before .linked .ensures .1)) .1
 
 returns-4 : tie.Need-returns-4
-returns-4 c = (λ e h g. leading-back (c .before .before .before .before .before .before .before .before .before .before .before .before .before .before .args .script .now) (c .before .before .before .before .before .before .before .before .before .before .before .before .before .before .args .characters .now) e (c .before .before .before .before .before .before .before .before .before .before .before .before .before .before .args .number) (c .before .before .before .before .before .before .before .before .before .before .before .before .before .before .args .origin) g (partOf (c .before .before .before .before .before .before .before .before .before .before .before .before .before .before .args .characters .now) (c .before .before .before .before .before .before .before .before .before .before .before .use-href .result)) (c .before .before .before .before .before .before .before .before .before .before .before .use-href .ensures .0 (c .before .before .before .before .before .before .before .before .before .before .before .before .before .before .args .characters .now) e h) (c .before .before .before .before .before .before .before .before .before .before .linked .result) (c .before .before .before .before .before .before .before .before .before .before .linked .ensures .0) (c .before .before .before .before .before .before .before .before .node .given .0 .0) (c .before .before .before .before .before .before .before .before .node .given .0 .1 .0) (c .before .before .before .before .before .before .before .before .node .given .0 .1 .1 .0) (c .before .before .before .before .before .before .before .before .node .given .0 .1 .1 .1 .0) (c .before .before .before .before .before .before .before .before .node .given .1) (sym (c .before .before .before .before .before .before .is-svg .ensures) ∙ not-false (c .before .before .before .before .before .before .is-svg .result) (c .before .before .before .before .before .if1 .left)) (c .before .before .before .if2 .left) (c .before .before .if3 .left) (sym (c .before .leads-back .ensures) ∙ c .if4 .taken), tt)
+returns-4 c = (λ e h g. leading-back (c .before .before .before .before .before .before .before .before .before .before .before .before .before .before .args .script .now) (c .before .before .before .before .before .before .before .before .before .before .before .before .before .before .args .characters .now) e (c .before .before .before .before .before .before .before .before .before .before .before .before .before .before .args .number) (c .before .before .before .before .before .before .before .before .before .before .before .before .before .before .args .origin) g (partOf (c .before .before .before .before .before .before .before .before .before .before .before .before .before .before .args .characters .now) (c .before .before .before .before .before .before .before .before .before .before .before .use-href .result)) (c .before .before .before .before .before .before .before .before .before .before .before .use-href .ensures .0 (c .before .before .before .before .before .before .before .before .before .before .before .before .before .before .args .characters .now) e h) (c .before .before .before .before .before .before .before .before .before .before .linked .result) (c .before .before .before .before .before .before .before .before .before .before .linked .ensures .0) (c .before .before .before .before .before .before .before .before .node .given .0 .0) (c .before .before .before .before .before .before .before .before .node .given .0 .1 .0) (c .before .before .before .before .before .before .before .before .node .given .0 .1 .1 .0) (c .before .before .before .before .before .before .before .before .node .given .0 .1 .1 .1 .0) (c .before .before .before .before .before .before .before .before .node .given .1) (sym (c .before .before .before .before .before .before .has-tag-name .ensures) ∙ not-false (c .before .before .before .before .before .before .has-tag-name .result) (c .before .before .before .before .before .if1 .left)) (c .before .before .before .if2 .left) (c .before .before .if3 .left) (sym (c .before .leads-back .ensures) ∙ c .if4 .taken), tt)
 
 enum-told : tie.Need-enum-told
 enum-told c = search needs
 
 returns-5 : tie.Need-returns-5
-returns-5 c = (λ e h g. copies (c .before .before .before .before .before .before .before .before .before .before .before .before .before .before .args .script .now) (c .before .before .before .before .before .before .before .before .before .before .before .before .before .before .args .characters .now) e (c .before .before .before .before .before .before .before .before .before .before .before .before .before .before .args .number) (c .before .before .before .before .before .before .before .before .before .before .before .before .before .before .args .origin) g (partOf (c .before .before .before .before .before .before .before .before .before .before .before .before .before .before .args .characters .now) (c .before .before .before .before .before .before .before .before .before .before .before .use-href .result)) (c .before .before .before .before .before .before .before .before .before .before .before .use-href .ensures .0 (c .before .before .before .before .before .before .before .before .before .before .before .before .before .before .args .characters .now) e h) (c .before .before .before .before .before .before .before .before .before .before .linked .result) (c .before .before .before .before .before .before .before .before .before .before .linked .ensures .0) (c .before .before .before .before .before .before .before .before .node .given .0 .0) (c .before .before .before .before .before .before .before .before .node .given .0 .1 .0) (c .before .before .before .before .before .before .before .before .node .given .0 .1 .1 .0) (c .before .before .before .before .before .before .before .before .node .given .0 .1 .1 .1 .0) (c .before .before .before .before .before .before .before .before .node .given .1) (sym (c .before .before .before .before .before .before .is-svg .ensures) ∙ not-false (c .before .before .before .before .before .before .is-svg .result) (c .before .before .before .before .before .if1 .left)) (c .before .before .before .if2 .left) (c .before .before .if3 .left) (sym (c .before .leads-back .ensures) ∙ c .if4 .left), node-stands (c .before .before .before .before .before .before .before .before .before .before .before .before .before .before .args .script .now) (c .before .before .before .before .before .before .before .before .before .before .linked .result) (c .before .before .before .before .before .before .before .before .node .given .0 .0) (c .before .before .before .before .before .before .before .before .node .given .0 .1 .0) (c .before .before .before .before .before .before .before .before .node .given .0 .1 .1 .0) (c .before .before .before .before .before .before .before .before .node .given .0 .1 .1 .1 .0) (c .before .before .before .before .before .before .before .before .node .given .1) (c .before .before .before .before .before .before .before .before .before .before .linked .ensures .1))
+returns-5 c = (λ e h g. copies (c .before .before .before .before .before .before .before .before .before .before .before .before .before .before .args .script .now) (c .before .before .before .before .before .before .before .before .before .before .before .before .before .before .args .characters .now) e (c .before .before .before .before .before .before .before .before .before .before .before .before .before .before .args .number) (c .before .before .before .before .before .before .before .before .before .before .before .before .before .before .args .origin) g (partOf (c .before .before .before .before .before .before .before .before .before .before .before .before .before .before .args .characters .now) (c .before .before .before .before .before .before .before .before .before .before .before .use-href .result)) (c .before .before .before .before .before .before .before .before .before .before .before .use-href .ensures .0 (c .before .before .before .before .before .before .before .before .before .before .before .before .before .before .args .characters .now) e h) (c .before .before .before .before .before .before .before .before .before .before .linked .result) (c .before .before .before .before .before .before .before .before .before .before .linked .ensures .0) (c .before .before .before .before .before .before .before .before .node .given .0 .0) (c .before .before .before .before .before .before .before .before .node .given .0 .1 .0) (c .before .before .before .before .before .before .before .before .node .given .0 .1 .1 .0) (c .before .before .before .before .before .before .before .before .node .given .0 .1 .1 .1 .0) (c .before .before .before .before .before .before .before .before .node .given .1) (sym (c .before .before .before .before .before .before .has-tag-name .ensures) ∙ not-false (c .before .before .before .before .before .before .has-tag-name .result) (c .before .before .before .before .before .if1 .left)) (c .before .before .before .if2 .left) (c .before .before .if3 .left) (sym (c .before .leads-back .ensures) ∙ c .if4 .left), node-stands (c .before .before .before .before .before .before .before .before .before .before .before .before .before .before .args .script .now) (c .before .before .before .before .before .before .before .before .before .before .linked .result) (c .before .before .before .before .before .before .before .before .node .given .0 .0) (c .before .before .before .before .before .before .before .before .node .given .0 .1 .0) (c .before .before .before .before .before .before .before .before .node .given .0 .1 .1 .0) (c .before .before .before .before .before .before .before .before .node .given .0 .1 .1 .1 .0) (c .before .before .before .before .before .before .before .before .node .given .1) (c .before .before .before .before .before .before .before .before .before .before .linked .ensures .1))
 
 returns-6 : tie.Need-returns-6
 returns-6 c = (λ e h g. copies-nothing (c .before .before .before .before .before .before .args .script .now) (c .before .before .before .before .before .before .args .characters .now) e (c .before .before .before .before .before .before .args .number) (c .before .before .before .before .before .before .args .origin) g (partOf (c .before .before .before .before .before .before .args .characters .now) (c .before .before .before .use-href .result)) (c .before .before .before .use-href .ensures .0 (c .before .before .before .before .before .before .args .characters .now) e h) (c .before .before .linked .result) (c .before .before .linked .ensures .0) (c .enum-told .given .1), tt)
@@ -55,7 +55,7 @@ use-target-spec =
     use-href-requires
     linked-requires
     enum-known-node
-    is-svg-requires
+    has-tag-name-requires
     returns
     add-k
     returns-2

@@ -6,7 +6,8 @@ use Rattle.model.specs.Tables.{elementById}
 use Rattle.model.specs.Questions.{elementByIdQuestion, answerOf}
 use Rattle.tree.specs.Lent.{treeOf, answered}
 use Rattle.tree.proofs.Bools.{fails, passes}
-use Rattle.tree.proofs.Facts.{sound, readable-in}
+use Rattle.model.specs.Theorems.Sound.{sound-kept}
+use Rattle.tree.proofs.Facts.{readable-in}
 use Rattle.tree.proofs.Alike.{last-same}
 use borrow.Author.Needs.{needs}
 use Rattle.tree.proofs.question.element_by_id.Statement.{statement}
@@ -20,7 +21,7 @@ unfolding elementByIdQuestion firstOf
 returns c = rw (fails (c .before .is-sound .ensures) (c .if1 .taken))
 
 last-with-id-requires : tie.Need-last-with-id-requires
-last-with-id-requires c κs = λ k l. readable-in (length (c .before .before .before .before .before .before .before .args .characters .now)) (treeOf (c .before .before .before .before .before .before .before .args .nodes .now) (c .before .before .before .before .before .before .before .args .attributes .now) (c .before .before .before .before .before .before .before .args .text .now) (c .before .before .before .before .before .before .before .args .counts)) (sound (c .before .before .before .before .before .before .before .args .characters .now) (treeOf (c .before .before .before .before .before .before .before .args .nodes .now) (c .before .before .before .before .before .before .before .args .attributes .now) (c .before .before .before .before .before .before .before .args .text .now) (c .before .before .before .before .before .before .before .args .counts)) (passes (c .before .is-sound .ensures) (c .if1 .left))) k l
+last-with-id-requires c κs = λ k l. readable-in (length (c .before .before .before .before .before .before .before .args .characters .now)) (treeOf (c .before .before .before .before .before .before .before .args .nodes .now) (c .before .before .before .before .before .before .before .args .attributes .now) (c .before .before .before .before .before .before .before .args .text .now) (c .before .before .before .before .before .before .before .args .counts)) (sound-kept (c .before .before .before .before .before .before .before .args .characters .now) (treeOf (c .before .before .before .before .before .before .before .args .nodes .now) (c .before .before .before .before .before .before .before .args .attributes .now) (c .before .before .before .before .before .before .before .args .text .now) (c .before .before .before .before .before .before .before .args .counts)) (passes (c .before .is-sound .ensures) (c .if1 .left))) k l
 
 answer-of-requires : tie.Need-answer-of-requires
 answer-of-requires c κs = search needs

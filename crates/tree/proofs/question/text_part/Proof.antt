@@ -6,7 +6,8 @@ use Rattle.model.specs.Tables.{firstChildOf}
 use Rattle.model.specs.Questions.{textQuestion}
 use Rattle.tree.specs.Lent.{treeOf}
 use Rattle.tree.proofs.Bools.{fails, passes}
-use Rattle.tree.proofs.Facts.{sound, text-readable}
+use Rattle.model.specs.Theorems.Sound.{sound-kept}
+use Rattle.tree.proofs.Facts.{text-readable}
 use borrow.Author.Needs.{needs}
 use Rattle.tree.proofs.question.text_part.Statement.{statement}
 use Rattle.tree.proofs.question.text_part.Tie as tie
@@ -23,7 +24,13 @@ unfolding textQuestion
 returns-2 c = rw (passes (c .before .before .before .is-sound .ensures) (c .before .before .if1 .left), le-ltb _ _ (c .if2 .taken))
 
 text-at-requires : tie.Need-text-at-requires
-text-at-requires c κs = (text-readable (length (c .before .before .before .before .before .before .before .before .args .characters .now)) (treeOf (c .before .before .before .before .before .before .before .before .args .nodes .now) (c .before .before .before .before .before .before .before .before .args .attributes .now) (c .before .before .before .before .before .before .before .before .args .text .now) (c .before .before .before .before .before .before .before .before .args .counts)) (sound (c .before .before .before .before .before .before .before .before .args .characters .now) (treeOf (c .before .before .before .before .before .before .before .before .args .nodes .now) (c .before .before .before .before .before .before .before .before .args .attributes .now) (c .before .before .before .before .before .before .before .before .args .text .now) (c .before .before .before .before .before .before .before .before .args .counts)) (passes (c .before .before .before .is-sound .ensures) (c .before .before .if1 .left))) (c .before .before .before .before .before .before .before .before .args .node) (c .if2 .left), λ z. text-readable (length (c .before .before .before .before .before .before .before .before .args .characters .now)) (treeOf (c .before .before .before .before .before .before .before .before .args .nodes .now) (c .before .before .before .before .before .before .before .before .args .attributes .now) (c .before .before .before .before .before .before .before .before .args .text .now) (c .before .before .before .before .before .before .before .before .args .counts)) (sound (c .before .before .before .before .before .before .before .before .args .characters .now) (treeOf (c .before .before .before .before .before .before .before .before .args .nodes .now) (c .before .before .before .before .before .before .before .before .args .attributes .now) (c .before .before .before .before .before .before .before .before .args .text .now) (c .before .before .before .before .before .before .before .before .args .counts)) (passes (c .before .before .before .is-sound .ensures) (c .before .before .if1 .left))) (firstChildOf (treeOf (c .before .before .before .before .before .before .before .before .args .nodes .now) (c .before .before .before .before .before .before .before .before .args .attributes .now) (c .before .before .before .before .before .before .before .before .args .text .now) (c .before .before .before .before .before .before .before .before .args .counts)) (c .before .before .before .before .before .before .before .before .args .node) - 1) (omega (arith, (sound (c .before .before .before .before .before .before .before .before .args .characters .now) (treeOf (c .before .before .before .before .before .before .before .before .args .nodes .now) (c .before .before .before .before .before .before .before .before .args .attributes .now) (c .before .before .before .before .before .before .before .before .args .text .now) (c .before .before .before .before .before .before .before .before .args .counts)) (passes (c .before .before .before .is-sound .ensures) (c .before .before .if1 .left))) .nodes (c .before .before .before .before .before .before .before .before .args .node) (c .if2 .left) .first, c .if2 .left)))
+text-at-requires c κs =
+    let args = c .before .before .before .before .before .before .before .before .args in
+    let kept = sound-kept (args .characters .now) _ (passes (c .before .before .before .is-sound .ensures) (c .before .before .if1 .left)) in
+    (
+      text-readable _ _ kept _ (c .if2 .left),
+      λ z. let later = kept .nodes _ (c .if2 .left) .first z in text-readable _ _ kept _ (omega (arith, later .0, later .1)),
+    )
 
 returns-3 : tie.Need-returns-3
 unfolding textQuestion

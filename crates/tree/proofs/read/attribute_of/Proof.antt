@@ -6,7 +6,8 @@ use Rattle.model.specs.Names.{isPossibleNone, fixedBytes, fixedValues}
 use Rattle.model.specs.Tables.{entryAt, attributeId, valueAtEntry, attributeOf}
 use Rattle.tree.specs.Lent.{readOf}
 use Rattle.tree.proofs.Bools.{fails, passes}
-use Rattle.tree.proofs.Alike.{absent, held-value}
+use Rattle.tree.proofs.Entries.{some-there, none-there}
+use Rattle.tree.proofs.Alike.{held-value}
 use borrow.Author.Needs.{needs}
 use Rattle.tree.proofs.read.attribute_of.Statement.{statement}
 use Rattle.tree.proofs.read.attribute_of.Tie as tie
@@ -16,14 +17,14 @@ attribute-id-requires c κs = search needs
 
 returns : tie.Need-returns
 unfolding attributeOf
-returns c = (absent (and (isPossibleNone (c .before .before .before .before .before .args .a)) (sameBytes (valueAtEntry (c .before .before .before .before .before .args .characters .now) (readOf (c .before .before .before .before .before .args .nodes .now) (c .before .before .before .before .before .args .attributes .now)) (attributeId (readOf (c .before .before .before .before .before .args .nodes .now) (c .before .before .before .before .before .args .attributes .now)) (c .before .before .before .before .before .args .i) (c .before .before .before .before .before .args .a))) (fixedBytes 1))) (sym (c .before .attribute-id .ensures .0) ∙ c .if1 .taken), (record { element = λ h. absurd (h refl); last = zero-le }))
+returns c = (rw (none-there (c .before .attribute-id .ensures .0) (c .if1 .taken)), record { element = λ h. absurd (h refl); last = zero-le })
 
 is-possible-none-requires : tie.Need-is-possible-none-requires
 is-possible-none-requires c κs = search needs
 
 returns-2 : tie.Need-returns-2
 unfolding attributeOf
-returns-2 c = (rw (fails (c .before .is-possible-none .ensures) (c .if2 .taken)) (c .before .before .before .attribute-id .ensures .0), c .before .before .before .attribute-id .ensures .1)
+returns-2 c = (rw (some-there (c .before .before .before .attribute-id .ensures .0) (c .before .before .if1 .left), fails (c .before .is-possible-none .ensures) (c .if2 .taken)) (c .before .before .before .attribute-id .ensures .0), c .before .before .before .attribute-id .ensures .1)
 
 sub-has-value : tie.Need-sub-has-value
 sub-has-value c = search needs
@@ -36,11 +37,11 @@ has-value-requires c κs = held-value (length (c .before .before .before .before
 
 returns-3 : tie.Need-returns-3
 unfolding attributeOf entryAt fixedBytes fixedValues
-returns-3 c = (rw (passes (c .before .before .before .before .is-possible-none .ensures) (c .before .before .before .if2 .left), sym (c .before .before .before .before .before .before .attribute-id .ensures .0), sym (c .before .has-value .ensures), c .if3 .taken), (record { element = λ h. absurd (h refl); last = zero-le }))
+returns-3 c = (rw (some-there (c .before .before .before .before .before .before .attribute-id .ensures .0) (c .before .before .before .before .before .if1 .left), passes (c .before .before .before .before .is-possible-none .ensures) (c .before .before .before .if2 .left), sym (c .before .before .before .before .before .before .attribute-id .ensures .0), sym (c .before .has-value .ensures), c .if3 .taken), (record { element = λ h. absurd (h refl); last = zero-le }))
 
 returns-4 : tie.Need-returns-4
 unfolding attributeOf entryAt fixedBytes fixedValues
-returns-4 c = (rw (passes (c .before .before .before .before .is-possible-none .ensures) (c .before .before .before .if2 .left), sym (c .before .before .before .before .before .before .attribute-id .ensures .0), sym (c .before .has-value .ensures), c .if3 .left), c .before .before .before .before .before .before .attribute-id .ensures .1)
+returns-4 c = (rw (some-there (c .before .before .before .before .before .before .attribute-id .ensures .0) (c .before .before .before .before .before .if1 .left), passes (c .before .before .before .before .is-possible-none .ensures) (c .before .before .before .if2 .left), sym (c .before .before .before .before .before .before .attribute-id .ensures .0), sym (c .before .has-value .ensures), c .if3 .left), c .before .before .before .before .before .before .attribute-id .ensures .1)
 
 pub attribute-of-spec : {M : Type 1} → statement M
 attribute-of-spec =

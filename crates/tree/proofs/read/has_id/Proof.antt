@@ -4,7 +4,7 @@ use lib.ListN.{length}
 use Rattle.model.specs.Base.{sameBytes}
 use Rattle.model.specs.Tables.{entryAt, valueAtEntry, hasIdBytes}
 use Rattle.tree.specs.Lent.{readOf}
-use Rattle.tree.proofs.Entries.{has, has-not}
+use Rattle.tree.proofs.Entries.{some-there, none-there}
 use Rattle.tree.proofs.Alike.{held-value}
 use borrow.Author.Needs.{needs}
 use Rattle.tree.proofs.read.has_id.Statement.{statement}
@@ -15,7 +15,7 @@ attribute-id-requires c κs = search needs
 
 returns : tie.Need-returns
 unfolding hasIdBytes
-returns c = rw (has-not (c .before .attribute-id .ensures .0) (c .if1 .taken))
+returns c = rw (none-there (c .before .attribute-id .ensures .0) (c .if1 .taken))
 
 sub-has-value : tie.Need-sub-has-value
 sub-has-value c = search needs
@@ -25,7 +25,7 @@ has-value-requires c κs = held-value (length (c .before .before .before .before
 
 returns-2 : tie.Need-returns-2
 unfolding hasIdBytes entryAt
-returns-2 c = rw (has (c .before .before .attribute-id .ensures .0) (c .before .if1 .left)) (c .has-value .ensures ∙ ap (λ (n : ℕ). sameBytes (valueAtEntry (c .before .before .before .before .before .before .before .args .characters .now) (readOf (c .before .before .before .before .before .before .before .args .nodes .now) (c .before .before .before .before .before .before .before .args .attributes .now)) n) (c .before .before .before .before .before .before .before .args .id .now)) (c .before .before .attribute-id .ensures .0))
+returns-2 c = rw (some-there (c .before .before .attribute-id .ensures .0) (c .before .if1 .left)) (c .has-value .ensures ∙ ap (λ (n : ℕ). sameBytes (valueAtEntry (c .before .before .before .before .before .before .before .args .characters .now) (readOf (c .before .before .before .before .before .before .before .args .nodes .now) (c .before .before .before .before .before .before .before .args .attributes .now)) n) (c .before .before .before .before .before .before .before .args .id .now)) (c .before .before .attribute-id .ensures .0))
 
 pub has-id-spec : {M : Type 1} → statement M
 has-id-spec =

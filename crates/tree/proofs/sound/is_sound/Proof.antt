@@ -2,7 +2,7 @@ use Rattle.tree.specs.Lent.{treeOf}
 use Rattle.model.specs.Tables.{entryAt}
 use Rattle.model.specs.Questions.{isSound}
 use Rattle.tree.proofs.Bools.{fails, passes}
-use Rattle.tree.proofs.Counted.{fitting}
+use Rattle.model.specs.Theorems.Sound.{fitting}
 use borrow.Author.Needs.{needs}
 use Rattle.tree.proofs.sound.is_sound.Statement.{statement}
 use Rattle.tree.proofs.sound.is_sound.Tie as tie

@@ -1,7 +1,7 @@
 use borrow.Author.Tests.{lt-leb, le-leb}
 use Rattle.model.specs.Names.{isElement}
-use Rattle.script.proofs.find.is_svg.Statement.{statement}
-use Rattle.script.proofs.find.is_svg.Tie as tie
+use Rattle.script.proofs.find.has_tag_name.Statement.{statement}
+use Rattle.script.proofs.find.has_tag_name.Tie as tie
 
 returns : tie.Need-returns
 unfolding isElement
@@ -11,5 +11,5 @@ returns-2 : tie.Need-returns-2
 unfolding isElement
 returns-2 c = simp (le-leb _ _ (c .if1 .left))
 
-pub is-svg-spec : {M : Type 1} → statement M
-is-svg-spec = tie.close (tie.spec returns returns-2)
+pub has-tag-name-spec : {M : Type 1} → statement M
+has-tag-name-spec = tie.close (tie.spec returns returns-2)
