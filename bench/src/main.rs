@@ -4,8 +4,14 @@ use host::questions::Counts;
 use host::scripts::Drawing;
 use host::tables::Lent;
 use host::{check, library};
-use std::hint::black_box;
 use std::time::{Duration, Instant};
+
+/// The value itself, read in a way that the compiler does not see through.
+fn black_box<T>(value: T) -> T {
+    let value = std::mem::ManuallyDrop::new(value);
+    // SAFETY: the value is read once, and is not dropped here.
+    unsafe { std::ptr::read_volatile(&*value) }
+}
 
 /// A call whose answer counts as used.
 macro_rules! call {

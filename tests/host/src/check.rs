@@ -39,13 +39,15 @@ impl Kinds {
 
 /// The operands at the front, and what comes after them.
 fn operands<const N: usize>(bytes: &[u8]) -> Result<(&[u8; N], &[u8]), u32> {
-    bytes.split_first_chunk().ok_or(2)
+    let taken = bytes.get(..N).ok_or(2u32)?;
+    Ok((taken.try_into().unwrap(), &bytes[N..]))
 }
 
 /// The next string of the characters.
 fn string<'a>(characters: &mut &'a [u8], length: [u8; 4]) -> Result<&'a str, u32> {
-    let (taken, left) = characters.split_at_checked(u32::from_le_bytes(length) as usize).ok_or(6u32)?;
-    *characters = left;
+    let length = u32::from_le_bytes(length) as usize;
+    let taken = characters.get(..length).ok_or(6u32)?;
+    *characters = &characters[length..];
     std::str::from_utf8(taken).map_err(|_| 9)
 }
 

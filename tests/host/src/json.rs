@@ -127,13 +127,16 @@ impl Json {
 
     /// Bytes in hexadecimal.
     pub fn bytes(&self, name: &str) -> Read<Vec<u8>> {
-        let Json::Text(text) = self.need(name)? else { return Err(format!("'{name}' is no string")) };
-        let pairs = text.as_bytes().as_chunks::<2>();
-        if !pairs.1.is_empty() {
+        let text = match self.need(name)? {
+            Json::Text(text) => text,
+            _ => return Err(format!("'{name}' is no string")),
+        };
+        let pairs = text.as_bytes().chunks_exact(2);
+        if !pairs.remainder().is_empty() {
             return Err(format!("'{name}' has half a byte"));
         }
-        let byte = |pair: &[u8; 2]| std::str::from_utf8(pair).ok().and_then(|p| u8::from_str_radix(p, 16).ok());
-        pairs.0.iter().map(byte).collect::<Option<_>>().ok_or_else(|| format!("'{name}' is not hexadecimal"))
+        let byte = |pair: &[u8]| std::str::from_utf8(pair).ok().and_then(|p| u8::from_str_radix(p, 16).ok());
+        pairs.map(byte).collect::<Option<_>>().ok_or_else(|| format!("'{name}' is not hexadecimal"))
     }
 
     /// A number and an index or null.

@@ -8,17 +8,23 @@ pub const QUESTIONS: bool = cfg!(feature = "questions");
 /// With the variable HOST_EXACT every call is made on copies in allocations of just their length, so that a memory checker
 /// sees a read past an end.
 #[cfg(any(feature = "check", feature = "questions"))]
-static EXACT: std::sync::LazyLock<bool> = std::sync::LazyLock::new(|| std::env::var_os("HOST_EXACT").is_some());
+fn is_exact() -> bool {
+    use std::sync::atomic::{AtomicBool, Ordering};
+    static ASKED: std::sync::Once = std::sync::Once::new();
+    static EXACT: AtomicBool = AtomicBool::new(false);
+    ASKED.call_once(|| EXACT.store(std::env::var_os("HOST_EXACT").is_some(), Ordering::Relaxed));
+    EXACT.load(Ordering::Relaxed)
+}
 
 #[cfg(feature = "check")]
 pub fn check(script: &[u8], characters: &[u8]) -> Option<u32> {
-    if *EXACT { call_check(&script.to_vec(), &characters.to_vec()) } else { call_check(script, characters) }
+    if is_exact() { call_check(&script.to_vec(), &characters.to_vec()) } else { call_check(script, characters) }
 }
 
 #[cfg(feature = "check")]
 fn call_check(script: &[u8], characters: &[u8]) -> Option<u32> {
     #[link(name = "svgtree", kind = "static")]
-    unsafe extern "C" {
+    extern "C" {
         fn svgtree_check(script: *const u8, script_length: usize, characters: *const u8, characters_length: usize) -> u32;
     }
     // SAFETY: each pointer and length are those of one slice that lives through the call, and the library only reads.
@@ -36,7 +42,7 @@ mod questions {
     use crate::questions::{Answer, Counts, Part, Tables};
 
     #[link(name = "svgtree", kind = "static")]
-    unsafe extern "C" {
+    extern "C" {
         fn svgtree_attribute(
             nodes: *const u32, nodes_length: usize, attributes: *const u32, attributes_length: usize, text: *const u8, text_length: usize,
             characters: *const u8, characters_length: usize, counts: Counts, node: u32, name: u32) -> Answer;
@@ -53,7 +59,7 @@ mod questions {
 
     /// Calls with the tables, or with copies of them.
     fn lent<R>(t: &Tables, call: impl Fn(&Tables) -> R) -> Option<R> {
-        if !*super::EXACT { return Some(call(t)); }
+        if !super::is_exact() { return Some(call(t)); }
         let (nodes, attributes, text, characters) = (t.nodes.to_vec(), t.attributes.to_vec(), t.text.to_vec(), t.characters.to_vec());
         Some(call(&Tables { nodes: &nodes, attributes: &attributes, text: &text, characters: &characters, counts: t.counts }))
     }

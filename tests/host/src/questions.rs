@@ -75,6 +75,12 @@ fn test(holds: bool, flaw: Flaw) -> Result<(), Flaw> {
     if holds { Ok(()) } else { Err(flaw) }
 }
 
+/// The words of a table as records of N; words left over at the end are in none.
+pub fn records<const N: usize>(words: &[u32]) -> &[[u32; N]] {
+    // SAFETY: a record is N words one after another, and the records lie within the slice.
+    unsafe { std::slice::from_raw_parts(words.as_ptr().cast(), words.len() / N) }
+}
+
 /// Tables that pass the 40 test.
 struct Sound<'a> {
     nodes: &'a [[u32; 8]],
@@ -85,8 +91,8 @@ struct Sound<'a> {
 impl<'a> Tables<'a> {
     /// The 40 test.
     fn sound(&self) -> Result<Sound<'a>, Flaw> {
-        let nodes = self.nodes.as_chunks().0.get(..self.counts.nodes as usize).ok_or(Flaw::NodeCount)?;
-        let attributes = self.attributes.as_chunks().0.get(..self.counts.attributes as usize).ok_or(Flaw::AttributeCount)?;
+        let nodes = records(self.nodes).get(..self.counts.nodes as usize).ok_or(Flaw::NodeCount)?;
+        let attributes = records(self.attributes).get(..self.counts.attributes as usize).ok_or(Flaw::AttributeCount)?;
         test(self.counts.text as usize <= self.text.len(), Flaw::TextCount)?;
         test(!nodes.is_empty(), Flaw::NoNode)?;
         for (i, record) in nodes.iter().enumerate() {
@@ -194,7 +200,7 @@ impl<'a> Sound<'a> {
     }
 
     /// The nodes above a node, the nearest first.
-    fn above(&self, node: usize) -> impl Iterator<Item = usize> {
+    fn above(&self, node: usize) -> impl Iterator<Item = usize> + '_ {
         std::iter::successors(Some(node), |&n| (self.nodes[n][1] as usize).checked_sub(1)).skip(1)
     }
 

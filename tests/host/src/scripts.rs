@@ -68,12 +68,12 @@ impl Drawing {
 /// A character of one to four bytes, often the first or the last of its width.
 fn character(r: &mut Random) -> char {
     let code = match r.below(16) {
-        0..7 => r.from_to(b'a' as usize, b'z' as usize),
-        7..9 => r.pick(&[0, 9, 10, 13, 32, 0x7f]),
+        0..=6 => r.from_to(b'a' as usize, b'z' as usize),
+        7..=8 => r.pick(&[0, 9, 10, 13, 32, 0x7f]),
         9 => r.pick(&[0x80, 0xa0, 0xe9, 0x7ff]),
         10 => r.from_to(0x80, 0x7ff),
         11 => r.pick(&[0x800, 0xfff, 0x1000, 0xcfff, 0xd000, 0xd7ff, 0xe000, 0xffff]),
-        12..14 => r.from_to(0x800, 0xd7ff),
+        12..=13 => r.from_to(0x800, 0xd7ff),
         14 => r.pick(&[0x1_0000, 0x3_ffff, 0x4_0000, 0xf_ffff, 0x10_0000, 0x10_ffff]),
         _ => r.from_to(0x1_0000, 0x10_ffff),
     };
@@ -82,8 +82,8 @@ fn character(r: &mut Random) -> char {
 
 fn string(r: &mut Random) -> String {
     let length = match r.below(16) {
-        0..4 => 0,
-        4..15 => r.from_to(1, 6),
+        0..=3 => 0,
+        4..=14 => r.from_to(1, 6),
         _ => r.from_to(7, 40),
     };
     (0..length).map(|_| character(r)).collect()
@@ -167,7 +167,7 @@ pub fn valid(r: &mut Random, d: &mut Drawing) {
     let mut left = r.below(24);
     while open > 0 {
         match if left == 0 { 7 } else { r.below(8) } {
-            0..3 => {
+            0..=2 => {
                 begin(r, d);
                 open += 1;
             }
@@ -239,8 +239,8 @@ fn edge(r: &mut Random, old: u32, left: u32) -> u32 {
     let near = [0, 1, old.wrapping_add(1), old.wrapping_sub(1), left, left.wrapping_add(1), left.wrapping_sub(1)];
     let far = [u32::MAX, u32::MAX - 1, u32::MAX - old, u32::MAX - left, 1 << 31, 1 << 20, (1 << 20) + 1];
     match r.below(8) {
-        0..5 => r.pick(&near),
-        5..7 => r.pick(&far),
+        0..=4 => r.pick(&near),
+        5..=6 => r.pick(&far),
         _ => r.word() as u32,
     }
 }
@@ -329,7 +329,7 @@ fn damage_commands(r: &mut Random, d: &mut Drawing) {
 
 fn damage(r: &mut Random, d: &mut Drawing) {
     match r.below(8) {
-        0..3 => damage_bytes(r, &mut d.script, &[0, 1, 2, 3, 4, 5, 6, 7, 8, 10, 11, 52, 53, 210, 211, 254, 255]),
+        0..=2 => damage_bytes(r, &mut d.script, &[0, 1, 2, 3, 4, 5, 6, 7, 8, 10, 11, 52, 53, 210, 211, 254, 255]),
         3 => damage_bytes(r, &mut d.characters, &UTF8_EDGES),
         4 | 5 => change_word(r, d),
         _ => damage_commands(r, d),
@@ -346,8 +346,8 @@ pub fn random(r: &mut Random, d: &mut Drawing) {
         return;
     }
     match r.below(20) {
-        0..5 => valid(r, d),
-        5..16 => {
+        0..=4 => valid(r, d),
+        5..=15 => {
             valid(r, d);
             (0..=r.below(3)).for_each(|_| damage(r, d));
         }

@@ -1,6 +1,6 @@
 //! Tables for the questions: sound ones at random, and ones broken in a word or two.
 use crate::names::AId::*;
-use crate::questions::{Counts, Tables};
+use crate::questions::{Counts, Tables, records};
 use crate::random::Random;
 
 #[derive(Clone)]
@@ -139,8 +139,8 @@ fn word(r: &mut Random, lent: &Lent, record: u32, old: u32) -> u32 {
     let lists = [4, 18, 19, 52, 53, 210, 211, 254, 255];
     let far = [1 << 31, u32::MAX - 1, u32::MAX, u32::MAX - old, (u32::MAX - old).wrapping_add(1)];
     match r.below(9) {
-        0..3 => r.pick(&near),
-        3..6 => r.pick(&ends),
+        0..=2 => r.pick(&near),
+        3..=5 => r.pick(&ends),
         6 => r.pick(&lists),
         7 => r.pick(&far),
         _ => r.word() as u32,
@@ -159,11 +159,11 @@ fn count(r: &mut Random, old: u32, length: usize, record: u32) -> u32 {
 /// Breaks one thing: a word of a record, a count, or the length of a slice.
 pub fn damage(r: &mut Random, lent: &mut Lent) {
     match r.below(16) {
-        0..7 if !lent.nodes.is_empty() => {
+        0..=6 if !lent.nodes.is_empty() => {
             let at = r.below((lent.counts.nodes as usize).saturating_mul(8).clamp(1, lent.nodes.len()));
             lent.nodes[at] = word(r, lent, at as u32 / 8, lent.nodes[at]);
         }
-        7..12 if !lent.attributes.is_empty() => {
+        7..=11 if !lent.attributes.is_empty() => {
             let at = r.below((lent.counts.attributes as usize).saturating_mul(5).clamp(1, lent.attributes.len()));
             lent.attributes[at] = word(r, lent, at as u32 / 5, lent.attributes[at]);
         }
@@ -201,8 +201,8 @@ pub fn node(r: &mut Random, lent: &Lent) -> u32 {
 /// A name to ask about: mostly one that the table has, at times one past the list.
 pub fn name(r: &mut Random, lent: &Lent) -> u32 {
     match r.below(8) {
-        0..5 if lent.attributes.len() >= 5 => lent.attributes[r.below(lent.attributes.len() / 5) * 5],
-        0..6 => r.pick(&POOL),
+        0..=4 if lent.attributes.len() >= 5 => lent.attributes[r.below(lent.attributes.len() / 5) * 5],
+        0..=5 => r.pick(&POOL),
         6 => r.below(214) as u32,
         _ => r.pick(&[210, 211, 212, 254, 255, u32::MAX]),
     }
@@ -210,9 +210,9 @@ pub fn name(r: &mut Random, lent: &Lent) -> u32 {
 
 /// An id to ask for: mostly a value that the table has, at times bytes that are no UTF-8.
 pub fn id(r: &mut Random, lent: &Lent) -> Vec<u8> {
-    let entries = lent.attributes.as_chunks::<5>().0;
+    let entries: &[[u32; 5]] = records(&lent.attributes);
     match r.below(8) {
-        0..6 if !entries.is_empty() => {
+        0..=5 if !entries.is_empty() => {
             let [_, _, start, length, _] = r.pick(entries);
             let part = lent.characters.get(start as usize..).and_then(|c| c.get(..length as usize));
             part.unwrap_or(b"none").to_vec()

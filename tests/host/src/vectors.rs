@@ -38,13 +38,16 @@ fn check_vector(tally: &mut Tally, what: &str, line: &Json) -> Result<(), String
 }
 
 fn questions_vector(tally: &mut Tally, what: &str, line: &Json) -> Result<(), String> {
-    let [nodes, attributes, text] = line.words("counts")?[..] else { return Err("'counts' has not three numbers".to_string()) };
+    let counts = match line.words("counts")?[..] {
+        [nodes, attributes, text] => Counts { nodes, attributes, text },
+        _ => return Err("'counts' has not three numbers".to_string()),
+    };
     let lent = tables::Lent {
         nodes: line.words("nodes")?,
         attributes: line.words("attributes")?,
         text: line.bytes("text")?,
         characters: line.bytes("characters")?,
-        counts: Counts { nodes, attributes, text },
+        counts,
     };
     let t = &lent.tables();
     note_flaw(tally, t);
