@@ -127,9 +127,9 @@ pub fn run_questions() {
         text: input::number(),
     };
     let mut nodes = [0u32; 512];
-    let mut attributes = [0u32; 256];
+    let mut attributes = [0u32; 512];
     let mut text = [0u8; 256];
-    let mut characters = [0u8; 256];
+    let mut characters = [0u8; 512];
     let a = input::numbers(&mut nodes, n);
     let b = input::numbers(&mut attributes, m);
     let d = input::bytes(&mut text, t);
