@@ -153,7 +153,7 @@ fn text_of_node(nodes: &[u32], i: u32) -> Part
 fn text_at(nodes: &[u32], i: u32) -> Part
     requires { ⌜ TextReadable (nodesRead (now nodes)) i ×
         ((firstChildOf (nodesRead (now nodes)) i ≡ 0 → ⊥) →
-            TextReadable (nodesRead (now nodes)) (firstChildOf (nodesRead (now nodes)) i - 1)) ⌝ }
+        TextReadable (nodesRead (now nodes)) (firstChildOf (nodesRead (now nodes)) i - 1)) ⌝ }
     ensures { λ r. ⌜ r ≡ parted (textAt (nodesRead (now (nodes .entry))) i) ⌝ }
 {
     if node_word(nodes, i, word::KIND) != word::ELEMENT {
