@@ -1,4 +1,5 @@
--- The keys of a `match` on a number: what follows from what an arm and the `_` arm are told, by one computed test over all keys. Assumes nothing.
+-- The keys of a `match` on a number: what follows from what an arm and the `_` arm are told, by one computed test over all keys.
+-- Assumes nothing.
 use mathlib.Core.Path.{_≡_, refl, sym, subst}
 use mathlib.Core.Logic.{_⊎_, inl, inr, ⊎-elim}
 use mathlib.Core.List.{List, [], _∷_}
@@ -49,7 +50,8 @@ one-of (x ∷ []) a h = go (eqb a x) (eqb→eq a x) h
     go false e h = absurd h
 one-of (x ∷ (y ∷ ks)) a h = go (eqb a x) (eqb→eq a x) (one-of (y ∷ ks) a) h
   where
-    go : (t : Bool) → (T t → a ≡ x) → (T (among a (y ∷ ks)) → OneOf (y ∷ ks) a) → T (pick t (λ u. true) (λ u. among a (y ∷ ks))) → (a ≡ x) ⊎ OneOf (y ∷ ks) a
+    go : (t : Bool) → (T t → a ≡ x) → (T (among a (y ∷ ks)) → OneOf (y ∷ ks) a) →
+        T (pick t (λ u. true) (λ u. among a (y ∷ ks))) → (a ≡ x) ⊎ OneOf (y ∷ ks) a
     go true e o h = inl (e tt)
     go false e o h = inr (o h)
 
@@ -69,7 +71,8 @@ pub unlisted : (arms : List (List ℕ)) (xs : List ℕ) (a : ℕ) → NoKey arms
 unfolding every among
 unlisted arms [] a n e = refl
 unlisted arms (x ∷ xs) a n e =
-    rw (ne-eqb a x (differs arms a x n (first (keyed arms x) (every (keyed arms) xs) e))) (unlisted arms xs a n (later (keyed arms x) (every (keyed arms) xs) e))
+    rw (ne-eqb a x (differs arms a x n (first (keyed arms x) (every (keyed arms) xs) e)))
+    (unlisted arms xs a n (later (keyed arms x) (every (keyed arms) xs) e))
 
 unfoldable pub keysOf : List Pair → List ℕ
 keysOf [] = []

@@ -2,7 +2,8 @@
 // Of codes that follow one another, each second one stands in an arm of its own: in one arm they would make a range.
 ghost use mathlib.Core.Path.{_≡_};
 ghost use Rattle.model.specs.Base.{sameBytes, amongWords};
-ghost use Rattle.model.specs.Names.{isElement, isAttribute, isPresentation, isNonInheritable, isInheritable, allowsInheritValue, isPossibleNone, isDeclaredOnly, inheritDefault, fixedBytes, imageRenderingWords};
+ghost use Rattle.model.specs.Names.{isElement, isAttribute, isPresentation, isNonInheritable, isInheritable, allowsInheritValue};
+ghost use Rattle.model.specs.Names.{isPossibleNone, isDeclaredOnly, inheritDefault, fixedBytes, imageRenderingWords};
 ghost use Rattle.model.specs.Element.{inheritWord};
 ghost use Rattle.model.specs.Text.{preserveWord};
 

@@ -28,7 +28,8 @@ pub extern "C" fn svgtree_attribute(
     node: u32,
     name: u32,
 ) -> Answer
-    ensures { λ r. ⌜ r ≡ answered (attributeQuestion (now (characters .entry)) (treeOf (now (nodes .entry)) (now (attributes .entry)) (now (text .entry)) counts) node name) ⌝ }
+    ensures { λ r. ⌜ r ≡ answered (attributeQuestion (now (characters .entry))
+        (treeOf (now (nodes .entry)) (now (attributes .entry)) (now (text .entry)) counts) node name) ⌝ }
 {
     question::attribute(nodes, attributes, text, characters, counts, node, name)
 }
@@ -44,7 +45,8 @@ pub extern "C" fn svgtree_find_attribute(
     node: u32,
     name: u32,
 ) -> Answer
-    ensures { λ r. ⌜ r ≡ answered (findAttributeQuestion (now (characters .entry)) (treeOf (now (nodes .entry)) (now (attributes .entry)) (now (text .entry)) counts) node name) ⌝ }
+    ensures { λ r. ⌜ r ≡ answered (findAttributeQuestion (now (characters .entry))
+        (treeOf (now (nodes .entry)) (now (attributes .entry)) (now (text .entry)) counts) node name) ⌝ }
 {
     question::find_attribute(nodes, attributes, text, characters, counts, node, name)
 }
@@ -59,7 +61,8 @@ pub extern "C" fn svgtree_element_by_id(
     counts: Counts,
     id: &[u8],
 ) -> Answer
-    ensures { λ r. ⌜ r ≡ answered (elementByIdQuestion (now (characters .entry)) (treeOf (now (nodes .entry)) (now (attributes .entry)) (now (text .entry)) counts) (now (id .entry))) ⌝ }
+    ensures { λ r. ⌜ r ≡ answered (elementByIdQuestion (now (characters .entry))
+        (treeOf (now (nodes .entry)) (now (attributes .entry)) (now (text .entry)) counts) (now (id .entry))) ⌝ }
 {
     question::element_by_id(nodes, attributes, text, characters, counts, id)
 }
@@ -74,7 +77,8 @@ pub extern "C" fn svgtree_text(
     counts: Counts,
     node: u32,
 ) -> Part
-    ensures { λ r. ⌜ r ≡ parted (textQuestion (now (characters .entry)) (treeOf (now (nodes .entry)) (now (attributes .entry)) (now (text .entry)) counts) node) ⌝ }
+    ensures { λ r. ⌜ r ≡ parted (textQuestion (now (characters .entry))
+        (treeOf (now (nodes .entry)) (now (attributes .entry)) (now (text .entry)) counts) node) ⌝ }
 {
     question::text_part(nodes, attributes, text, characters, counts, node)
 }

@@ -8,7 +8,8 @@ use lib.ListN.{length}
 use lib.Dec.{eqb}
 use Rattle.model.specs.Base.{pick, and, sameBytes}
 use Rattle.model.specs.Names.{fixedBytes, isPossibleNone, isInheritable}
-use Rattle.model.specs.Tables.{Tree, ELEMENT, kindOf, parentOf, fromOf, toOf, entryAt, entryWord, findEntry, attributeId, hasAttribute, valueAtEntry, attributeOf, holderFrom, holderOf, hasIdBytes, lastWithId}
+use Rattle.model.specs.Tables.{Tree, ELEMENT, kindOf, parentOf, fromOf, toOf, entryAt, entryWord, findEntry, attributeId}
+use Rattle.model.specs.Tables.{hasAttribute, valueAtEntry, attributeOf, holderFrom, holderOf, hasIdBytes, lastWithId}
 use Rattle.model.specs.Questions.{elementFrom, selfOrParent, findAttributeImpl}
 use Rattle.tree.specs.Lent.{readOf, entriesOf, nodesRead, Valued, ReadableIn, HeldBy}
 use Rattle.tree.proofs.Climbs.{climb-same, holder-climbs, element-climbs}
@@ -34,7 +35,8 @@ module _ (t : Tree) where
   unfolding attributeId
   id-same i a = go (eqb (kindOf t i) ELEMENT)
     where
-      go : (b : Bool) → pick b (λ u. findEntry seen a (fromOf t i) (toOf t i - fromOf t i)) (λ u. 0) ≡ pick b (λ u. findEntry t a (fromOf t i) (toOf t i - fromOf t i)) (λ u. 0)
+      go : (b : Bool) → pick b (λ u. findEntry seen a (fromOf t i) (toOf t i - fromOf t i)) (λ u. 0) ≡
+          pick b (λ u. findEntry t a (fromOf t i) (toOf t i - fromOf t i)) (λ u. 0)
       go true = sym (find-same seen a (fromOf t i) (toOf t i - fromOf t i)) ∙ find-same t a (fromOf t i) (toOf t i - fromOf t i)
       go false = refl
 
@@ -47,12 +49,14 @@ module _ (t : Tree) where
   pub holder-same : (a n w : ℕ) → holderFrom seen a n w ≡ holderFrom t a n w
   holder-same a n w =
       holder-climbs seen a n w
-      ∙ climb-same (λ i. hasAttribute seen i a) (λ i. hasAttribute t i a) (parentOf t) (λ k. ap (λ (j : ℕ). not (eqb j 0)) (id-same k a)) n w
+      ∙ climb-same (λ i. hasAttribute seen i a) (λ i. hasAttribute t i a) (parentOf t)
+      (λ k. ap (λ (j : ℕ). not (eqb j 0)) (id-same k a)) n w
       ∙ sym (holder-climbs t a n w)
 
   pub self-same : (i a : ℕ) → selfOrParent seen i a ≡ selfOrParent t i a
   self-same i a =
-      rw (id-same i a) (else-same (hasAttribute t i a) (i + 1) (element (sym (element-same seen i (parentOf t i)) ∙ element-same t i (parentOf t i))))
+      rw (id-same i a)
+      (else-same (hasAttribute t i a) (i + 1) (element (sym (element-same seen i (parentOf t i)) ∙ element-same t i (parentOf t i))))
     where
       owner : (u : Tree) → ℕ → ℕ
       owner u w = pick (eqb w 0) (λ v. 0) (λ v. pick (hasAttribute u (w - 1) a) (λ x. w) (λ x. 0))
@@ -64,7 +68,8 @@ module _ (t : Tree) where
   unfolding findAttributeImpl
   impl-same i a = go (isInheritable a)
     where
-      go : (b : Bool) → pick b (λ u. holderOf seen a i) (λ u. selfOrParent seen i a) ≡ pick b (λ u. holderOf t a i) (λ u. selfOrParent t i a)
+      go : (b : Bool) → pick b (λ u. holderOf seen a i) (λ u. selfOrParent seen i a) ≡
+          pick b (λ u. holderOf t a i) (λ u. selfOrParent t i a)
       go true = holder-same a (i + 1) (i + 1)
       go false = self-same i a
 

@@ -36,7 +36,8 @@ pub element-climbs : (t : Tree) (n w : ℕ) → elementFrom t n w ≡ climb (λ 
 unfolding elementFrom climb
 element-climbs t zero w = refl
 element-climbs t (suc n) w =
-    turn (eqb w 0) (eqb (kindOf t (w - 1)) ELEMENT) (eqb (kindOf t (w - 1)) ELEMENT) w _ _ refl (λ e. element-climbs t n (parentOf t (w - 1)))
+    turn (eqb w 0) (eqb (kindOf t (w - 1)) ELEMENT) (eqb (kindOf t (w - 1)) ELEMENT) w _ _ refl
+    (λ e. element-climbs t n (parentOf t (w - 1)))
 
 -- Another test with the same answers.
 pub climb-same : (f g : ℕ → Bool) (p : ℕ → ℕ) → ((k : ℕ) → f k ≡ g k) → (n w : ℕ) → climb f p n w ≡ climb g p n w

@@ -24,7 +24,9 @@ find-end t a j to h = let e : to - j ≡ 0 = omega arith in sym (ap (findEntry t
 pub part-slice : (f n : ℕ) (l : List ℕ) → take n (drop f l) ≡ slice f (f + n) l
 part-slice zero n l = let e : 0 + n ≡ n = omega arith in ap (λ (k : ℕ). take k l) (sym e)
 part-slice (suc f) n [] = take-nil n ∙ sym (ap (drop (suc f)) (take-nil (suc f + n)))
-part-slice (suc f) n (x ∷ l) = let e : suc f + n ≡ suc (f + n) = omega arith in part-slice f n l ∙ sym (ap (λ (k : ℕ). drop (suc f) (take k (x ∷ l))) e)
+part-slice (suc f) n (x ∷ l) =
+    let e : suc f + n ≡ suc (f + n) = omega arith in
+    part-slice f n l ∙ sym (ap (λ (k : ℕ). drop (suc f) (take k (x ∷ l))) e)
 
 -- An attribute is there, or it is not.
 pub some-there : {r v : ℕ} → r ≡ v → (r ≡ 0 → ⊥) → eqb v 0 ≡ false

@@ -43,10 +43,12 @@ climbable size t s i l m = record {
 pub no-fault : (chars : List ℕ) (t : Tree) (i a : ℕ) → questionFault chars t i a ≡ 0 → Kept (length chars) t × (i < t .nodeCount)
 unfolding questionFault firstOf
 no-fault chars t i a h =
-    let p : (isSound chars t ≡ true) × (leb (t .nodeCount) i ≡ false) = go (isSound chars t) (leb (t .nodeCount) i) (not (isAttribute a)) h in
+    let p : (isSound chars t ≡ true) × (leb (t .nodeCount) i ≡ false) =
+    go (isSound chars t) (leb (t .nodeCount) i) (not (isAttribute a)) h in
     (sound-kept chars t (p .0), leb-false (t .nodeCount) i (p .1))
   where
-    go : (b c d : Bool) → _≡_ {A = ℕ} (pick (not b) (λ u. 40) (λ u. pick c (λ u. 41) (λ u. pick d (λ u. 42) (λ u. 0)))) 0 → (b ≡ true) × (c ≡ false)
+    go : (b c d : Bool) → _≡_ {A = ℕ} (pick (not b) (λ u. 40) (λ u. pick c (λ u. 41) (λ u. pick d (λ u. 42) (λ u. 0)))) 0 →
+        (b ≡ true) × (c ≡ false)
     go true true d e = absurd (let z : _≡_ {A = ℕ} 41 0 = e in omega arith)
     go true false d e = (refl, refl)
     go false c d e = absurd (let z : _≡_ {A = ℕ} 40 0 = e in omega arith)
@@ -76,7 +78,9 @@ first-within chars t s w l = go (eqb w 0) refl
 text-within : (chars : List ℕ) (t : Tree) → Kept (length chars) t → (i : ℕ) → i < t .nodeCount → Within t (textAt t i)
 text-within chars t s i l = go (eqb (kindOf t i) ELEMENT)
   where
-    go : (b : Bool) → Within t (pick b (λ u. pick (eqb (firstChildOf t i) 0) (λ v. record { start = 0; size = 0 }) (λ v. textOfNode t (firstChildOf t i - 1))) (λ u. textOfNode t i))
+    go : (b : Bool) →
+        Within t (pick b (λ u. pick (eqb (firstChildOf t i) 0) (λ v. record { start = 0; size = 0 })
+        (λ v. textOfNode t (firstChildOf t i - 1))) (λ u. textOfNode t i))
     go true = first-within chars t s (firstChildOf t i) (λ z. s .nodes i l .first z .1)
     go false = node-within chars t s i l
 
@@ -84,7 +88,8 @@ pub part-within : (chars : List ℕ) (t : Tree) (i : ℕ) → Within t (textQues
 unfolding textQuestion
 part-within chars t i = go (and (isSound chars t) (ltb i (t .nodeCount))) refl
   where
-    go : (b : Bool) → and (isSound chars t) (ltb i (t .nodeCount)) ≡ b → Within t (pick b (λ u. textAt t i) (λ u. record { start = 0; size = 0 }))
+    go : (b : Bool) → and (isSound chars t) (ltb i (t .nodeCount)) ≡ b →
+        Within t (pick b (λ u. textAt t i) (λ u. record { start = 0; size = 0 }))
     go true e =
         let p : (isSound chars t ≡ true) × (ltb i (t .nodeCount) ≡ true) = both (isSound chars t) (ltb i (t .nodeCount)) e in
         text-within chars t (sound-kept chars t (p .0)) i (ltb-true i (t .nodeCount) (p .1))

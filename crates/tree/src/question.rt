@@ -12,7 +12,8 @@ use names::is_attribute;
 ghost use mathlib.Core.Path.{_≡_};
 ghost use Prim.Native.Nat.{_-_};
 ghost use Rattle.model.specs.Tables.{firstChildOf};
-ghost use Rattle.model.specs.Questions.{answerOf, questionFault, attributeQuestion, findAttributeQuestion, elementByIdQuestion, textOfNode, textAt, textQuestion};
+ghost use Rattle.model.specs.Questions.{answerOf, questionFault, attributeQuestion, findAttributeQuestion, elementByIdQuestion};
+ghost use Rattle.model.specs.Questions.{textOfNode, textAt, textQuestion};
 ghost use Rattle.tree.specs.Lent.{treeOf, nodesRead, answered, parted, bytesOf, TextReadable};
 
 // The numbers 40, 41 and 42, in that order; 0 if nothing stands against the question.
@@ -25,7 +26,8 @@ fn question_fault(
     node: u32,
     name: u32,
 ) -> u32
-    ensures { λ r. ⌜ r ≡ questionFault (now (characters .entry)) (treeOf (now (nodes .entry)) (now (attributes .entry)) (now (text .entry)) counts) node name ⌝ }
+    ensures { λ r. ⌜ r ≡ questionFault (now (characters .entry))
+        (treeOf (now (nodes .entry)) (now (attributes .entry)) (now (text .entry)) counts) node name ⌝ }
 {
     if !is_sound(nodes, attributes, text, characters, counts) {
         return 40;
@@ -67,7 +69,8 @@ pub fn attribute(
     node: u32,
     name: u32,
 ) -> Answer
-    ensures { λ r. ⌜ r ≡ answered (attributeQuestion (now (characters .entry)) (treeOf (now (nodes .entry)) (now (attributes .entry)) (now (text .entry)) counts) node name) ⌝ }
+    ensures { λ r. ⌜ r ≡ answered (attributeQuestion (now (characters .entry))
+        (treeOf (now (nodes .entry)) (now (attributes .entry)) (now (text .entry)) counts) node name) ⌝ }
 {
     let fault = question_fault(nodes, attributes, text, characters, counts, node, name);
     if fault != 0 {
@@ -90,7 +93,8 @@ pub fn find_attribute(
     node: u32,
     name: u32,
 ) -> Answer
-    ensures { λ r. ⌜ r ≡ answered (findAttributeQuestion (now (characters .entry)) (treeOf (now (nodes .entry)) (now (attributes .entry)) (now (text .entry)) counts) node name) ⌝ }
+    ensures { λ r. ⌜ r ≡ answered (findAttributeQuestion (now (characters .entry))
+        (treeOf (now (nodes .entry)) (now (attributes .entry)) (now (text .entry)) counts) node name) ⌝ }
 {
     let fault = question_fault(nodes, attributes, text, characters, counts, node, name);
     if fault != 0 {
@@ -116,7 +120,8 @@ pub fn element_by_id(
     counts: Counts,
     id: &[u8],
 ) -> Answer
-    ensures { λ r. ⌜ r ≡ answered (elementByIdQuestion (now (characters .entry)) (treeOf (now (nodes .entry)) (now (attributes .entry)) (now (text .entry)) counts) (now (id .entry))) ⌝ }
+    ensures { λ r. ⌜ r ≡ answered (elementByIdQuestion (now (characters .entry))
+        (treeOf (now (nodes .entry)) (now (attributes .entry)) (now (text .entry)) counts) (now (id .entry))) ⌝ }
 {
     if !is_sound(nodes, attributes, text, characters, counts) {
         return Answer {
@@ -146,7 +151,9 @@ fn text_of_node(nodes: &[u32], i: u32) -> Part
 
 // `text`: a text node's own text, or that of an element's first child.
 fn text_at(nodes: &[u32], i: u32) -> Part
-    requires { ⌜ TextReadable (nodesRead (now nodes)) i × ((firstChildOf (nodesRead (now nodes)) i ≡ 0 → ⊥) → TextReadable (nodesRead (now nodes)) (firstChildOf (nodesRead (now nodes)) i - 1)) ⌝ }
+    requires { ⌜ TextReadable (nodesRead (now nodes)) i ×
+        ((firstChildOf (nodesRead (now nodes)) i ≡ 0 → ⊥) →
+        TextReadable (nodesRead (now nodes)) (firstChildOf (nodesRead (now nodes)) i - 1)) ⌝ }
     ensures { λ r. ⌜ r ≡ parted (textAt (nodesRead (now (nodes .entry))) i) ⌝ }
 {
     if node_word(nodes, i, word::KIND) != word::ELEMENT {
@@ -168,7 +175,8 @@ pub fn text_part(
     counts: Counts,
     node: u32,
 ) -> Part
-    ensures { λ r. ⌜ r ≡ parted (textQuestion (now (characters .entry)) (treeOf (now (nodes .entry)) (now (attributes .entry)) (now (text .entry)) counts) node) ⌝ }
+    ensures { λ r. ⌜ r ≡ parted (textQuestion (now (characters .entry))
+        (treeOf (now (nodes .entry)) (now (attributes .entry)) (now (text .entry)) counts) node) ⌝ }
 {
     if !is_sound(nodes, attributes, text, characters, counts) {
         return Part { start: 0, size: 0 };
@@ -188,7 +196,8 @@ pub fn text<'a>(
     counts: Counts,
     node: u32,
 ) -> &'a [u8]
-    ensures { λ r. ⌜ now r ≡ bytesOf (textQuestion (now (characters .entry)) (treeOf (now (nodes .entry)) (now (attributes .entry)) (now (text .entry)) counts) node) (now (text .entry)) ⌝ }
+    ensures { λ r. ⌜ now r ≡ bytesOf (textQuestion (now (characters .entry))
+        (treeOf (now (nodes .entry)) (now (attributes .entry)) (now (text .entry)) counts) node) (now (text .entry)) ⌝ }
 {
     let part = text_part(nodes, attributes, text, characters, counts, node);
     let from = part.start as usize;

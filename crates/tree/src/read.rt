@@ -49,7 +49,8 @@ pub fn attribute_id(nodes: &[u32], attributes: &[u32], i: u32, a: u32) -> u32
 // Does entry j have that value?
 pub fn has_value(attributes: &[u32], characters: &[u8], j: u32, value: &[u8]) -> bool
     requires { ⌜ (5 * j + 4 < length (now attributes)) × Valued (length (now characters)) (entryAt (entriesOf (now attributes)) j) ⌝ }
-    ensures { λ r. ⌜ r ≡ sameBytes (valueOf (now (characters .entry)) (entryAt (entriesOf (now (attributes .entry))) j)) (now (value .entry)) ⌝ }
+    ensures { λ r. ⌜ r ≡
+        sameBytes (valueOf (now (characters .entry)) (entryAt (entriesOf (now (attributes .entry))) j)) (now (value .entry)) ⌝ }
 {
     let start = entry_word(attributes, j, word::START);
     if entry_word(attributes, j, word::COMMAND) == 0 {
@@ -145,7 +146,8 @@ pub fn find_attribute_impl(nodes: &[u32], attributes: &[u32], i: u32, a: u32) ->
 // Is node i an element with that id?
 pub fn has_id(nodes: &[u32], attributes: &[u32], characters: &[u8], i: u32, id: &[u8]) -> bool
     requires { ⌜ ReadableIn (length (now characters)) (readOf (now nodes) (now attributes)) i ⌝ }
-    ensures { λ r. ⌜ r ≡ hasIdBytes (now (characters .entry)) (readOf (now (nodes .entry)) (now (attributes .entry))) (now (id .entry)) i ⌝ }
+    ensures { λ r. ⌜ r ≡
+        hasIdBytes (now (characters .entry)) (readOf (now (nodes .entry)) (now (attributes .entry))) (now (id .entry)) i ⌝ }
 {
     let j = attribute_id(nodes, attributes, i, aid::ID);
     if j == 0 {
@@ -163,7 +165,8 @@ pub fn last_with_id(
     count: u32,
 ) -> u32
     requires { ⌜ ((k : ℕ) → k < count → ReadableIn (length (now characters)) (readOf (now nodes) (now attributes)) k) ⌝ }
-    ensures found { λ r. ⌜ r ≡ lastWithId (now (characters .entry)) (readOf (now (nodes .entry)) (now (attributes .entry))) (now (id .entry)) count ⌝ }
+    ensures found { λ r. ⌜ r ≡
+        lastWithId (now (characters .entry)) (readOf (now (nodes .entry)) (now (attributes .entry))) (now (id .entry)) count ⌝ }
     ensures within { λ r. ⌜ r ≤ count ⌝ }
 {
     let mut n = count;

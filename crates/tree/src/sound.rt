@@ -200,7 +200,8 @@ pub fn is_sound(
     characters: &[u8],
     counts: Counts,
 ) -> bool
-    ensures { λ r. ⌜ r ≡ isSound (now (characters .entry)) (treeOf (now (nodes .entry)) (now (attributes .entry)) (now (text .entry)) counts) ⌝ }
+    ensures { λ r. ⌜ r ≡ isSound (now (characters .entry))
+        (treeOf (now (nodes .entry)) (now (attributes .entry)) (now (text .entry)) counts) ⌝ }
 {
     if !counts_fit(nodes, attributes, text, counts) {
         return false;

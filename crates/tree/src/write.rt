@@ -58,7 +58,8 @@ fn link_first(nodes: &mut [u32], p: u32, i: u32)
 
 // The three links to the new node i below p.
 fn link(nodes: &mut [u32], p: u32, i: u32)
-    requires { ⌜ (8 * p + 7 < length (now nodes)) × (i < 4294967295) × ((word (now nodes) p 4 ≡ 0 → ⊥) → 8 * (word (now nodes) p 4 - 1) + 7 < length (now nodes)) ⌝ }
+    requires { ⌜ (8 * p + 7 < length (now nodes)) × (i < 4294967295) ×
+        ((word (now nodes) p 4 ≡ 0 → ⊥) → 8 * (word (now nodes) p 4 - 1) + 7 < length (now nodes)) ⌝ }
     ensures { λ _. ⌜ now (nodes .exit) ≡ linked (now (nodes .entry)) p i ⌝ }
 {
     let last = node_word(nodes, p, word::LAST_CHILD);
@@ -130,7 +131,8 @@ pub fn zero_bytes(text: &mut [u8], from: usize, to: usize)
 
 // Other bounds for the text of node i; the bytes that it gives up become zero.
 pub fn set_text(nodes: &mut [u32], text: &mut [u8], i: u32, from: u32, to: u32)
-    requires { ⌜ (8 * i + 7 < length (now nodes)) × (from ≤ length (now text)) × (toOf (textsOf (now nodes) (now text)) i ≤ length (now text)) ⌝ }
+    requires { ⌜ (8 * i + 7 < length (now nodes)) × (from ≤ length (now text)) ×
+        (toOf (textsOf (now nodes) (now text)) i ≤ length (now text)) ⌝ }
     ensures nodes { λ _. ⌜ now (nodes .exit) ≡ setText i from to (textsOf (now (nodes .entry)) (now (text .entry))) .nodes ⌝ }
     ensures text { λ _. ⌜ now (text .exit) ≡ setText i from to (textsOf (now (nodes .entry)) (now (text .entry))) .text ⌝ }
 {

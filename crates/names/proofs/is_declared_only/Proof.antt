@@ -16,7 +16,7 @@ keys1 = 41 ∷ 71 ∷ 108 ∷ []
 
 returns : tie.Need-returns
 unfolding isDeclaredOnly among every
-returns c = is-true (isDeclaredOnly (c .before .args .a)) (arm isDeclaredOnly keys1 (c .before .args .a) (c .match .keys1) tt)
+returns c = is-true _ (arm isDeclaredOnly keys1 _ (c .match .keys1) tt)
 
 returns-2 : tie.Need-returns-2
 unfolding isDeclaredOnly among every

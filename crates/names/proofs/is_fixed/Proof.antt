@@ -185,7 +185,7 @@ unfolding fixedBytes fixedValues
 returns-18 c = rw (c .before .before .match .keys18) (c .same18 .ensures)
 
 returns-19 : tie.Need-returns-19
-returns-19 c = rw (no-fixed (c .before .before .args .n) (c .match .rest)) (same-empty (c .before .before .args .value .now))
+returns-19 c = rw (no-fixed _ (c .match .rest)) (same-empty _)
 
 pub is-fixed-spec : {M : Type 1} → statement M
 is-fixed-spec =

@@ -24,7 +24,13 @@ same-requires-2 c κs = search needs
 
 returns-2 : tie.Need-returns-2
 unfolding imageRenderingWords amongWords
-returns-2 c = rw (sym (c .before .before .before .before .same .ensures), c .before .before .before .if1 .left, sym (c .before .same2 .ensures), c .if2 .taken)
+returns-2 c =
+    rw (
+      sym (c .before .before .before .before .same .ensures),
+      c .before .before .before .if1 .left,
+      sym (c .before .same2 .ensures),
+      c .if2 .taken,
+    )
 
 slice-aggregate-same-3 : tie.Need-slice-aggregate-same-3
 slice-aggregate-same-3 c = search needs
@@ -34,7 +40,15 @@ same-requires-3 c κs = search needs
 
 returns-3 : tie.Need-returns-3
 unfolding imageRenderingWords amongWords
-returns-3 c = rw (sym (c .before .before .before .before .before .before .before .same .ensures), c .before .before .before .before .before .before .if1 .left, sym (c .before .before .before .before .same2 .ensures), c .before .before .before .if2 .left, sym (c .before .same3 .ensures), c .if3 .taken)
+returns-3 c =
+    rw (
+      sym (c .before .before .before .before .before .before .before .same .ensures),
+      c .before .before .before .before .before .before .if1 .left,
+      sym (c .before .before .before .before .same2 .ensures),
+      c .before .before .before .if2 .left,
+      sym (c .before .same3 .ensures),
+      c .if3 .taken,
+    )
 
 slice-aggregate-same-4 : tie.Need-slice-aggregate-same-4
 slice-aggregate-same-4 c = search needs
@@ -44,7 +58,17 @@ same-requires-4 c κs = search needs
 
 returns-4 : tie.Need-returns-4
 unfolding imageRenderingWords amongWords
-returns-4 c = rw (sym (c .before .before .before .before .before .before .before .before .before .same .ensures), c .before .before .before .before .before .before .before .before .if1 .left, sym (c .before .before .before .before .before .before .same2 .ensures), c .before .before .before .before .before .if2 .left, sym (c .before .before .before .same3 .ensures), c .before .before .if3 .left, sym (c .same4 .ensures)) (decided (c .same4 .result))
+returns-4 c =
+    let at-if2 = c .before .before .before .before .before in
+    rw (
+      sym (at-if2 .before .before .before .before .same .ensures),
+      at-if2 .before .before .before .if1 .left,
+      sym (at-if2 .before .same2 .ensures),
+      at-if2 .if2 .left,
+      sym (c .before .before .before .same3 .ensures),
+      c .before .before .if3 .left,
+      sym (c .same4 .ensures),
+    ) (decided _)
 
 pub is-image-rendering-word-spec : {M : Type 1} → statement M
 is-image-rendering-word-spec =

@@ -19,11 +19,11 @@ keys2 = 37 ∷ 158 ∷ []
 
 returns : tie.Need-returns
 unfolding isNonInheritable among every
-returns c = is-true (isNonInheritable (c .before .args .a)) (arm isNonInheritable keys1 (c .before .args .a) (c .match .keys1) tt)
+returns c = is-true _ (arm isNonInheritable keys1 _ (c .match .keys1) tt)
 
 returns-2 : tie.Need-returns-2
 unfolding isNonInheritable among every
-returns-2 c = is-true (isNonInheritable (c .before .args .a)) (arm isNonInheritable keys2 (c .before .args .a) (c .match .keys2) tt)
+returns-2 c = is-true _ (arm isNonInheritable keys2 _ (c .match .keys2) tt)
 
 returns-3 : tie.Need-returns-3
 unfolding isNonInheritable among every

@@ -19,11 +19,11 @@ keys2 = 85 ∷ 160 ∷ []
 
 returns : tie.Need-returns
 unfolding isPossibleNone among every
-returns c = is-true (isPossibleNone (c .before .args .a)) (arm isPossibleNone keys1 (c .before .args .a) (c .match .keys1) tt)
+returns c = is-true _ (arm isPossibleNone keys1 _ (c .match .keys1) tt)
 
 returns-2 : tie.Need-returns-2
 unfolding isPossibleNone among every
-returns-2 c = is-true (isPossibleNone (c .before .args .a)) (arm isPossibleNone keys2 (c .before .args .a) (c .match .keys2) tt)
+returns-2 c = is-true _ (arm isPossibleNone keys2 _ (c .match .keys2) tt)
 
 returns-3 : tie.Need-returns-3
 unfolding isPossibleNone among every

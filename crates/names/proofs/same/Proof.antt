@@ -2,7 +2,7 @@ use borrow.Author.Tests.{eq-eqb, ne-eqb}
 use mathlib.Core.Path.{_≡_, refl, sym, _∙_}
 use Prim.Native.Nat.{_≤_, _-_, zero-le}
 use native.Mathlib.Omega.{arith}
-use lib.ListN.{length, getD, drop}
+use lib.ListN.{length, drop}
 use Rattle.model.specs.Base.{sameBytes}
 use Rattle.names.proofs.Compared.{differ, same-step, same-end}
 use Rattle.names.proofs.same.Statement.{statement}
@@ -27,7 +27,9 @@ shared-slice-read-if2-2 : tie.Need-shared-slice-read-if2-2 Inv-loop μ-loop
 shared-slice-read-if2-2 c = omega arith
 
 returns-2 : tie.Need-returns-2 Inv-loop μ-loop
-returns-2 c = sym ((same-step (c .before .before .before .before .before .before .args .a .now) (c .before .before .before .before .before .before .args .b .now) (c .before .before .before .before .loop .i) (c .before .before .before .loop-test .taken) (omega arith)) ∙ rw (ne-eqb (getD (c .before .before .before .before .before .before .args .a .now) (c .before .before .before .before .loop .i) 0) (getD (c .before .before .before .before .before .before .args .b .now) (c .before .before .before .before .loop .i) 0) (c .if2 .taken))) ∙ c .before .before .before .before .loop .inv .1
+returns-2 c =
+    sym (same-step _ _ _ (c .before .before .before .loop-test .taken) (omega arith) ∙ rw (ne-eqb _ _ (c .if2 .taken)))
+    ∙ c .before .before .before .before .loop .inv .1
 
 add-i : tie.Need-add-i Inv-loop μ-loop
 add-i c = omega arith
@@ -36,10 +38,15 @@ loop-less : tie.Need-loop-less Inv-loop μ-loop
 loop-less c = omega arith
 
 loop-again : tie.Need-loop-again Inv-loop μ-loop
-loop-again c = (omega arith, sym ((same-step (c .before .before .before .before .before .before .args .a .now) (c .before .before .before .before .before .before .args .b .now) (c .before .before .before .before .loop .i) (c .before .before .before .loop-test .taken) (omega arith)) ∙ rw (eq-eqb (getD (c .before .before .before .before .before .before .args .a .now) (c .before .before .before .before .loop .i) 0) (getD (c .before .before .before .before .before .before .args .b .now) (c .before .before .before .before .loop .i) 0) (c .if2 .left))) ∙ c .before .before .before .before .loop .inv .1)
+loop-again c = (
+  omega arith,
+  sym
+      (same-step _ _ _ (c .before .before .before .loop-test .taken) (omega arith) ∙ rw (eq-eqb _ _ (c .if2 .left)))
+      ∙ c .before .before .before .before .loop .inv .1,
+)
 
 returns-3 : tie.Need-returns-3 Inv-loop μ-loop
-returns-3 c = same-end (c .before .before .before .args .a .now) (c .before .before .before .args .b .now) (c .before .loop .i) (c .loop-test .left) (omega arith) ∙ c .before .loop .inv .1
+returns-3 c = same-end _ _ _ (c .loop-test .left) (omega arith) ∙ c .before .loop .inv .1
 
 pub same-spec : {M : Type 1} → statement M
 same-spec =

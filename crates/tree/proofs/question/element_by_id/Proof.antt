@@ -1,10 +1,9 @@
-use lib.ListN.{length}
 use mathlib.Core.Path.{_∙_, ap}
 use Prim.Native.Nat.{ℕ}
 use Rattle.model.specs.Check.{firstOf}
 use Rattle.model.specs.Tables.{elementById}
 use Rattle.model.specs.Questions.{elementByIdQuestion, answerOf}
-use Rattle.tree.specs.Lent.{treeOf, answered}
+use Rattle.tree.specs.Lent.{answered}
 use Rattle.tree.proofs.Bools.{fails, passes}
 use Rattle.model.specs.Theorems.Sound.{sound-kept}
 use Rattle.tree.proofs.Facts.{readable-in}
@@ -21,14 +20,16 @@ unfolding elementByIdQuestion firstOf
 returns c = rw (fails (c .before .is-sound .ensures) (c .if1 .taken))
 
 last-with-id-requires : tie.Need-last-with-id-requires
-last-with-id-requires c κs = λ k l. readable-in (length (c .before .before .before .before .before .before .before .args .characters .now)) (treeOf (c .before .before .before .before .before .before .before .args .nodes .now) (c .before .before .before .before .before .before .before .args .attributes .now) (c .before .before .before .before .before .before .before .args .text .now) (c .before .before .before .before .before .before .before .args .counts)) (sound-kept (c .before .before .before .before .before .before .before .args .characters .now) (treeOf (c .before .before .before .before .before .before .before .args .nodes .now) (c .before .before .before .before .before .before .before .args .attributes .now) (c .before .before .before .before .before .before .before .args .text .now) (c .before .before .before .before .before .before .before .args .counts)) (passes (c .before .is-sound .ensures) (c .if1 .left))) k l
+last-with-id-requires c κs = λ k l. readable-in _ _ (sound-kept _ _ (passes (c .before .is-sound .ensures) (c .if1 .left))) k l
 
 answer-of-requires : tie.Need-answer-of-requires
 answer-of-requires c κs = search needs
 
 returns-2 : tie.Need-returns-2
 unfolding elementByIdQuestion firstOf elementById
-returns-2 c = rw (passes (c .before .before .before .is-sound .ensures) (c .before .before .if1 .left)) (c .answer-of .ensures ∙ ap (λ (n : ℕ). answered (answerOf n)) (c .before .last-with-id .ensures .0 ∙ last-same (treeOf (c .before .before .before .before .before .before .before .before .before .args .nodes .now) (c .before .before .before .before .before .before .before .before .before .args .attributes .now) (c .before .before .before .before .before .before .before .before .before .args .text .now) (c .before .before .before .before .before .before .before .before .before .args .counts)) (c .before .before .before .before .before .before .before .before .before .args .characters .now) (c .before .before .before .before .before .before .before .before .before .args .id .now) (c .before .before .before .before .before .before .before .before .before .args .counts .nodes)))
+returns-2 c =
+    rw (passes (c .before .before .before .is-sound .ensures) (c .before .before .if1 .left))
+    (c .answer-of .ensures ∙ ap (λ (n : ℕ). answered (answerOf n)) (c .before .last-with-id .ensures .0 ∙ last-same _ _ _ _))
 
 pub element-by-id-spec : {M : Type 1} → statement M
 element-by-id-spec =

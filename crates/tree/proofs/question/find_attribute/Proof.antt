@@ -1,7 +1,6 @@
-use lib.ListN.{length}
 use borrow.Author.Tests.{eq-eqb, ne-eqb}
 use mathlib.Core.Path.{sym, _∙_, ap}
-use Prim.Native.Nat.{ℕ, _-_}
+use Prim.Native.Nat.{ℕ}
 use native.Mathlib.Omega.{arith}
 use Rattle.model.specs.Questions.{findAttributeQuestion, answerOf}
 use Rattle.tree.specs.Lent.{treeOf, answered}
@@ -19,27 +18,48 @@ unfolding findAttributeQuestion
 returns c = rw (sym (c .before .question-fault .ensures), ne-eqb _ _ (c .if1 .taken))
 
 find-attribute-impl-requires : tie.Need-find-attribute-impl-requires
-find-attribute-impl-requires c κs = climbable (length (c .before .before .before .before .before .before .args .characters .now)) (treeOf (c .before .before .before .before .before .before .args .nodes .now) (c .before .before .before .before .before .before .args .attributes .now) (c .before .before .before .before .before .before .args .text .now) (c .before .before .before .before .before .before .args .counts)) ((no-fault (c .before .before .before .before .before .before .args .characters .now) (treeOf (c .before .before .before .before .before .before .args .nodes .now) (c .before .before .before .before .before .before .args .attributes .now) (c .before .before .before .before .before .before .args .text .now) (c .before .before .before .before .before .before .args .counts)) (c .before .before .before .before .before .before .args .node) (c .before .before .before .before .before .before .args .name) (sym (c .before .question-fault .ensures) ∙ c .if1 .left)) .0) (c .before .before .before .before .before .before .args .node) ((no-fault (c .before .before .before .before .before .before .args .characters .now) (treeOf (c .before .before .before .before .before .before .args .nodes .now) (c .before .before .before .before .before .before .args .attributes .now) (c .before .before .before .before .before .before .args .text .now) (c .before .before .before .before .before .before .args .counts)) (c .before .before .before .before .before .before .args .node) (c .before .before .before .before .before .before .args .name) (sym (c .before .question-fault .ensures) ∙ c .if1 .left)) .1) (omega arith)
+find-attribute-impl-requires c κs =
+    let fault = no-fault _ _ _ _ (sym (c .before .question-fault .ensures) ∙ c .if1 .left) in
+    climbable _ _ (fault .0) _ (fault .1) (omega arith)
 
 answer-of-requires : tie.Need-answer-of-requires
 answer-of-requires c κs = search needs
 
 returns-2 : tie.Need-returns-2
 unfolding findAttributeQuestion
-returns-2 c = rw (sym (c .before .before .before .before .question-fault .ensures), eq-eqb _ _ (c .before .before .before .if1 .left), (sym (c .before .before .find-attribute-impl .ensures .0 ∙ impl-same (treeOf (c .before .before .before .before .before .before .before .before .before .args .nodes .now) (c .before .before .before .before .before .before .before .before .before .args .attributes .now) (c .before .before .before .before .before .before .before .before .before .args .text .now) (c .before .before .before .before .before .before .before .before .before .args .counts)) (c .before .before .before .before .before .before .before .before .before .args .node) (c .before .before .before .before .before .before .before .before .before .args .name))), eq-eqb _ _ (c .before .if2 .taken)) (c .answer-of .ensures)
+returns-2 c =
+    let args = c .before .before .before .before .before .before .before .before .before .args in
+    rw (
+      sym (c .before .before .before .before .question-fault .ensures),
+      eq-eqb _ _ (c .before .before .before .if1 .left),
+      sym (c .before .before .find-attribute-impl .ensures .0 ∙ impl-same (treeOf _ _ (args .text .now) (args .counts)) _ _),
+      eq-eqb _ _ (c .before .if2 .taken),
+    ) (c .answer-of .ensures)
 
 sub-attribute-of : tie.Need-sub-attribute-of
 sub-attribute-of c = search needs
 
 attribute-of-requires : tie.Need-attribute-of-requires
-attribute-of-requires c κs = readable-in (length (c .before .before .before .before .before .before .before .before .args .characters .now)) (treeOf (c .before .before .before .before .before .before .before .before .args .nodes .now) (c .before .before .before .before .before .before .before .before .args .attributes .now) (c .before .before .before .before .before .before .before .before .args .text .now) (c .before .before .before .before .before .before .before .before .args .counts)) ((no-fault (c .before .before .before .before .before .before .before .before .args .characters .now) (treeOf (c .before .before .before .before .before .before .before .before .args .nodes .now) (c .before .before .before .before .before .before .before .before .args .attributes .now) (c .before .before .before .before .before .before .before .before .args .text .now) (c .before .before .before .before .before .before .before .before .args .counts)) (c .before .before .before .before .before .before .before .before .args .node) (c .before .before .before .before .before .before .before .before .args .name) (sym (c .before .before .before .question-fault .ensures) ∙ c .before .before .if1 .left)) .0) ((c .before .find-attribute-impl .result) - 1) (omega (arith, c .before .find-attribute-impl .ensures .1, (no-fault (c .before .before .before .before .before .before .before .before .args .characters .now) (treeOf (c .before .before .before .before .before .before .before .before .args .nodes .now) (c .before .before .before .before .before .before .before .before .args .attributes .now) (c .before .before .before .before .before .before .before .before .args .text .now) (c .before .before .before .before .before .before .before .before .args .counts)) (c .before .before .before .before .before .before .before .before .args .node) (c .before .before .before .before .before .before .before .before .args .name) (sym (c .before .before .before .question-fault .ensures) ∙ c .before .before .if1 .left)) .1))
+attribute-of-requires c κs =
+    let fault = no-fault _ _ _ _ (sym (c .before .before .before .question-fault .ensures) ∙ c .before .before .if1 .left) in
+    readable-in _ _ (fault .0) _ (omega (arith, c .before .find-attribute-impl .ensures .1, fault .1))
 
 answer-of-requires-2 : tie.Need-answer-of-requires-2
 answer-of-requires-2 c κs = search needs
 
 returns-3 : tie.Need-returns-3
 unfolding findAttributeQuestion
-returns-3 c = rw (sym (c .before .before .before .before .before .question-fault .ensures), eq-eqb _ _ (c .before .before .before .before .if1 .left), (sym (c .before .before .before .find-attribute-impl .ensures .0 ∙ impl-same (treeOf (c .before .before .before .before .before .before .before .before .before .before .args .nodes .now) (c .before .before .before .before .before .before .before .before .before .before .args .attributes .now) (c .before .before .before .before .before .before .before .before .before .before .args .text .now) (c .before .before .before .before .before .before .before .before .before .before .args .counts)) (c .before .before .before .before .before .before .before .before .before .before .args .node) (c .before .before .before .before .before .before .before .before .before .before .args .name))), ne-eqb _ _ (c .before .before .if2 .left)) (c .answer-of2 .ensures ∙ ap (λ (n : ℕ). answered (answerOf n)) (c .before .attribute-of .ensures .0 ∙ attribute-same (treeOf (c .before .before .before .before .before .before .before .before .before .before .args .nodes .now) (c .before .before .before .before .before .before .before .before .before .before .args .attributes .now) (c .before .before .before .before .before .before .before .before .before .before .args .text .now) (c .before .before .before .before .before .before .before .before .before .before .args .counts)) (c .before .before .before .before .before .before .before .before .before .before .args .characters .now) ((c .before .before .before .find-attribute-impl .result) - 1) (c .before .before .before .before .before .before .before .before .before .before .args .name)))
+returns-3 c =
+    let args = c .before .before .before .before .before .before .before .before .before .before .args in
+    rw (
+      sym (c .before .before .before .before .before .question-fault .ensures),
+      eq-eqb _ _ (c .before .before .before .before .if1 .left),
+      sym
+          (c .before .before .before .find-attribute-impl .ensures .0 ∙ impl-same (treeOf _ _ (args .text .now) (args .counts)) _ _),
+      ne-eqb _ _ (c .before .before .if2 .left),
+    )
+    (c .answer-of2 .ensures
+    ∙ ap (λ (n : ℕ). answered (answerOf n)) (c .before .attribute-of .ensures .0 ∙ attribute-same _ _ _ _))
 
 pub find-attribute-spec : {M : Type 1} → statement M
 find-attribute-spec =

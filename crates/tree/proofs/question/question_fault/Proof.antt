@@ -22,11 +22,21 @@ is-attribute-requires c κs = search needs
 
 returns-3 : tie.Need-returns-3
 unfolding questionFault firstOf
-returns-3 c = rw (passes (c .before .before .before .before .before .is-sound .ensures) (c .before .before .before .before .if1 .left), lt-leb _ _ (c .before .before .if2 .left), fails (c .before .is-attribute .ensures) (c .if3 .taken))
+returns-3 c =
+    rw (
+      passes (c .before .before .before .before .before .is-sound .ensures) (c .before .before .before .before .if1 .left),
+      lt-leb _ _ (c .before .before .if2 .left),
+      fails (c .before .is-attribute .ensures) (c .if3 .taken),
+    )
 
 returns-4 : tie.Need-returns-4
 unfolding questionFault firstOf
-returns-4 c = rw (passes (c .before .before .before .before .before .is-sound .ensures) (c .before .before .before .before .if1 .left), lt-leb _ _ (c .before .before .if2 .left), passes (c .before .is-attribute .ensures) (c .if3 .left))
+returns-4 c =
+    rw (
+      passes (c .before .before .before .before .before .is-sound .ensures) (c .before .before .before .before .if1 .left),
+      lt-leb _ _ (c .before .before .if2 .left),
+      passes (c .before .is-attribute .ensures) (c .if3 .left),
+    )
 
 pub question-fault-spec : {M : Type 1} → statement M
 question-fault-spec =

@@ -29,10 +29,22 @@ part-result-start : tie.Need-part-result-start
 part-result-start c = search needs
 
 part-result-end : tie.Need-part-result-end
-part-result-end c = omega (arith, part-within (c .before .before .before .before .before .before .before .args .characters .now) (treeOf (c .before .before .before .before .before .before .before .args .nodes .now) (c .before .before .before .before .before .before .before .args .attributes .now) (c .before .before .before .before .before .before .before .args .text .now) (c .before .before .before .before .before .before .before .args .counts)) (c .before .before .before .before .before .before .before .args .node), (ap (λ (p : Part). p .start) (c .before .before .text-part .ensures)), (ap (λ (p : Part). p .size) (c .before .before .text-part .ensures)))
+part-result-end c =
+    let args = c .before .before .before .before .before .before .before .args in
+    omega (
+      arith,
+      part-within (args .characters .now)
+          (treeOf (args .nodes .now) (args .attributes .now) (args .text .now) (args .counts)) (args .node),
+      ap (λ (p : Part). p .start) (c .before .before .text-part .ensures),
+      ap (λ (p : Part). p .size) (c .before .before .text-part .ensures),
+    )
 
 returns : tie.Need-returns
-returns c = part-of (c .before .before .before .text-part .result .start) (c .before .before .before .text-part .result .size) (c .before .before .before .before .before .before .before .before .args .text .now) ∙ ap (λ (p : Part). slice (p .start) (p .start + p .size) (c .before .before .before .before .before .before .before .before .args .text .now)) (c .before .before .before .text-part .ensures)
+returns c =
+    part-of _ (c .before .before .before .text-part .result .size) _
+    ∙ ap (λ (p : Part).
+    slice (p .start) (p .start + p .size) (c .before .before .before .before .before .before .before .before .args .text .now))
+    (c .before .before .before .text-part .ensures)
 
 pub text-spec : {M : Type 1} → statement M
 text-spec =

@@ -1,7 +1,5 @@
-use Rattle.model.specs.Tables.{kindOf}
 use borrow.Author.Tests.{eq-eqb, ne-eqb}
 use mathlib.Core.Path.{sym, _∙_}
-use Rattle.tree.specs.Lent.{nodesRead}
 use borrow.Author.Needs.{needs}
 use Rattle.tree.proofs.question.text_at.Statement.{statement}
 use Rattle.tree.proofs.question.text_at.Tie as tie
@@ -13,22 +11,36 @@ text-of-node-requires : tie.Need-text-of-node-requires
 text-of-node-requires c κs = search needs
 
 returns : tie.Need-returns
-returns c = rw (ne-eqb (kindOf (nodesRead (c .before .before .before .before .args .nodes .now)) (c .before .before .before .before .args .i)) 2 (λ z. c .before .if1 .taken (c .before .before .node-word .ensures ∙ z))) (c .text-of-node .ensures)
+returns c = rw (ne-eqb _ 2 (λ z. c .before .if1 .taken (c .before .before .node-word .ensures ∙ z))) (c .text-of-node .ensures)
 
 node-word-requires-2 : tie.Need-node-word-requires-2
 node-word-requires-2 c κs = search needs
 
 returns-2 : tie.Need-returns-2
-returns-2 c = rw (sym (c .before .before .before .node-word .ensures), sym (c .before .node-word2 .ensures), eq-eqb _ _ (c .before .before .if1 .left), eq-eqb _ _ (c .if2 .taken))
+returns-2 c =
+    rw (
+      sym (c .before .before .before .node-word .ensures),
+      sym (c .before .node-word2 .ensures),
+      eq-eqb _ _ (c .before .before .if1 .left),
+      eq-eqb _ _ (c .if2 .taken),
+    )
 
 sub-text-of-node : tie.Need-sub-text-of-node
 sub-text-of-node c = search needs
 
 text-of-node-requires-2 : tie.Need-text-of-node-requires-2
-text-of-node-requires-2 c κs = rw (c .before .node-word2 .ensures) (c .before .before .before .before .before .pre .1 (λ z. c .if2 .left (c .before .node-word2 .ensures ∙ z)))
+text-of-node-requires-2 c κs =
+    rw (c .before .node-word2 .ensures)
+    (c .before .before .before .before .before .pre .1 (λ z. c .if2 .left (c .before .node-word2 .ensures ∙ z)))
 
 returns-3 : tie.Need-returns-3
-returns-3 c = rw (sym (c .before .before .before .before .node-word .ensures), sym (c .before .before .node-word2 .ensures), eq-eqb _ _ (c .before .before .before .if1 .left), ne-eqb _ _ (c .before .if2 .left)) (c .text-of-node2 .ensures)
+returns-3 c =
+    rw (
+      sym (c .before .before .before .before .node-word .ensures),
+      sym (c .before .before .node-word2 .ensures),
+      eq-eqb _ _ (c .before .before .before .if1 .left),
+      ne-eqb _ _ (c .before .if2 .left),
+    ) (c .text-of-node2 .ensures)
 
 pub text-at-spec : {M : Type 1} → statement M
 text-at-spec =

@@ -18,10 +18,21 @@ node-word-requires-3 : tie.Need-node-word-requires-3
 node-word-requires-3 c κs = search needs
 
 sub-t5 : tie.Need-sub-t5
-sub-t5 c = omega (arith, c .before .before .before .before .before .pre .order (sym (c .before .before .before .node-word .ensures) ∙ c .before .before .if1 .left))
+sub-t5 c =
+    omega (
+      arith,
+      c .before .before .before .before .before .pre .order
+          (sym (c .before .before .before .node-word .ensures) ∙ c .before .before .if1 .left),
+    )
 
 returns-2 : tie.Need-returns-2
-returns-2 c = rw (sym (c .before .before .before .node-word .ensures), sym (c .before .node-word2 .ensures), sym (c .node-word3 .ensures), eq-eqb _ _ (c .before .before .if1 .left))
+returns-2 c =
+    rw (
+      sym (c .before .before .before .node-word .ensures),
+      sym (c .before .node-word2 .ensures),
+      sym (c .node-word3 .ensures),
+      eq-eqb _ _ (c .before .before .if1 .left),
+    )
 
 pub text-of-node-spec : {M : Type 1} → statement M
 text-of-node-spec =

@@ -1,10 +1,8 @@
 use mathlib.Core.Path.{refl, sym, _∙_}
 use Prim.Native.Nat.{zero-le}
-use lib.ListN.{length}
 use Rattle.model.specs.Base.{and, sameBytes}
 use Rattle.model.specs.Names.{isPossibleNone, fixedBytes, fixedValues}
 use Rattle.model.specs.Tables.{entryAt, attributeId, valueAtEntry, attributeOf}
-use Rattle.tree.specs.Lent.{readOf}
 use Rattle.tree.proofs.Bools.{fails, passes}
 use Rattle.tree.proofs.Entries.{some-there, none-there}
 use Rattle.tree.proofs.Alike.{held-value}
@@ -17,14 +15,24 @@ attribute-id-requires c κs = search needs
 
 returns : tie.Need-returns
 unfolding attributeOf
-returns c = (rw (none-there (c .before .attribute-id .ensures .0) (c .if1 .taken)), record { element = λ h. absurd (h refl); last = zero-le })
+returns c = (
+  rw (none-there (c .before .attribute-id .ensures .0) (c .if1 .taken)),
+  record { element = λ h. absurd (h refl); last = zero-le },
+)
 
 is-possible-none-requires : tie.Need-is-possible-none-requires
 is-possible-none-requires c κs = search needs
 
 returns-2 : tie.Need-returns-2
 unfolding attributeOf
-returns-2 c = (rw (some-there (c .before .before .before .attribute-id .ensures .0) (c .before .before .if1 .left), fails (c .before .is-possible-none .ensures) (c .if2 .taken)) (c .before .before .before .attribute-id .ensures .0), c .before .before .before .attribute-id .ensures .1)
+returns-2 c =
+    let attribute-id-ensures = c .before .before .before .attribute-id .ensures in (
+      rw (
+        some-there (attribute-id-ensures .0) (c .before .before .if1 .left),
+        fails (c .before .is-possible-none .ensures) (c .if2 .taken),
+      ) (attribute-id-ensures .0),
+      attribute-id-ensures .1,
+    )
 
 sub-has-value : tie.Need-sub-has-value
 sub-has-value c = search needs
@@ -33,15 +41,37 @@ slice-aggregate-has-value : tie.Need-slice-aggregate-has-value
 slice-aggregate-has-value c = search needs
 
 has-value-requires : tie.Need-has-value-requires
-has-value-requires c κs = held-value (length (c .before .before .before .before .before .before .before .before .args .characters .now)) (readOf (c .before .before .before .before .before .before .before .before .args .nodes .now) (c .before .before .before .before .before .before .before .before .args .attributes .now)) (c .before .before .before .before .before .before .before .before .args .i) (c .before .before .before .before .attribute-id .result) (c .before .before .before .before .before .before .before .before .pre) (c .before .before .before .before .attribute-id .ensures .1) (c .before .before .before .if1 .left)
+has-value-requires c κs =
+    held-value _ _ _ _ (c .before .before .before .before .before .before .before .before .pre)
+    (c .before .before .before .before .attribute-id .ensures .1) (c .before .before .before .if1 .left)
 
 returns-3 : tie.Need-returns-3
 unfolding attributeOf entryAt fixedBytes fixedValues
-returns-3 c = (rw (some-there (c .before .before .before .before .before .before .attribute-id .ensures .0) (c .before .before .before .before .before .if1 .left), passes (c .before .before .before .before .is-possible-none .ensures) (c .before .before .before .if2 .left), sym (c .before .before .before .before .before .before .attribute-id .ensures .0), sym (c .before .has-value .ensures), c .if3 .taken), (record { element = λ h. absurd (h refl); last = zero-le }))
+returns-3 c =
+    let attribute-id-ensures = c .before .before .before .before .before .before .attribute-id .ensures .0 in (
+      rw (
+        some-there attribute-id-ensures (c .before .before .before .before .before .if1 .left),
+        passes (c .before .before .before .before .is-possible-none .ensures) (c .before .before .before .if2 .left),
+        sym attribute-id-ensures,
+        sym (c .before .has-value .ensures),
+        c .if3 .taken,
+      ),
+      record { element = λ h. absurd (h refl); last = zero-le },
+    )
 
 returns-4 : tie.Need-returns-4
 unfolding attributeOf entryAt fixedBytes fixedValues
-returns-4 c = (rw (some-there (c .before .before .before .before .before .before .attribute-id .ensures .0) (c .before .before .before .before .before .if1 .left), passes (c .before .before .before .before .is-possible-none .ensures) (c .before .before .before .if2 .left), sym (c .before .before .before .before .before .before .attribute-id .ensures .0), sym (c .before .has-value .ensures), c .if3 .left), c .before .before .before .before .before .before .attribute-id .ensures .1)
+returns-4 c =
+    let attribute-id-ensures = c .before .before .before .before .before .before .attribute-id .ensures in (
+      rw (
+        some-there (attribute-id-ensures .0) (c .before .before .before .before .before .if1 .left),
+        passes (c .before .before .before .before .is-possible-none .ensures) (c .before .before .before .if2 .left),
+        sym (attribute-id-ensures .0),
+        sym (c .before .has-value .ensures),
+        c .if3 .left,
+      ),
+      attribute-id-ensures .1,
+    )
 
 pub attribute-of-spec : {M : Type 1} → statement M
 attribute-of-spec =

@@ -12,14 +12,20 @@ holder-of-requires c κs = search needs
 
 returns : tie.Need-returns
 unfolding findAttributeImpl
-returns c = (rw (sym (c .before .before .is-inheritable .ensures), c .before .if1 .taken) (c .holder-of .ensures .0), c .holder-of .ensures .1)
+returns c = (
+  rw (sym (c .before .before .is-inheritable .ensures), c .before .if1 .taken) (c .holder-of .ensures .0),
+  c .holder-of .ensures .1,
+)
 
 self-or-parent-requires : tie.Need-self-or-parent-requires
 self-or-parent-requires c κs = search needs
 
 returns-2 : tie.Need-returns-2
 unfolding findAttributeImpl
-returns-2 c = (rw (sym (c .before .before .is-inheritable .ensures), c .before .if1 .left) (c .self-or-parent .ensures .0), c .self-or-parent .ensures .1)
+returns-2 c = (
+  rw (sym (c .before .before .is-inheritable .ensures), c .before .if1 .left) (c .self-or-parent .ensures .0),
+  c .self-or-parent .ensures .1,
+)
 
 pub find-attribute-impl-spec : {M : Type 1} → statement M
 find-attribute-impl-spec =

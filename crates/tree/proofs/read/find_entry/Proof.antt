@@ -24,7 +24,11 @@ add-result : tie.Need-add-result Inv-loop μ-loop
 add-result c = omega arith
 
 returns : tie.Need-returns Inv-loop μ-loop
-returns c = (sym ((find-step (entriesOf (c .before .before .before .before .before .args .attributes .now)) (c .before .before .before .before .before .args .a) (c .before .before .before .loop .j) (c .before .before .before .before .before .args .to) (c .before .before .loop-test .taken)) ∙ rw (sym (c .before .entry-word .ensures), eq-eqb _ _ (c .if1 .taken))) ∙ c .before .before .before .loop .inv, omega arith)
+returns c = (
+  sym (find-step _ _ _ _ (c .before .before .loop-test .taken)
+      ∙ rw (sym (c .before .entry-word .ensures), eq-eqb _ _ (c .if1 .taken))) ∙ c .before .before .before .loop .inv,
+  omega arith,
+)
 
 add-j : tie.Need-add-j Inv-loop μ-loop
 add-j c = omega arith
@@ -33,10 +37,12 @@ loop-less : tie.Need-loop-less Inv-loop μ-loop
 loop-less c = omega arith
 
 loop-again : tie.Need-loop-again Inv-loop μ-loop
-loop-again c = sym ((find-step (entriesOf (c .before .before .before .before .before .args .attributes .now)) (c .before .before .before .before .before .args .a) (c .before .before .before .loop .j) (c .before .before .before .before .before .args .to) (c .before .before .loop-test .taken)) ∙ rw (sym (c .before .entry-word .ensures), ne-eqb _ _ (c .if1 .left))) ∙ c .before .before .before .loop .inv
+loop-again c =
+    sym (find-step _ _ _ _ (c .before .before .loop-test .taken)
+    ∙ rw (sym (c .before .entry-word .ensures), ne-eqb _ _ (c .if1 .left))) ∙ c .before .before .before .loop .inv
 
 returns-2 : tie.Need-returns-2 Inv-loop μ-loop
-returns-2 c = (find-end (entriesOf (c .before .before .before .args .attributes .now)) (c .before .before .before .args .a) (c .before .loop .j) (c .before .before .before .args .to) (c .loop-test .left) ∙ c .before .loop .inv, omega arith)
+returns-2 c = (find-end _ _ _ _ (c .loop-test .left) ∙ c .before .loop .inv, omega arith)
 
 pub find-entry-spec : {M : Type 1} → statement M
 find-entry-spec =

@@ -1,6 +1,5 @@
 use mathlib.Core.Path.{_∙_, ap}
 use Prim.Native.Nat.{ℕ}
-use lib.ListN.{length}
 use Rattle.model.specs.Base.{sameBytes}
 use Rattle.model.specs.Tables.{entryAt, valueAtEntry, hasIdBytes}
 use Rattle.tree.specs.Lent.{readOf}
@@ -21,11 +20,18 @@ sub-has-value : tie.Need-sub-has-value
 sub-has-value c = search needs
 
 has-value-requires : tie.Need-has-value-requires
-has-value-requires c κs = held-value (length (c .before .before .before .before .before .before .args .characters .now)) (readOf (c .before .before .before .before .before .before .args .nodes .now) (c .before .before .before .before .before .before .args .attributes .now)) (c .before .before .before .before .before .before .args .i) (c .before .attribute-id .result) (c .before .before .before .before .before .before .pre) (c .before .attribute-id .ensures .1) (c .if1 .left)
+has-value-requires c κs =
+    held-value _ _ _ _ (c .before .before .before .before .before .before .pre) (c .before .attribute-id .ensures .1)
+    (c .if1 .left)
 
 returns-2 : tie.Need-returns-2
 unfolding hasIdBytes entryAt
-returns-2 c = rw (some-there (c .before .before .attribute-id .ensures .0) (c .before .if1 .left)) (c .has-value .ensures ∙ ap (λ (n : ℕ). sameBytes (valueAtEntry (c .before .before .before .before .before .before .before .args .characters .now) (readOf (c .before .before .before .before .before .before .before .args .nodes .now) (c .before .before .before .before .before .before .before .args .attributes .now)) n) (c .before .before .before .before .before .before .before .args .id .now)) (c .before .before .attribute-id .ensures .0))
+returns-2 c =
+    let args = c .before .before .before .before .before .before .before .args in
+    rw (some-there (c .before .before .attribute-id .ensures .0) (c .before .if1 .left))
+    (c .has-value .ensures ∙ ap (λ (n : ℕ).
+    sameBytes (valueAtEntry (args .characters .now) (readOf (args .nodes .now) (args .attributes .now)) n) (args .id .now))
+    (c .before .before .attribute-id .ensures .0))
 
 pub has-id-spec : {M : Type 1} → statement M
 has-id-spec =

@@ -21,7 +21,12 @@ is-fixed-requires c κs = search needs
 
 returns : tie.Need-returns
 unfolding valueOf entryAt
-returns c = rw (sym (c .before .before .before .entry-word .ensures), sym (c .before .before .entry-word2 .ensures), eq-eqb _ _ (c .before .if1 .taken)) (c .is-fixed .ensures)
+returns c =
+    rw (
+      sym (c .before .before .before .entry-word .ensures),
+      sym (c .before .before .entry-word2 .ensures),
+      eq-eqb _ _ (c .before .if1 .taken),
+    ) (c .is-fixed .ensures)
 
 cast-from : tie.Need-cast-from
 cast-from c = search needs
@@ -43,14 +48,28 @@ part-same-start c = search needs
 
 part-same-end : tie.Need-part-same-end
 unfolding entryAt
-part-same-end c = omega (arith, c .before .before .before .before .before .before .before .pre .1 (λ z. c .before .if1 .left (c .before .before .entry-word2 .ensures ∙ z)))
+part-same-end c =
+    omega (
+      arith,
+      c .before .before .before .before .before .before .before .pre .1
+          (λ z. c .before .if1 .left (c .before .before .entry-word2 .ensures ∙ z)),
+    )
 
 same-requires : tie.Need-same-requires
 same-requires c κs = search needs
 
 returns-2 : tie.Need-returns-2
 unfolding valueOf entryAt
-returns-2 c = rw (sym (c .before .before .before .before .before .entry-word .ensures), sym (c .before .before .before .before .entry-word2 .ensures), sym (c .before .before .entry-word3 .ensures), ne-eqb _ _ (c .before .before .before .if1 .left)) (c .same .ensures ∙ ap (λ (l : List ℕ). sameBytes l (c .before .before .before .before .before .before .before .before .before .args .value .now)) (part-of (c .before .before .before .before .before .entry-word .result) (c .before .before .entry-word3 .result) (c .before .before .before .before .before .before .before .before .before .args .characters .now)))
+returns-2 c =
+    rw (
+      sym (c .before .before .before .before .before .entry-word .ensures),
+      sym (c .before .before .before .before .entry-word2 .ensures),
+      sym (c .before .before .entry-word3 .ensures),
+      ne-eqb _ _ (c .before .before .before .if1 .left),
+    )
+    (c .same .ensures ∙ ap
+    (λ (l : List ℕ). sameBytes l (c .before .before .before .before .before .before .before .before .before .args .value .now))
+    (part-of _ (c .before .before .entry-word3 .result) _))
 
 pub has-value-spec : {M : Type 1} → statement M
 has-value-spec =

@@ -8,7 +8,9 @@ use Rattle.tree.proofs.read.last_with_id.Statement.{statement}
 use Rattle.tree.proofs.read.last_with_id.Tie as tie
 
 abbrev Inv-loop : tie.InvT-loop
-Inv-loop nodes attributes characters id count n₀ n = (n ≤ count) × (lastWithId characters (readOf nodes attributes) id n ≡ lastWithId characters (readOf nodes attributes) id count)
+Inv-loop nodes attributes characters id count n₀ n =
+    (n ≤ count)
+    × (lastWithId characters (readOf nodes attributes) id n ≡ lastWithId characters (readOf nodes attributes) id count)
 
 abbrev μ-loop : tie.MeasureT-loop
 μ-loop nodes attributes characters id count n₀ n = n
@@ -23,7 +25,12 @@ has-id-requires : tie.Need-has-id-requires Inv-loop μ-loop
 has-id-requires c κs = c .before .before .before .before .before .before .pre (c .before .loop .n - 1) (omega arith)
 
 returns : tie.Need-returns Inv-loop μ-loop
-returns c = (let e : c .before .before .before .loop .n ≡ c .before .before .before .loop .n - 1 + 1 = omega arith in e ∙ sym ((last-step (c .before .before .before .before .before .before .before .before .args .characters .now) (readOf (c .before .before .before .before .before .before .before .before .args .nodes .now) (c .before .before .before .before .before .before .before .before .args .attributes .now)) (c .before .before .before .before .before .before .before .before .args .id .now) (c .before .before .before .loop .n) (c .before .before .loop-test .taken)) ∙ rw (sym (c .before .has-id .ensures), c .if1 .taken)) ∙ c .before .before .before .loop .inv .1, omega arith)
+returns c = (
+  let e : c .before .before .before .loop .n ≡ c .before .before .before .loop .n - 1 + 1 = omega arith in e
+      ∙ sym (last-step _ _ _ _ (c .before .before .loop-test .taken) ∙ rw (sym (c .before .has-id .ensures), c .if1 .taken))
+      ∙ c .before .before .before .loop .inv .1,
+  omega arith,
+)
 
 sub-n : tie.Need-sub-n Inv-loop μ-loop
 sub-n c = omega arith
@@ -32,10 +39,15 @@ loop-less : tie.Need-loop-less Inv-loop μ-loop
 loop-less c = omega arith
 
 loop-again : tie.Need-loop-again Inv-loop μ-loop
-loop-again c = (omega arith, sym ((last-step (c .before .before .before .before .before .before .before .before .args .characters .now) (readOf (c .before .before .before .before .before .before .before .before .args .nodes .now) (c .before .before .before .before .before .before .before .before .args .attributes .now)) (c .before .before .before .before .before .before .before .before .args .id .now) (c .before .before .before .loop .n) (c .before .before .loop-test .taken)) ∙ rw (sym (c .before .has-id .ensures), c .if1 .left)) ∙ c .before .before .before .loop .inv .1)
+loop-again c = (
+  omega arith,
+  sym
+      (last-step _ _ _ _ (c .before .before .loop-test .taken) ∙ rw (sym (c .before .has-id .ensures), c .if1 .left))
+      ∙ c .before .before .before .loop .inv .1,
+)
 
 returns-2 : tie.Need-returns-2 Inv-loop μ-loop
-returns-2 c = (last-end (c .before .before .before .before .before .before .args .characters .now) (readOf (c .before .before .before .before .before .before .args .nodes .now) (c .before .before .before .before .before .before .args .attributes .now)) (c .before .before .before .before .before .before .args .id .now) (c .before .loop .n) (c .loop-test .left) ∙ c .before .loop .inv .1, omega arith)
+returns-2 c = (last-end _ _ _ _ (c .loop-test .left) ∙ c .before .loop .inv .1, omega arith)
 
 pub last-with-id-spec : {M : Type 1} → statement M
 last-with-id-spec =

@@ -1,8 +1,6 @@
 use mathlib.Core.Path.{sym, _∙_}
-use Prim.Native.Nat.{_-_}
 use native.Mathlib.Omega.{arith}
 use borrow.Author.Tests.{eq-eqb, ne-eqb}
-use Rattle.model.specs.Tables.{parentOf}
 use Rattle.tree.specs.Lent.{readOf}
 use Rattle.tree.proofs.Entries.{has, has-not}
 use Rattle.tree.proofs.Alike.{element-same}
@@ -23,19 +21,50 @@ parent-element-requires : tie.Need-parent-element-requires
 parent-element-requires c κs = search needs
 
 returns-2 : tie.Need-returns-2
-returns-2 c = (rw (has-not (c .before .before .before .attribute-id .ensures .0) (c .before .before .if1 .left), (sym (c .before .parent-element .ensures .0 ∙ element-same (readOf (c .before .before .before .before .before .before .args .nodes .now) (c .before .before .before .before .before .before .args .attributes .now)) (c .before .before .before .before .before .before .args .i) (parentOf (readOf (c .before .before .before .before .before .before .args .nodes .now) (c .before .before .before .before .before .before .args .attributes .now)) (c .before .before .before .before .before .before .args .i)))), eq-eqb _ _ (c .if2 .taken)), omega arith)
+returns-2 c = (
+  rw (
+    has-not (c .before .before .before .attribute-id .ensures .0) (c .before .before .if1 .left),
+    sym (c .before .parent-element .ensures .0 ∙ element-same (readOf
+        (c .before .before .before .before .before .before .args .nodes .now)
+        (c .before .before .before .before .before .before .args .attributes .now)) _ _),
+    eq-eqb _ _ (c .if2 .taken),
+  ),
+  omega arith,
+)
 
 sub-attribute-id : tie.Need-sub-attribute-id
 sub-attribute-id c = search needs
 
 attribute-id-requires-2 : tie.Need-attribute-id-requires-2
-attribute-id-requires-2 c κs = c .before .before .before .before .before .before .pre .readable (c .before .parent-element .result - 1) (omega (arith, c .before .parent-element .ensures .1))
+attribute-id-requires-2 c κs =
+    c .before .before .before .before .before .before .pre .readable _ (omega (arith, c .before .parent-element .ensures .1))
 
 returns-3 : tie.Need-returns-3
-returns-3 c = (rw (has-not (c .before .before .before .before .before .attribute-id .ensures .0) (c .before .before .before .before .if1 .left), (sym (c .before .before .before .parent-element .ensures .0 ∙ element-same (readOf (c .before .before .before .before .before .before .before .before .args .nodes .now) (c .before .before .before .before .before .before .before .before .args .attributes .now)) (c .before .before .before .before .before .before .before .before .args .i) (parentOf (readOf (c .before .before .before .before .before .before .before .before .args .nodes .now) (c .before .before .before .before .before .before .before .before .args .attributes .now)) (c .before .before .before .before .before .before .before .before .args .i)))), ne-eqb _ _ (c .before .before .if2 .left), has (c .before .attribute-id2 .ensures .0) (c .if3 .taken)), omega (arith, c .before .before .before .parent-element .ensures .1))
+returns-3 c =
+    let at-parent-element = c .before .before .before in
+    let args = at-parent-element .before .before .before .before .before .args in (
+      rw (
+        has-not (at-parent-element .before .before .attribute-id .ensures .0) (at-parent-element .before .if1 .left),
+        sym (at-parent-element .parent-element .ensures .0 ∙ element-same (readOf (args .nodes .now) (args .attributes .now)) _ _),
+        ne-eqb _ _ (c .before .before .if2 .left),
+        has (c .before .attribute-id2 .ensures .0) (c .if3 .taken),
+      ),
+      omega (arith, at-parent-element .parent-element .ensures .1),
+    )
 
 returns-4 : tie.Need-returns-4
-returns-4 c = (rw (has-not (c .before .before .before .before .before .attribute-id .ensures .0) (c .before .before .before .before .if1 .left), (sym (c .before .before .before .parent-element .ensures .0 ∙ element-same (readOf (c .before .before .before .before .before .before .before .before .args .nodes .now) (c .before .before .before .before .before .before .before .before .args .attributes .now)) (c .before .before .before .before .before .before .before .before .args .i) (parentOf (readOf (c .before .before .before .before .before .before .before .before .args .nodes .now) (c .before .before .before .before .before .before .before .before .args .attributes .now)) (c .before .before .before .before .before .before .before .before .args .i)))), ne-eqb _ _ (c .before .before .if2 .left), has-not (c .before .attribute-id2 .ensures .0) (c .if3 .left)), omega arith)
+returns-4 c =
+    let args = c .before .before .before .before .before .before .before .before .args in (
+      rw (
+        has-not (c .before .before .before .before .before .attribute-id .ensures .0)
+            (c .before .before .before .before .if1 .left),
+        sym (c .before .before .before .parent-element .ensures .0
+            ∙ element-same (readOf (args .nodes .now) (args .attributes .now)) _ _),
+        ne-eqb _ _ (c .before .before .if2 .left),
+        has-not (c .before .attribute-id2 .ensures .0) (c .if3 .left),
+      ),
+      omega arith,
+    )
 
 pub self-or-parent-spec : {M : Type 1} → statement M
 self-or-parent-spec =

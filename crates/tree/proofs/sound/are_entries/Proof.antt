@@ -9,7 +9,9 @@ use Rattle.tree.proofs.sound.are_entries.Statement.{statement}
 use Rattle.tree.proofs.sound.are_entries.Tie as tie
 
 abbrev Inv-loop : tie.InvT-loop
-Inv-loop attributes size count n₀ n = (n ≤ count) × (allBelow (λ j. isEntry size (entryAt (entriesOf attributes) j)) n ≡ allBelow (λ j. isEntry size (entryAt (entriesOf attributes) j)) (count))
+Inv-loop attributes size count n₀ n =
+    (n ≤ count) × (allBelow (λ j. isEntry size (entryAt (entriesOf attributes) j)) n
+    ≡ allBelow (λ j. isEntry size (entryAt (entriesOf attributes) j)) (count))
 
 abbrev μ-loop : tie.MeasureT-loop
 μ-loop attributes size count n₀ n = n
@@ -24,16 +26,22 @@ is-entry-requires : tie.Need-is-entry-requires Inv-loop μ-loop
 is-entry-requires c κs = omega arith
 
 returns : tie.Need-returns Inv-loop μ-loop
-returns c = sym ((below-step (λ j. isEntry (c .before .before .before .before .before .args .size) (entryAt (entriesOf (c .before .before .before .before .before .args .attributes .now)) j)) (c .before .before .before .loop .n) (omega arith)) ∙ rw (fails (c .before .is-entry .ensures) (c .if1 .taken))) ∙ c .before .before .before .loop .inv .1
+returns c =
+    sym (below-step _ _ (omega arith) ∙ rw (fails (c .before .is-entry .ensures) (c .if1 .taken)))
+    ∙ c .before .before .before .loop .inv .1
 
 loop-less : tie.Need-loop-less Inv-loop μ-loop
 loop-less c = omega arith
 
 loop-again : tie.Need-loop-again Inv-loop μ-loop
-loop-again c = (omega arith, sym ((below-step (λ j. isEntry (c .before .before .before .before .before .args .size) (entryAt (entriesOf (c .before .before .before .before .before .args .attributes .now)) j)) (c .before .before .before .loop .n) (omega arith)) ∙ rw (passes (c .before .is-entry .ensures) (c .if1 .left))) ∙ c .before .before .before .loop .inv .1)
+loop-again c = (
+  omega arith,
+  sym (below-step _ _ (omega arith) ∙ rw (passes (c .before .is-entry .ensures) (c .if1 .left)))
+      ∙ c .before .before .before .loop .inv .1,
+)
 
 returns-2 : tie.Need-returns-2 Inv-loop μ-loop
-returns-2 c = below-none (λ j. isEntry (c .before .before .before .args .size) (entryAt (entriesOf (c .before .before .before .args .attributes .now)) j)) (c .before .loop .n) (omega arith) ∙ c .before .loop .inv .1
+returns-2 c = below-none _ _ (omega arith) ∙ c .before .loop .inv .1
 
 pub are-entries-spec : {M : Type 1} → statement M
 are-entries-spec =

@@ -22,13 +22,23 @@ mul-if3 : tie.Need-mul-if3
 mul-if3 c = search needs
 
 returns-3 : tie.Need-returns-3
-returns-3 c = rw (le-leb _ _ (c .before .before .before .before .if1 .left), le-leb _ _ (c .before .before .if2 .left), lt-leb _ _ (c .if3 .taken))
+returns-3 c =
+    rw (
+      le-leb _ _ (c .before .before .before .before .if1 .left),
+      le-leb _ _ (c .before .before .if2 .left),
+      lt-leb _ _ (c .if3 .taken),
+    )
 
 cast-result : tie.Need-cast-result
 cast-result c = search needs
 
 returns-4 : tie.Need-returns-4
-returns-4 c = rw (le-leb _ _ (c .before .before .before .before .before .if1 .left), le-leb _ _ (c .before .before .before .if2 .left), le-leb _ _ (c .before .if3 .left))
+returns-4 c =
+    rw (
+      le-leb _ _ (c .before .before .before .before .before .if1 .left),
+      le-leb _ _ (c .before .before .before .if2 .left),
+      le-leb _ _ (c .before .if3 .left),
+    )
 
 pub counts-fit-spec : {M : Type 1} → statement M
 counts-fit-spec =

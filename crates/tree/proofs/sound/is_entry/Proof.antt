@@ -36,19 +36,59 @@ add-result c = search needs
 
 returns-2 : tie.Need-returns-2
 unfolding entryAt
-returns-2 c = rw (sym (c .before .before .before .before .before .before .entry-word .ensures), passes (c .before .before .before .before .before .is-attribute .ensures) (c .before .before .before .before .if1 .left), sym (c .before .before .before .entry-word2 .ensures), sym (c .before .before .entry-word3 .ensures), sym (c .before .entry-word4 .ensures), ne-eqb _ _ (c .if2 .taken))
+returns-2 c =
+    rw (
+      sym (c .before .before .before .before .before .before .entry-word .ensures),
+      passes (c .before .before .before .before .before .is-attribute .ensures) (c .before .before .before .before .if1 .left),
+      sym (c .before .before .before .entry-word2 .ensures),
+      sym (c .before .before .entry-word3 .ensures),
+      sym (c .before .entry-word4 .ensures),
+      ne-eqb _ _ (c .if2 .taken),
+    )
 
 returns-3 : tie.Need-returns-3
 unfolding entryAt
-returns-3 c = rw (sym (c .before .before .before .before .before .before .before .entry-word .ensures), passes (c .before .before .before .before .before .before .is-attribute .ensures) (c .before .before .before .before .before .if1 .left), sym (c .before .before .before .before .entry-word2 .ensures), sym (c .before .before .before .entry-word3 .ensures), sym (c .before .before .entry-word4 .ensures), eq-eqb _ _ (c .before .if2 .left), lt-leb _ _ (c .if3 .taken))
+returns-3 c =
+    let at-if1 = c .before .before .before .before .before in
+    rw (
+      sym (at-if1 .before .before .entry-word .ensures),
+      passes (at-if1 .before .is-attribute .ensures) (at-if1 .if1 .left),
+      sym (c .before .before .before .before .entry-word2 .ensures),
+      sym (c .before .before .before .entry-word3 .ensures),
+      sym (c .before .before .entry-word4 .ensures),
+      eq-eqb _ _ (c .before .if2 .left),
+      lt-leb _ _ (c .if3 .taken),
+    )
 
 returns-4 : tie.Need-returns-4
 unfolding entryAt
-returns-4 c = rw (sym (c .before .before .before .before .before .before .before .before .entry-word .ensures), passes (c .before .before .before .before .before .before .before .is-attribute .ensures) (c .before .before .before .before .before .before .if1 .left), sym (c .before .before .before .before .before .entry-word2 .ensures), sym (c .before .before .before .before .entry-word3 .ensures), sym (c .before .before .before .entry-word4 .ensures), eq-eqb _ _ (c .before .before .if2 .left), le-leb _ _ (c .before .if3 .left), lt-leb _ _ (c .if4 .taken))
+returns-4 c =
+    let at-if1 = c .before .before .before .before .before .before in
+    rw (
+      sym (at-if1 .before .before .entry-word .ensures),
+      passes (at-if1 .before .is-attribute .ensures) (at-if1 .if1 .left),
+      sym (c .before .before .before .before .before .entry-word2 .ensures),
+      sym (c .before .before .before .before .entry-word3 .ensures),
+      sym (c .before .before .before .entry-word4 .ensures),
+      eq-eqb _ _ (c .before .before .if2 .left),
+      le-leb _ _ (c .before .if3 .left),
+      lt-leb _ _ (c .if4 .taken),
+    )
 
 returns-5 : tie.Need-returns-5
 unfolding entryAt
-returns-5 c = rw (sym (c .before .before .before .before .before .before .before .before .entry-word .ensures), passes (c .before .before .before .before .before .before .before .is-attribute .ensures) (c .before .before .before .before .before .before .if1 .left), sym (c .before .before .before .before .before .entry-word2 .ensures), sym (c .before .before .before .before .entry-word3 .ensures), sym (c .before .before .before .entry-word4 .ensures), eq-eqb _ _ (c .before .before .if2 .left), le-leb _ _ (c .before .if3 .left), le-leb _ _ (c .if4 .left))
+returns-5 c =
+    let at-if1 = c .before .before .before .before .before .before in
+    rw (
+      sym (at-if1 .before .before .entry-word .ensures),
+      passes (at-if1 .before .is-attribute .ensures) (at-if1 .if1 .left),
+      sym (c .before .before .before .before .before .entry-word2 .ensures),
+      sym (c .before .before .before .before .entry-word3 .ensures),
+      sym (c .before .before .before .entry-word4 .ensures),
+      eq-eqb _ _ (c .before .before .if2 .left),
+      le-leb _ _ (c .before .if3 .left),
+      le-leb _ _ (c .if4 .left),
+    )
 
 pub is-entry-spec : {M : Type 1} → statement M
 is-entry-spec =

@@ -15,7 +15,11 @@ returns-2 : tie.Need-returns-2
 returns-2 c = rw (ne-eqb _ _ (c .before .if1 .left), lt-leb (c .before .before .args .i + 2) (c .before .before .args .w) (omega arith))
 
 returns-3 : tie.Need-returns-3
-returns-3 c = rw (ne-eqb _ _ (c .before .before .if1 .left), le-leb (c .before .before .before .args .i + 2) (c .before .before .before .args .w) (omega arith))
+returns-3 c =
+    rw (
+      ne-eqb _ _ (c .before .before .if1 .left),
+      le-leb (c .before .before .before .args .i + 2) (c .before .before .before .args .w) (omega arith),
+    )
 
 pub is-later-spec : {M : Type 1} → statement M
 is-later-spec = tie.close (tie.spec returns add-if2 returns-2 returns-3)

@@ -13,13 +13,21 @@ is-linked-requires : tie.Need-is-linked-requires
 is-linked-requires c κs = search needs
 
 returns-2 : tie.Need-returns-2
-returns-2 c = rw (passes (c .before .before .before .is-placed .ensures) (c .before .before .if1 .left), fails (c .before .is-linked .ensures) (c .if2 .taken))
+returns-2 c =
+    rw (
+      passes (c .before .before .before .is-placed .ensures) (c .before .before .if1 .left),
+      fails (c .before .is-linked .ensures) (c .if2 .taken),
+    )
 
 is-filled-requires : tie.Need-is-filled-requires
 is-filled-requires c κs = search needs
 
 returns-3 : tie.Need-returns-3
-returns-3 c = rw (passes (c .before .before .before .before .is-placed .ensures) (c .before .before .before .if1 .left), passes (c .before .before .is-linked .ensures) (c .before .if2 .left)) (c .is-filled .ensures)
+returns-3 c =
+    rw (
+      passes (c .before .before .before .before .is-placed .ensures) (c .before .before .before .if1 .left),
+      passes (c .before .before .is-linked .ensures) (c .before .if2 .left),
+    ) (c .is-filled .ensures)
 
 pub is-node-spec : {M : Type 1} → statement M
 is-node-spec =

@@ -15,18 +15,32 @@ unfolding isSound
 returns c = rw (fails (c .before .counts-fit .ensures) (c .if1 .taken))
 
 are-nodes-requires : tie.Need-are-nodes-requires
-are-nodes-requires c κs = fitting (treeOf (c .before .before .before .before .before .before .args .nodes .now) (c .before .before .before .before .before .before .args .attributes .now) (c .before .before .before .before .before .before .args .text .now) (c .before .before .before .before .before .before .args .counts)) (passes (c .before .counts-fit .ensures) (c .if1 .left)) .nodes
+are-nodes-requires c κs =
+    let args = c .before .before .before .before .before .before .args in
+    (fitting (treeOf (args .nodes .now) (args .attributes .now) (args .text .now) _)
+    (passes (c .before .counts-fit .ensures) (c .if1 .left))) .nodes
 
 returns-2 : tie.Need-returns-2
 unfolding isSound
-returns-2 c = rw (passes (c .before .before .before .counts-fit .ensures) (c .before .before .if1 .left), fails (c .before .are-nodes .ensures) (c .if2 .taken))
+returns-2 c =
+    rw (
+      passes (c .before .before .before .counts-fit .ensures) (c .before .before .if1 .left),
+      fails (c .before .are-nodes .ensures) (c .if2 .taken),
+    )
 
 are-entries-requires : tie.Need-are-entries-requires
-are-entries-requires c κs = fitting (treeOf (c .before .before .before .before .before .before .before .before .args .nodes .now) (c .before .before .before .before .before .before .before .before .args .attributes .now) (c .before .before .before .before .before .before .before .before .args .text .now) (c .before .before .before .before .before .before .before .before .args .counts)) (passes (c .before .before .before .counts-fit .ensures) (c .before .before .if1 .left)) .entries
+are-entries-requires c κs =
+    let args = c .before .before .before .before .before .before .before .before .args in
+    (fitting (treeOf (args .nodes .now) (args .attributes .now) (args .text .now) (args .counts))
+    (passes (c .before .before .before .counts-fit .ensures) (c .before .before .if1 .left))) .entries
 
 returns-3 : tie.Need-returns-3
 unfolding isSound entryAt
-returns-3 c = rw (passes (c .before .before .before .before .counts-fit .ensures) (c .before .before .before .if1 .left), passes (c .before .before .are-nodes .ensures) (c .before .if2 .left)) (c .are-entries .ensures)
+returns-3 c =
+    rw (
+      passes (c .before .before .before .before .counts-fit .ensures) (c .before .before .before .if1 .left),
+      passes (c .before .before .are-nodes .ensures) (c .before .if2 .left),
+    ) (c .are-entries .ensures)
 
 pub is-sound-spec : {M : Type 1} → statement M
 is-sound-spec =

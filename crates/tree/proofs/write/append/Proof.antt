@@ -14,14 +14,21 @@ put-record-requires : tie.Need-put-record-requires
 put-record-requires c κs = search needs
 
 link-requires : tie.Need-link-requires
-link-requires c κs = linkable (c .before .before .before .before .before .before .args .nodes .now) _ (c .before .before .before .before .before .before .args .kind ∷ (c .before .before .before .before .before .before .args .p + 1) ∷ 0 ∷ 0 ∷ 0 ∷ c .before .before .before .before .before .before .args .code ∷ c .before .before .before .before .before .before .args .from ∷ c .before .before .before .before .before .before .args .to ∷ []) (c .before .before .before .before .before .before .args .p) (c .before .before .before .before .before .before .args .i) (c .before .before .before .put-record .ensures) (c .before .before .before .before .before .before .pre .0) (c .before .before .before .before .before .before .pre .1) (c .before .before .before .before .before .before .pre .2) (c .before .before .before .before .before .before .pre .3)
+link-requires c κs =
+    let pre = c .before .before .before .before .before .before .pre in
+    let args = c .before .before .before .before .before .before .args in
+    linkable (args .nodes .now) _ (args .kind ∷ (args .p + 1) ∷ 0 ∷ 0 ∷ 0 ∷ args .code ∷ args .from ∷ args .to ∷ []) _ _
+    (c .before .before .before .put-record .ensures) (pre .0) (pre .1) (pre .2) (pre .3)
 
 same-length : tie.Need-same-length
 same-length c = search needs
 
 returns : tie.Need-returns
 unfolding appended
-returns c = c .before .before .link .ensures ∙ ap (λ (l : List ℕ). linked l (c .before .before .before .before .before .before .before .before .before .args .p) (c .before .before .before .before .before .before .before .before .before .args .i)) (c .before .before .before .before .before .before .put-record .ensures)
+returns c =
+    let args = c .before .before .before .before .before .before .before .before .before .args in
+    c .before .before .link .ensures
+    ∙ ap (λ (l : List ℕ). linked l (args .p) (args .i)) (c .before .before .before .before .before .before .put-record .ensures)
 
 pub append-spec : {M : Type 1} → statement M
 append-spec =

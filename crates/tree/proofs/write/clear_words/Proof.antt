@@ -30,13 +30,22 @@ loop-less : tie.Need-loop-less Inv-loop μ-loop
 loop-less c = omega arith
 
 loop-again : tie.Need-loop-again Inv-loop μ-loop
-loop-again c = (omega arith, (ap (λ l. set l (c .before .loop .k) 0) (c .before .loop .inv .1 .0) ∙ fill-more (c .before .loop .k) 0 (c .before .before .args .table .now) (omega arith), simp length-set (c .before .loop .inv .1 .1)))
+loop-again c = (
+  omega arith,
+  (
+    ap (λ l. set l (c .before .loop .k) 0) (c .before .loop .inv .1 .0)
+        ∙ fill-more (c .before .loop .k) 0 _ (omega arith),
+    simp length-set (c .before .loop .inv .1 .1),
+  ),
+)
 
 same-length : tie.Need-same-length Inv-loop μ-loop
 same-length c = c .before .loop .inv .1 .1
 
 returns : tie.Need-returns Inv-loop μ-loop
-returns c = let e : c .before .loop .k ≡ length (c .before .before .args .table .now) = omega arith in c .before .loop .inv .1 .0 ∙ rw (e, drop-length, append-nil)
+returns c =
+    let e : c .before .loop .k ≡ length (c .before .before .args .table .now) = omega arith in
+    c .before .loop .inv .1 .0 ∙ rw (e, drop-length, append-nil)
 
 pub clear-words-spec : {M : Type 1} → statement M
 clear-words-spec =

@@ -11,7 +11,14 @@ node-word-requires : tie.Need-node-word-requires
 node-word-requires c κs = search needs
 
 link-next-requires : tie.Need-link-next-requires
-link-next-requires c κs = (λ z. omega (arith, c .before .before .before .before .pre .2 (λ y. z (c .before .node-word .ensures ∙ y)), c .before .node-word .ensures), c .before .before .before .before .pre .1)
+link-next-requires c κs = (
+  λ z. omega (
+    arith,
+    c .before .before .before .before .pre .2 (λ y. z (c .before .node-word .ensures ∙ y)),
+    c .before .node-word .ensures,
+  ),
+  c .before .before .before .before .pre .1,
+)
 
 link-first-requires : tie.Need-link-first-requires
 link-first-requires c κs = search needs
@@ -27,7 +34,14 @@ same-length c = search needs
 
 returns : tie.Need-returns
 unfolding linked
-returns c = c .before .before .set-word .ensures ∙ ap (λ (l : List ℕ). setWord l (c .before .before .before .before .before .before .before .before .before .before .before .before .before .before .before .args .p) 4 (c .before .before .before .before .before .before .before .before .before .before .before .before .before .before .before .args .i + 1)) (c .before .before .before .before .before .before .link-first .ensures ∙ ap (λ (l : List ℕ). firstLinked l (c .before .before .before .before .before .before .before .before .before .before .before .before .before .before .before .args .p) (c .before .before .before .before .before .before .before .before .before .before .before .before .before .before .before .args .i)) (c .before .before .before .before .before .before .before .before .before .before .link-next .ensures ∙ ap (λ (n : ℕ). nextLinked (c .before .before .before .before .before .before .before .before .before .before .before .before .before .before .before .args .nodes .now) n (c .before .before .before .before .before .before .before .before .before .before .before .before .before .before .before .args .i)) (c .before .before .before .before .before .before .before .before .before .before .before .before .node-word .ensures)))
+returns c =
+    let at-link-next = c .before .before .before .before .before .before .before .before .before .before in
+    let args = at-link-next .before .before .before .before .before .args in
+    c .before .before .set-word .ensures ∙ ap (λ (l : List ℕ). setWord l (args .p) 4 (args .i + 1))
+    (c .before .before .before .before .before .before .link-first .ensures
+    ∙ ap (λ (l : List ℕ). firstLinked l (args .p) (args .i))
+    (at-link-next .link-next .ensures
+    ∙ ap (λ (n : ℕ). nextLinked (args .nodes .now) n (args .i)) (at-link-next .before .before .node-word .ensures)))
 
 pub link-spec : {M : Type 1} → statement M
 link-spec =

@@ -26,7 +26,11 @@ same-length-2 c = search needs
 
 returns-2 : tie.Need-returns-2
 unfolding firstLinked
-returns-2 c = rw (sym (c .before .before .before .before .before .node-word .ensures), eq-eqb _ _ (c .before .before .before .before .if1 .left)) (c .before .before .set-word .ensures)
+returns-2 c =
+    rw (
+      sym (c .before .before .before .before .before .node-word .ensures),
+      eq-eqb _ _ (c .before .before .before .before .if1 .left),
+    ) (c .before .before .set-word .ensures)
 
 pub link-first-spec : {M : Type 1} → statement M
 link-first-spec =

@@ -1,6 +1,5 @@
 use native.Mathlib.Omega.{arith}
 use lib.ListN.{length-set}
-use Prim.Native.Nat.{_*_}
 use mathlib.Core.List.{[], _∷_}
 use Rattle.tree.proofs.Stores.{run}
 use borrow.Author.Needs.{needs}
@@ -56,7 +55,7 @@ same-length : tie.Need-same-length
 same-length c = search needs
 
 returns : tie.Need-returns
-returns c = run (c .args .attributes .now) (5 * c .args .j) ((c .args .e) .name) ((c .args .e) .important ∷ (c .args .e) .start ∷ (c .args .e) .size ∷ (c .args .e) .command ∷ [])
+returns c = run (c .args .attributes .now) _ _ (c .args .e .important ∷ c .args .e .start ∷ c .args .e .size ∷ c .args .e .command ∷ [])
 
 pub put-entry-spec : {M : Type 1} → statement M
 put-entry-spec =

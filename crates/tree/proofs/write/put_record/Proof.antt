@@ -1,6 +1,5 @@
 use native.Mathlib.Omega.{arith}
 use lib.ListN.{length-set}
-use Prim.Native.Nat.{_*_}
 use mathlib.Core.List.{[], _∷_}
 use Rattle.tree.proofs.Stores.{run}
 use borrow.Author.Needs.{needs}
@@ -83,7 +82,7 @@ same-length : tie.Need-same-length
 same-length c = search needs
 
 returns : tie.Need-returns
-returns c = run (c .args .nodes .now) (8 * c .args .i) (c .args .kind) (c .args .parent ∷ 0 ∷ 0 ∷ 0 ∷ c .args .code ∷ c .args .from ∷ c .args .to ∷ [])
+returns c = run (c .args .nodes .now) _ _ (c .args .parent ∷ 0 ∷ 0 ∷ 0 ∷ c .args .code ∷ c .args .from ∷ c .args .to ∷ [])
 
 pub put-record-spec : {M : Type 1} → statement M
 put-record-spec =

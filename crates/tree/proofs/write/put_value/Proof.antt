@@ -1,6 +1,5 @@
 use native.Mathlib.Omega.{arith}
 use lib.ListN.{length-set}
-use Prim.Native.Nat.{_*_, _+_}
 use mathlib.Core.List.{[], _∷_}
 use Rattle.tree.proofs.Stores.{run}
 use borrow.Author.Needs.{needs}
@@ -41,7 +40,7 @@ same-length : tie.Need-same-length
 same-length c = search needs
 
 returns : tie.Need-returns
-returns c = run (c .args .attributes .now) (5 * c .args .j + 2) (c .args .start) (c .args .size ∷ c .args .command ∷ [])
+returns c = run (c .args .attributes .now) _ _ (c .args .size ∷ c .args .command ∷ [])
 
 pub put-value-spec : {M : Type 1} → statement M
 put-value-spec =

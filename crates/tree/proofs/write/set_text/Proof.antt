@@ -40,7 +40,17 @@ same-length-2 c = search needs
 
 returns : tie.Need-returns
 unfolding setText
-returns c = (c .before .before .before .before .before .before .before .before .before .before .set-word2 .ensures ∙ ap (λ (l : List ℕ). setWord l (c .before .before .before .before .before .before .before .before .before .before .before .before .before .before .before .before .before .before .before .before .before .before .args .i) 7 (c .before .before .before .before .before .before .before .before .before .before .before .before .before .before .before .before .before .before .before .before .before .before .args .to)) (c .before .before .before .before .before .before .before .before .before .before .before .before .before .before .set-word .ensures), rw (sym (c .before .before .before .before .before .before .before .before .before .before .before .before .before .before .before .before .before .before .node-word .ensures), sym (c .before .before .before .before .before .before .before .before .before .before .before .before .before .before .before .before .node-word2 .ensures)) (c .before .before .zero-bytes2 .ensures ∙ ap (λ (l : List ℕ). sets l (c .before .before .before .before .before .before .before .before .before .before .before .before .before .before .before .before .before .before .before .before .before .before .args .to) (replicate (c .before .before .before .before .before .before .before .before .before .before .before .before .before .before .before .before .node-word2 .result - c .before .before .before .before .before .before .before .before .before .before .before .before .before .before .before .before .before .before .before .before .before .before .args .to) 0)) (c .before .before .before .before .before .before .zero-bytes .ensures)))
+returns c =
+    let at-set-word2 = c .before .before .before .before .before .before .before .before .before .before in
+    let at-node-word2 = at-set-word2 .before .before .before .before .before .before in
+    let args = at-node-word2 .before .before .before .before .before .before .args in (
+      at-set-word2 .set-word2 .ensures
+          ∙ ap (λ (l : List ℕ). setWord l (args .i) 7 (args .to)) (at-set-word2 .before .before .before .before .set-word .ensures),
+      rw (sym (at-node-word2 .before .before .node-word .ensures), sym (at-node-word2 .node-word2 .ensures))
+          (c .before .before .zero-bytes2 .ensures ∙ ap
+          (λ (l : List ℕ). sets l (args .to) (replicate (at-node-word2 .node-word2 .result - args .to) 0))
+          (c .before .before .before .before .before .before .zero-bytes .ensures)),
+    )
 
 pub set-text-spec : {M : Type 1} → statement M
 set-text-spec =

@@ -23,13 +23,13 @@ loop-less : tie.Need-loop-less Inv-loop μ-loop
 loop-less c = omega arith
 
 loop-again : tie.Need-loop-again Inv-loop μ-loop
-loop-again c = zeroed-more (c .before .before .args .text .now) (c .before .loop .text) (c .before .before .args .from) (c .before .before .args .to) (c .before .loop .k) (c .before .loop .inv) (c .loop-test .taken)
+loop-again c = zeroed-more _ _ _ _ _ (c .before .loop .inv) (c .loop-test .taken)
 
 same-length : tie.Need-same-length Inv-loop μ-loop
 same-length c = c .before .loop .inv .size
 
 returns : tie.Need-returns Inv-loop μ-loop
-returns c = zeroed-all (c .before .before .args .text .now) (c .before .loop .text) (c .before .before .args .from) (c .before .before .args .to) (c .before .loop .k) (c .before .loop .inv) (c .loop-test .left)
+returns c = zeroed-all _ _ _ _ _ (c .before .loop .inv) (c .loop-test .left)
 
 pub zero-bytes-spec : {M : Type 1} → statement M
 zero-bytes-spec =
