@@ -17,6 +17,7 @@ pub mod Sealed
 pub mod Spare
 pub mod Cuts
 pub mod GoingOn
+pub mod Images
 pub mod Unused
 pub mod Kept
 pub mod Sound

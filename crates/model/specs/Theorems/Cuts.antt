@@ -1,19 +1,17 @@
 -- What a cut changes: one value is none, and everything else that the repairs read is as it was.
 use Prim.Native.Nat.{ℕ, zero, suc, _+_, _-_, _*_, _≤_, _<_}
-use mathlib.Core.Path.{_≡_, refl, sym, ap, _∙_, fun-ext}
+use mathlib.Core.Path.{_≡_, refl, sym, ap, _∙_}
 use mathlib.Core.Bool.{Bool, true, false}
 use mathlib.Core.List.{List, [], _∷_}
-use mathlib.Core.Option.{Option, none, some}
 use native.Mathlib.Omega.{arith}
 use native.Mathlib.Decide.{ℕ-discrete, decLt}
 use borrow.Author.Tests.{eqb-true, eqb-false, eq-eqb, ne-eqb}
-use lib.Dec.{eqb, leb}
-use lib.ListN.{length, getD}
-use Rattle.model.specs.Base.{pick, and, given, sameBytes}
+use lib.Dec.{eqb}
+use Rattle.model.specs.Base.{pick, and, sameBytes}
 use Rattle.model.specs.Names.{isPossibleNone, fixedBytes}
 use Rattle.model.specs.AId
-use Rattle.model.specs.Drawing.{Part, Reading, Value, readingsOf, readingOf}
-use Rattle.model.specs.Tables.{Tree, ELEMENT, kindOf, fromOf, toOf, entryWord, entryAt, valueOf, findEntry, attributeId, fixedEntry, attributeOf, valueAtEntry, hasIdBytes, lastWithId, elementById, setNone}
+use Rattle.model.specs.Drawing.{Reading, Value, readingsOf}
+use Rattle.model.specs.Tables.{Tree, ELEMENT, kindOf, fromOf, toOf, entryWord, entryAt, valueOf, findEntry, attributeId, attributeOf, valueAtEntry, hasIdBytes, lastWithId, elementById, setNone}
 use Rattle.model.specs.Repair.{elementId, readingsOfAttribute}
 use Rattle.model.specs.Theorems.Agree.{sets-out}
 use Rattle.model.specs.Theorems.Entries.{none-others, none-entry}
@@ -120,7 +118,7 @@ module _ (size : ℕ) (chars : List ℕ) (values : List Value) (bare : readingsO
   after = setNone (attributeId t i a - 1) t
 
   -- The entry of any other attribute is as it was.
-  entry-kept : (j b : ℕ) → (attributeId t j b ≡ 0 → ⊥) → (j ≡ i → b ≡ a → ⊥) → entryAt after (attributeId t j b - 1) ≡ entryAt t (attributeId t j b - 1)
+  pub entry-kept : (j b : ℕ) → (attributeId t j b ≡ 0 → ⊥) → (j ≡ i → b ≡ a → ⊥) → entryAt after (attributeId t j b - 1) ≡ entryAt t (attributeId t j b - 1)
   entry-kept j b z d = none-others (attributeId t i a - 1) t (attributeId t j b - 1)
       (λ e. let q : attributeId t i a ≡ attributeId t j b = omega arith in let o = one-owner size t k i j a b h q in d (sym (o .0)) (sym (o .1)))
 
