@@ -11,6 +11,7 @@ pub mod Spelled
 pub mod Related
 pub mod Inside
 pub mod Places
+pub mod Real
 pub mod Whole
 pub mod Always
 pub mod Sealed

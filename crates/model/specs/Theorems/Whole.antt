@@ -32,6 +32,7 @@ use Rattle.model.specs.Theorems.Inside.{LiesElement, LiesText, bounded, 
 use Rattle.model.specs.Theorems.Good.{Apart, Good, text-nodes-keep}
 use Rattle.model.specs.Theorems.Spelled.{Safe, SpelledElement}
 use Rattle.model.specs.Theorems.Related.{holds, Stable, Steady, Outer, Open, outer-same, Fine, Harmless, top-related}
+use Rattle.model.specs.Theorems.Real.{notes-real}
 use Rattle.model.specs.Theorems.Places.{Outside, Ahead, ahead, within, events-same, check-same}
 use Rattle.model.specs.Demand3.{textNodesDown, Pinned, Spared, Alike, Exchangeable, Demand3}
 
@@ -486,5 +487,6 @@ module _ (script chars : List ℕ) (n m b t : ℕ) (a : Source) (new : List ℕ)
     checked = checked-two;
     sameEvents = sym (same-events .0);
     sameNotes = same-notes;
+    real = notes-real script chars n m b;
     alike = alike-two;
   }
