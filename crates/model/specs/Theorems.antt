@@ -21,4 +21,5 @@ pub mod GoingOn
 pub mod Images
 pub mod Unused
 pub mod Kept
+pub mod Runs
 pub mod Sound

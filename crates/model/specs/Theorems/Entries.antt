@@ -267,7 +267,7 @@ module _ (P : Entry → Type 0) (Q : Part → ℕ → Type 0) (k : Closed P Q) w
 -- STORING ENTRIES
 
 -- The words of an entry that is read are those of the table.
-entry-word : (t : Tree) (j w : ℕ) → w < 5 → getD (entryWords (entryAt t j)) w 0 ≡ entryWord t j w
+pub entry-word : (t : Tree) (j w : ℕ) → w < 5 → getD (entryWords (entryAt t j)) w 0 ≡ entryWord t j w
 unfolding entryAt
 entry-word t j zero l = refl
 entry-word t j (suc zero) l = refl
