@@ -11,7 +11,8 @@ use Rattle.model.specs.Drawing.{Element, Source, Event, begin, text, oth
 use Rattle.model.specs.Tables.{Tree, Out, refused, done, then, nodeRoom, rooted, cleared}
 use Rattle.model.specs.Text.{totalSize}
 use Rattle.model.specs.Parse.{Ops, label, plain}
-use Rattle.model.specs.Theorems.Sim.{Rel, both, same, Every, Events, rel-map, then-rel, Carried, Grown, IsCode, text-code, inside-sim, top-sim}
+use Rattle.model.specs.Theorems.Sim.{Rel, both, same, Every, Events, rel-map, then-rel, Carried, Grown, IsCode, text-code, inside-sim}
+use Rattle.model.specs.Theorems.Sim.{top-sim}
 use Rattle.model.specs.Build.{withRoot, tested, parseTree, parsed}
 
 -- A text node: the text element that it stands in, where its place in the text table begins, and the texts that it is made from.
@@ -78,7 +79,8 @@ events-any (text a ∷ xs) = (tt, events-any xs)
 events-any (other ∷ xs) = events-any xs
 events-any (close ∷ xs) = events-any xs
 
-forget-rel : {R : Noted → Tree → Type 0} (ns : List Note) (a b : Out Tree) → a ≡ b → ((t : Tree) → R (record { tree = t; notes = ns }) t) → Rel R (withNotes ns a) b
+forget-rel : {R : Noted → Tree → Type 0} (ns : List Note) (a b : Out Tree) → a ≡ b →
+    ((t : Tree) → R (record { tree = t; notes = ns }) t) → Rel R (withNotes ns a) b
 forget-rel ns (refused k) b e f = rw (← e) (both k)
 forget-rel ns (done t) b e f = rw (← e) (same (f t))
 
@@ -106,9 +108,11 @@ module _ (H : Source → Type 0) (o : Ops Tree) (all : List Event) (ok : Events 
 
   forget-label : (x : Element) → Any x → (xs : List Event) → Events Any H xs → (i : Bool) (p : ℕ) (s : Noted) (t : Tree) → Forgets H s t →
       Rel (Carried Plainly s t) (label (noting o) all x xs i p s) (label o all x xs i p t)
-  forget-label x g xs h i p s t r = then-rel (Grown Plainly (o .count t) s t) _ _ _ (forget-element x g EId.Text text-code i p s t r) (λ s′ t′ r′.
+  forget-label x g xs h i p s t r = then-rel (Grown Plainly (o .count t) s t) _ _ _ (forget-element x g EId.Text text-code i p s t r)
+      (λ s′ t′ r′.
       rw (← r .0) (then-rel (Forgets H) _ _ _
-      (inside-sim Plainly (Forgets H) Any H (noting o) o all ok (o .count (s .tree)) (λ x g c k p s t r. forget-element x g c k false p s t r)
+      (inside-sim Plainly (Forgets H) Any H (noting o) o all ok (o .count (s .tree))
+      (λ x g c k p s t r. forget-element x g c k false p s t r)
       (forget-text (o .count (s .tree))) (λ p s t r. ap (λ u. o .count u) (r .0)) (λ p s t r. ap (λ u. o .parent p u) (r .0))
       (λ p s t f r. r) (λ p s t r. r) xs h zero (o .count (s .tree)) s′ t′ (r′ .0))
       (λ s″ t″ r″. same (λ p′ q. (ap (λ u. o .finish (o .count (s .tree)) u) (r″ .0), r″ .1)))))

@@ -11,9 +11,11 @@ use lib.ListN.{getD}
 use Rattle.model.specs.Base.{pick, given, among}
 use Rattle.model.specs.EId
 use Rattle.model.specs.AId
-use Rattle.model.specs.Drawing.{Reading, Value, Attribute, Declaration, Event, begin, text, other, close, readingsOf, readingOf, valuesIn}
+use Rattle.model.specs.Drawing.{Reading, Value, Attribute, Declaration, Event, begin, text, other, close, readingsOf, readingOf}
+use Rattle.model.specs.Drawing.{valuesIn}
 use Rattle.model.specs.Tables.{Tree, Entry, parentOf, entryAt, attributeId, elementById, setNone}
-use Rattle.model.specs.Repair.{upFrom, allNamed, anyReading, elementId, readingsOfAttribute, linkOf, nodeAttribute, recursiveFeImage, feImageLinks, Cut, cutName, cutAt, applyCut, applied, cutsOf, cutsOfAll, repairs}
+use Rattle.model.specs.Repair.{upFrom, allNamed, anyReading, elementId, readingsOfAttribute, linkOf, nodeAttribute, recursiveFeImage}
+use Rattle.model.specs.Repair.{feImageLinks, Cut, cutName, cutAt, applyCut, applied, cutsOf, cutsOfAll, repairs}
 use Rattle.model.specs.Theorems.Sim.{Every, Events}
 use Rattle.model.specs.Theorems.Entries.{absurd-bool}
 use Rattle.model.specs.Theorems.Inside.{LiesValue, LiesElement, LiesText}
@@ -97,7 +99,8 @@ module _ (size : ℕ) (chars : List ℕ) (values : List Value) (bare : readingsO
           inner false = neither (among 0 found)
       go (no e) false a = rw (ne-eqb w 0 e, s .kept w e a .0) (inner (anyReading 4 id (readings o)))
         where
-          inner : (c : Bool) → pick c (λ v. w) (λ v. 0) ≡ pick (among (pick c (λ v. w) (λ v. 0)) found) (λ u. 0) (λ u. pick c (λ v. w) (λ v. 0))
+          inner : (c : Bool) →
+              pick c (λ v. w) (λ v. 0) ≡ pick (among (pick c (λ v. w) (λ v. 0)) found) (λ u. 0) (λ u. pick c (λ v. w) (λ v. 0))
           inner true = rw a refl
           inner false = neither (among 0 found)
 
@@ -106,7 +109,8 @@ module _ (size : ℕ) (chars : List ℕ) (values : List Value) (bare : readingsO
     abbrev cut : Tree
     cut = setNone (attributeId t (w - 1) AId.Filter - 1) t
 
-    readings-at : (x : ℕ) → (x ≡ w - 1 → ⊥) → readingsOfAttribute chars values cut AId.Filter x ≡ readingsOfAttribute chars values t AId.Filter x
+    readings-at : (x : ℕ) → (x ≡ w - 1 → ⊥) →
+        readingsOfAttribute chars values cut AId.Filter x ≡ readingsOfAttribute chars values t AId.Filter x
     readings-at x d = readings-kept size chars values bare t (s .tidy) (w - 1) AId.Filter h x AId.Filter (λ e f. d e)
 
     href-at : (i : ℕ) → nodeAttribute chars values cut AId.Href i ≡ nodeAttribute chars values t AId.Href i
@@ -206,9 +210,9 @@ module _ (size : ℕ) (chars : List ℕ) (values : List Value) (bare : readingsO
           let c = cut-is size chars values bare 6 filter-no-id t (s .tidy) (x - 1) (w .entry) in
           let next = r _ (x ∷ found) (since-cut t found s x e (w .entry)) in
           let left : map (cutAt o 6) (feImageLinks chars values o found (i ∷ is))
-              ≡ cutAt o 6 (x - 1) ∷ map (cutAt o 6) (feImageLinks chars values o (x ∷ found) is) = rw (ne-eqb x 0 e, a) refl in
+          ≡ cutAt o 6 (x - 1) ∷ map (cutAt o 6) (feImageLinks chars values o (x ∷ found) is) = rw (ne-eqb x 0 e, a) refl in
           let right : cutAt t 6 (x - 1) ∷ imagesOn chars values (applyCut t (cutAt t 6 (x - 1))) is ≡ imagesOn chars values t (i ∷ is) =
-              rw (y, ne-eqb x 0 e) refl in
+          rw (y, ne-eqb x 0 e) refl in
           left
           ∙ ap (λ (l : List Cut). cutAt o 6 (x - 1) ∷ l) (next ∙ ap (λ (u : Tree). imagesOn chars values u is) (sym c))
           ∙ ap (λ (z : Cut). z ∷ imagesOn chars values (applyCut t (cutAt t 6 (x - 1))) is) (sym (s .kept x e a .1))
@@ -233,13 +237,21 @@ module _ (size : ℕ) (chars : List ℕ) (values : List Value) (bare : readingsO
   pass-going-on k l t g = go (ℕ-discrete k 6)
     where
       start : Since size chars values bare t t []
-      start = record { tidy = g; nodes = refl; href = λ i. refl; id = λ i. refl; gone = λ w b. absurd-bool (sym b); kept = λ w z b. (refl, refl) }
+      start = record {
+        tidy = g;
+        nodes = refl;
+        href = λ i. refl;
+        id = λ i. refl;
+        gone = λ w b. absurd-bool (sym b);
+        kept = λ w z b. (refl, refl);
+      }
 
       go : Dec (k ≡ 6) → cutsOf chars values k t ≡ passOn chars values k t
       go (yes e) = rw e (images size chars values bare t t [] start (allNamed t EId.FeImage (upFrom 0 (t .nodeCount))))
       go (no e) = rw (le-leb k 5 (omega arith)) (cuts-going-on size chars values bare k (no-id k l) t g)
 
-  pub passes-going-on : (ks : List ℕ) → Every (λ (k : ℕ). k ≤ 6) ks → (t : Tree) → Tidy size t → cutsOfAll chars values ks t ≡ passesOn chars values ks t
+  pub passes-going-on : (ks : List ℕ) → Every (λ (k : ℕ). k ≤ 6) ks → (t : Tree) → Tidy size t →
+      cutsOfAll chars values ks t ≡ passesOn chars values ks t
   unfolding cutsOfAll passesOn
   passes-going-on [] h t g = refl
   passes-going-on (k ∷ ks) h t g =
@@ -256,7 +268,8 @@ module _ (size : ℕ) (chars : List ℕ) (values : List Value) (bare : readingsO
 
 -- A FIXED VALUE HAS NO READINGS
 
-bare-map : {A : Type 0} (f : A → Value) (P : A → Type 0) → ((a : A) → P a → 1 ≤ f a .command) → (xs : List A) (ws : List Value) → Every P xs →
+bare-map : {A : Type 0} (f : A → Value) (P : A → Type 0) → ((a : A) → P a → 1 ≤ f a .command) → (xs : List A) (ws : List Value) →
+    Every P xs →
     readingsOf 0 ws ≡ [] → readingsOf 0 (map f xs ++ ws) ≡ []
 unfolding readingsOf
 bare-map f P g [] ws h e = e

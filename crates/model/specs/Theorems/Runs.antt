@@ -13,8 +13,10 @@ use lib.Seq.{sets, set-getD, length-sets, ext-getD}
 use Rattle.model.specs.Base.{pick, given}
 use Rattle.model.specs.Names.{isInheritable, inheritDefault}
 use Rattle.model.specs.Drawing.{Attribute, Declaration, readingOf}
-use Rattle.model.specs.Tables.{Tree, Entry, ELEMENT, kindOf, parentOf, fromOf, toOf, entryWords, entriesWords, entryWord, entryAt, findEntry, attributeId, holderFrom}
-use Rattle.model.specs.Element.{inheritedFrom, copyFrom, defaultOf, resolveInherit, appendAttribute, hasEntry, onFirst, addAttribute, insertEntry, insertPart, writeDeclaration}
+use Rattle.model.specs.Tables.{Tree, Entry, ELEMENT, kindOf, parentOf, fromOf, toOf, entryWords, entriesWords, entryWord, entryAt}
+use Rattle.model.specs.Tables.{findEntry, attributeId, holderFrom}
+use Rattle.model.specs.Element.{inheritedFrom, copyFrom, defaultOf, resolveInherit, appendAttribute, hasEntry, onFirst, addAttribute}
+use Rattle.model.specs.Element.{insertEntry, insertPart, writeDeclaration}
 use Rattle.model.specs.Theorems.Agree.{sets-in, sets-out}
 use Rattle.model.specs.Theorems.Entries.{holder-falls, entry-word, entry-by-words, entries-long}
 use Rattle.model.specs.Theorems.Kept.{Kept, attribute-within}
@@ -33,7 +35,8 @@ unfoldable pub withRun : List ℕ → ℕ → List Entry → List ℕ
 withRun ats n es = sets ats (5 * n) (entriesWords es)
 
 -- One entry, then the others.
-pub run-cons : (ats : List ℕ) (n : ℕ) (e : Entry) (es : List Entry) → withRun ats n (e ∷ es) ≡ withRun (sets ats (5 * n) (entryWords e)) (n + 1) es
+pub run-cons : (ats : List ℕ) (n : ℕ) (e : Entry) (es : List Entry) →
+    withRun ats n (e ∷ es) ≡ withRun (sets ats (5 * n) (entryWords e)) (n + 1) es
 unfolding withRun entriesWords
 run-cons ats n e es =
     let q : suc (suc (suc (suc (suc (5 * n))))) ≡ 5 * (n + 1) = omega arith in
@@ -83,7 +86,8 @@ run-more ats n (x ∷ es) e =
     ∙ sym (run-cons ats n x (es ++ (e ∷ [])))
 
 -- An entry stored behind a run.
-pub put-more : (ats : List ℕ) (n k : ℕ) (e : Entry) → sets ats (5 * (n + k)) (entryWords e) ≡ withRun ats n (entriesFrom ats n k ++ (e ∷ []))
+pub put-more : (ats : List ℕ) (n k : ℕ) (e : Entry) →
+    sets ats (5 * (n + k)) (entryWords e) ≡ withRun ats n (entriesFrom ats n k ++ (e ∷ []))
 put-more ats n k e =
     ap (λ l. sets l (5 * (n + k)) (entryWords e)) (sym (run-own ats n k))
     ∙ ap (λ m. sets (withRun ats n (entriesFrom ats n k)) (5 * (n + m)) (entryWords e)) (sym (entries-count ats n k))
@@ -98,7 +102,7 @@ unfolding entriesFrom
 entries-agree one two n zero f = refl
 entries-agree one two n (suc k) f =
     let e : entryAt (tableOf one) n ≡ entryAt (tableOf two) n =
-        entry-by-words (tableOf one) (tableOf two) n (λ w l. f (5 * n + w) (omega arith) (omega arith)) in
+    entry-by-words (tableOf one) (tableOf two) n (λ w l. f (5 * n + w) (omega arith) (omega arith)) in
     let r = entries-agree one two (n + 1) k (λ q a b. f q (omega arith) (omega arith)) in
     ap (λ x. x ∷ entriesFrom one (n + 1) k) e ∙ ap (λ l. entryAt (tableOf two) n ∷ l) r
 
@@ -143,8 +147,10 @@ module _ (ats : List ℕ) (a : ℕ) where
       stored r = sets ats (5 * (r - 1)) (entryWords (f (entryAt (tableOf ats) (r - 1))))
 
       go : (b : Bool) → (pick b (λ u. n + 1) (λ u. findEntry (tableOf ats) a (n + 1) k) ≡ 0 → ⊥) →
-          ((findEntry (tableOf ats) a (n + 1) k ≡ 0 → ⊥) → stored (findEntry (tableOf ats) a (n + 1) k) ≡ withRun ats (n + 1) (onFirst f a es)) →
-          stored (pick b (λ u. n + 1) (λ u. findEntry (tableOf ats) a (n + 1) k)) ≡ withRun ats n (pick b (λ u. f e ∷ es) (λ u. e ∷ onFirst f a es))
+          ((findEntry (tableOf ats) a (n + 1) k ≡ 0 → ⊥) →
+          stored (findEntry (tableOf ats) a (n + 1) k) ≡ withRun ats (n + 1) (onFirst f a es)) →
+          stored (pick b (λ u. n + 1) (λ u. findEntry (tableOf ats) a (n + 1) k))
+          ≡ withRun ats n (pick b (λ u. f e ∷ es) (λ u. e ∷ onFirst f a es))
       go true z r =
           let y : n + 1 - 1 ≡ n = omega arith in
           let ws : List ℕ = entryWords (f e) in
@@ -162,20 +168,27 @@ unfolding withRun
 run-length ats n es = length-sets ats (5 * n) (entriesWords es)
 
 -- What stands before a run, and behind it, is as it was.
-pub run-outside : (ats : List ℕ) (n : ℕ) (es : List Entry) (q : ℕ) → (5 * n ≤ q → q < 5 * (n + length es) → ⊥) → getD (withRun ats n es) q 0 ≡ getD ats q 0
+pub run-outside : (ats : List ℕ) (n : ℕ) (es : List Entry) (q : ℕ) → (5 * n ≤ q → q < 5 * (n + length es) → ⊥) →
+    getD (withRun ats n es) q 0 ≡ getD ats q 0
 unfolding withRun
 run-outside ats n es q h = sets-out (entriesWords es) ats (5 * n) q (λ a b. h a (omega (arith, entries-long es)))
 
 run-head : (ats : List ℕ) (n : ℕ) (e : Entry) (es : List Entry) → 5 * (n + suc (length es)) ≤ length ats →
     entryAt (tableOf (withRun ats n (e ∷ es))) n ≡ e
 unfolding withRun entriesWords entryAt
-run-head ats n e es h = λ x. record { name = f 0 (omega arith) x; important = f 1 (omega arith) x; start = f 2 (omega arith) x;
-    size = f 3 (omega arith) x; command = f 4 (omega arith) x }
+run-head ats n e es h = λ x. record {
+  name = f 0 (omega arith) x;
+  important = f 1 (omega arith) x;
+  start = f 2 (omega arith) x;
+  size = f 3 (omega arith) x;
+  command = f 4 (omega arith) x;
+}
   where
     f : (w : ℕ) → w < 5 → getD (sets ats (5 * n) (entriesWords (e ∷ es))) (5 * n + w) 0 ≡ getD (entriesWords (e ∷ es)) w 0
     f w l = sets-in (entriesWords (e ∷ es)) ats (5 * n) w (omega (arith, entries-long es)) (omega (arith, entries-long es))
 
-pub from-run : (ats : List ℕ) (n : ℕ) (es : List Entry) → 5 * (n + length es) ≤ length ats → entriesFrom (withRun ats n es) n (length es) ≡ es
+pub from-run : (ats : List ℕ) (n : ℕ) (es : List Entry) → 5 * (n + length es) ≤ length ats →
+    entriesFrom (withRun ats n es) n (length es) ≡ es
 unfolding entriesFrom
 from-run ats n [] h = refl
 from-run ats n (e ∷ es) h =
@@ -193,7 +206,7 @@ run-over ats n es more l h =
     let ws : List ℕ = entriesWords more in
     let vs : List ℕ = entriesWords es in
     let long : length (sets (sets ats (5 * n) vs) (5 * n) ws) ≡ length (sets ats (5 * n) ws) =
-        length-sets (sets ats (5 * n) vs) (5 * n) ws ∙ length-sets ats (5 * n) vs ∙ sym (length-sets ats (5 * n) ws) in
+    length-sets (sets ats (5 * n) vs) (5 * n) ws ∙ length-sets ats (5 * n) vs ∙ sym (length-sets ats (5 * n) ws) in
     ext-getD 0 _ _ long (λ q b. at q (decLt q (5 * n)) (decLt q (5 * n + length ws)))
   where
     at : (q : ℕ) → Dec (q < 5 * n) → Dec (q < 5 * n + length (entriesWords more)) →
@@ -243,7 +256,8 @@ module _ (size : ℕ) (t : Tree) (g : Kept size t) (es : List Entry) where
   unfolding attributeId
   id-alone i a l = go (ℕ-discrete (kindOf t i) ELEMENT)
     where
-      go : Dec (kindOf t i ≡ ELEMENT) → pick (eqb (kindOf t i) ELEMENT) (λ u. findEntry behind a (fromOf t i) (toOf t i - fromOf t i)) (λ u. 0)
+      go : Dec (kindOf t i ≡ ELEMENT) → pick (eqb (kindOf t i) ELEMENT) (λ u. findEntry behind a (fromOf t i) (toOf t i - fromOf t i))
+          (λ u. 0)
           ≡ pick (eqb (kindOf t i) ELEMENT) (λ u. findEntry t a (fromOf t i) (toOf t i - fromOf t i)) (λ u. 0)
       go (yes e) = let r = g .nodes i l .range e in
           rw (eq-eqb (kindOf t i) ELEMENT e) (find-alone a (fromOf t i) (toOf t i - fromOf t i) (omega (arith, r .0, r .1)))
@@ -254,7 +268,8 @@ module _ (size : ℕ) (t : Tree) (g : Kept size t) (es : List Entry) where
   holder-alone a zero w l = refl
   holder-alone a (suc n) w l = go (ℕ-discrete w 0) (λ m. holder-alone a n (parentOf t (w - 1)) m)
     where
-      go : Dec (w ≡ 0) → (parentOf t (w - 1) ≤ t .nodeCount → holderFrom behind a n (parentOf t (w - 1)) ≡ holderFrom t a n (parentOf t (w - 1))) →
+      go : Dec (w ≡ 0) → (parentOf t (w - 1) ≤ t .nodeCount →
+          holderFrom behind a n (parentOf t (w - 1)) ≡ holderFrom t a n (parentOf t (w - 1))) →
           holderFrom behind a (suc n) w ≡ holderFrom t a (suc n) w
       go (yes e) r = rw (eq-eqb w 0 e) refl
       go (no e) r =
@@ -312,6 +327,7 @@ module _ (size : ℕ) (t : Tree) (g : Kept size t) (es : List Entry) where
         given (readingOf (k .key) (d .value .readings))
         (λ v. insertEntry (k .value) done (append-alone x tag (k .value) (d .important) v (d .value .command))) (λ u. done)
 
-    pub write-alone : (tag : ℕ) (d : Declaration) (done : List Entry) → writeDeclaration behind p tag d done ≡ writeDeclaration t p tag d done
+    pub write-alone : (tag : ℕ) (d : Declaration) (done : List Entry) →
+        writeDeclaration behind p tag d done ≡ writeDeclaration t p tag d done
     unfolding writeDeclaration
     write-alone tag d done = rw (append-alone, part-alone tag d) refl
