@@ -1,4 +1,5 @@
--- Drawings with known results (document 01, section 8): one table of cases, the starred ones among them, and one claim that the definitions give them.
+-- Drawings with known results (document 01, section 8): one table of cases, the starred ones among them, and one claim that the
+-- definitions give them.
 use Prim.Native.Nat.{ℕ, zero, suc, _+_, _-_}
 use Prim.Native.Char.{code}
 use Prim.Native.String
@@ -12,7 +13,8 @@ use Rattle.model.specs.Base.{pick, sameBytes}
 use Rattle.model.specs.EId
 use Rattle.model.specs.AId
 use Rattle.model.specs.Drawing.{Event, events, childrenFrom}
-use Rattle.model.specs.Tables.{Tree, Out, refused, done, TEXT, ELEMENT, kindOf, codeOf, textOf, attributeId, hasAttribute, valueAtEntry, nodeRoom, rooted, cleared}
+use Rattle.model.specs.Tables.{Tree, Out, refused, done, TEXT, ELEMENT, kindOf, codeOf, textOf, attributeId, hasAttribute}
+use Rattle.model.specs.Tables.{valueAtEntry, nodeRoom, rooted, cleared}
 use Rattle.model.specs.Parse.{Ops, each, node}
 use Rattle.model.specs.Build.{Result, build}
 use Rattle.model.specs.Base
@@ -194,8 +196,7 @@ cases =
     } ∷
     -- The importance of an inherited value is kept: a later declaration yields to it.
     record {
-      drawing =
-          svg (decl AId.Fill 1 "red" ∷ el EId.G (attr AId.Fill "inherit" ∷ decl AId.Fill 0 "blue" ∷ []) ∷ []);
+      drawing = svg (decl AId.Fill 1 "red" ∷ el EId.G (attr AId.Fill "inherit" ∷ decl AId.Fill 0 "blue" ∷ []) ∷ []);
       look = values AId.Fill;
       wanted = ascii "red" ∷ ascii "red" ∷ [];
     } ∷
@@ -230,7 +231,9 @@ commentAt levels n = numberWithin levels (svg (nested (n - 1) comment ∷ []))
 
 -- A `use` in that namespace of the element with that id.
 abbrev pub useOf : ℕ → String → Piece
-useOf n id = elementIn n EId.Use (record { script = (2 ∷ AId.Href ∷ 0 ∷ short (length (ascii id) + 1)); chars = 35 ∷ ascii id } ∷ read 1 1 (length (ascii id)) ∷ [])
+useOf n id =
+    elementIn n EId.Use
+    (record { script = (2 ∷ AId.Href ∷ 0 ∷ short (length (ascii id) + 1)); chars = 35 ∷ ascii id } ∷ read 1 1 (length (ascii id)) ∷ [])
 
 -- A `use` in that namespace of the `g` around it.
 unfoldable pub usesItself : ℕ → Piece
@@ -244,7 +247,8 @@ useEachOther = svg (el EId.G (attr AId.Id "a" ∷ useOf 1 "b" ∷ []) ∷ el EId
 
 -- Whoever unfolds this unfolds every definition, so that a drawing is computed.
 unfoldable pub computed : Unit {0}
-unfolding ascii joinedPieces seenFrom sameLists comesOut allComeOut cases nested numberWithin commentAt usesItself useEachOther Base.among Base.sameBytes Base.amongWords
+unfolding ascii joinedPieces seenFrom sameLists comesOut allComeOut cases nested numberWithin commentAt usesItself useEachOther Base.among
+    Base.sameBytes Base.amongWords
     Base.pairedWith Names.isElement Names.isAttribute Names.isPresentation Names.isNonInheritable Names.allowsInheritValue
     Names.isPossibleNone Names.isDeclaredOnly Names.isInheritable Names.inheritDefaults Names.inheritDefault Names.fontResets
     Names.fixedValues Names.fixedBytes Names.imageRenderingWords Utf8.wellFormed Utf8.begins Utf8.sequenceOf Utf8.isUtf8From Utf8.isUtf8

@@ -106,7 +106,8 @@ module _ (chars : List ℕ) (size : ℕ) where
   -- The tests of one command, in their order; `size` is the number of characters.
   unfoldable pub testsOf : State → Command → List Test
   testsOf s (opening c n) =
-      7 if isHalfFont (s .last) ∷ 3 if not (and (isElementCode c) (leb n 4)) ∷ 4 if and (eqb (s .depth) 0) (s .begun) ∷ 5 if leb 2048 (s .depth) ∷ []
+      7 if isHalfFont (s .last) ∷ 3 if not (and (isElementCode c) (leb n 4)) ∷ 4 if and (eqb (s .depth) 0) (s .begun) ∷
+      5 if leb 2048 (s .depth) ∷ []
   testsOf s (attribute a n l) =
       7 if isHalfFont (s .last) ∷ 3 if not (and (isAttributeCode a) (leb n 4)) ∷ 4 if not (mayAttribute (s .stage)) ∷ stringTests (s .at) l
   testsOf s (declaration a i l) =
@@ -128,8 +129,20 @@ module _ (chars : List ℕ) (size : ℕ) where
   unfoldable pub stepped : State → Command → State
   stepped s (opening c n) = record { depth = s .depth + 1; stage = attributes; begun = true; at = s .at; last = nothing }
   stepped s (attribute a n l) = record { depth = s .depth; stage = attributes; begun = s .begun; at = s .at + l; last = value (s .at) l [] }
-  stepped s (declaration a i l) = record { depth = s .depth; stage = declarations; begun = s .begun; at = s .at + l; last = value (s .at) l [] }
-  stepped s (reading k o l) = record { depth = s .depth; stage = s .stage; begun = s .begun; at = s .at; last = value (valueStart (s .last)) (valueSize (s .last)) (k ∷ valueKinds (s .last)) }
+  stepped s (declaration a i l) = record {
+    depth = s .depth;
+    stage = declarations;
+    begun = s .begun;
+    at = s .at + l;
+    last = value (s .at) l [];
+  }
+  stepped s (reading k o l) = record {
+    depth = s .depth;
+    stage = s .stage;
+    begun = s .begun;
+    at = s .at;
+    last = value (valueStart (s .last)) (valueSize (s .last)) (k ∷ valueKinds (s .last));
+  }
   stepped s (text l) = record { depth = s .depth; stage = children; begun = s .begun; at = s .at + l; last = nothing }
   stepped s other = record { depth = s .depth; stage = children; begun = s .begun; at = s .at; last = nothing }
   stepped s closing = record { depth = s .depth - 1; stage = children; begun = s .begun; at = s .at; last = nothing }
@@ -149,4 +162,5 @@ mostBytes = 1048576
 -- The operation check.
 unfoldable pub check : List ℕ → List ℕ → ℕ
 check script chars =
-    pick (or (ltb mostBytes (length script)) (ltb mostBytes (length chars))) (λ u. 1) (λ u. checkFrom chars (length chars) starting (commands script))
+    pick (or (ltb mostBytes (length script)) (ltb mostBytes (length chars))) (λ u. 1)
+    (λ u. checkFrom chars (length chars) starting (commands script))

@@ -106,6 +106,10 @@ pub record Demand3 (script chars : List ℕ) (n m b t : ℕ) (a : Source) (new :
   pub sameEvents : events script (exchanged a new chars) ≡ events script chars
   -- Every text node is made from the same texts as before.
   pub sameNotes : notes script (exchanged a new chars) n m b ≡ notes script chars n m b
+  -- Each text that a note names is a text of the drawing, of the size that it has there: so that the sizes of the places say how many
+  -- texts a node is made from.
+  pub real : (x : Note) → In x (notes script chars n m b) →
+      map (λ (c : Source). textNumbered (c .number) (events script chars)) (x .texts) ≡ map some (x .texts)
   -- The tree equals the earlier build's, but for the texts under text elements that hold or quote t.
   pub alike : Alike t (notes script chars n m b) chars (exchanged a new chars) (build script chars n m b .tree)
       (build script (exchanged a new chars) n m b .tree)

@@ -6,11 +6,13 @@ use mathlib.Core.Option.{Option, none, some}
 use lib.Dec.{eqb, leb, ltb}
 use lib.ListN.{length}
 use Rattle.model.specs.Base.{pick, and, or, given, folded, sameBytes, amongWords, Pair, _gives_}
-use Rattle.model.specs.Names.{isAttribute, isPresentation, isInheritable, allowsInheritValue, isDeclaredOnly, inheritDefault, fontResets, imageRenderingWords}
+use Rattle.model.specs.Names.{isAttribute, isPresentation, isInheritable, allowsInheritValue, isDeclaredOnly, inheritDefault}
+use Rattle.model.specs.Names.{fontResets, imageRenderingWords}
 use Rattle.model.specs.EId
 use Rattle.model.specs.AId
 use Rattle.model.specs.Drawing.{Part, Value, Attribute, Declaration, Element, readingOf}
-use Rattle.model.specs.Tables.{Tree, Entry, fixedEntry, entryAt, attributeId, holderOf, nodeRoom, attributeRoom, addElement, Out, refused, done}
+use Rattle.model.specs.Tables.{Tree, Entry, fixedEntry, entryAt, attributeId, holderOf, nodeRoom, attributeRoom, addElement, Out}
+use Rattle.model.specs.Tables.{refused, done}
 
 -- The bytes of `inherit`.
 abbrev pub inheritWord : List ℕ

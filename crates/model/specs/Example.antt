@@ -63,7 +63,8 @@ unfolding computed drawing made Noted.notedParsed Noted.notedTree Noted.notesOf 
 each-made = refl
 
 weight-test : isSpared (notes (drawing .script) (drawing .chars) words words words) (before .tree) 3 3 ≡ true
-unfolding computed drawing before Noted.notedParsed Noted.notedTree Noted.notesOf Noted.notes Spare.upward Spare.isHeld Spare.noneHolds Spare.isSpared
+unfolding computed drawing before Noted.notedParsed Noted.notedTree Noted.notesOf Noted.notes Spare.upward Spare.isHeld Spare.noneHolds
+    Spare.isSpared
 weight-test = refl
 
 -- The weight is spared.

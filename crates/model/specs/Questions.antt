@@ -8,7 +8,8 @@ use lib.ListN.{length}
 use Rattle.model.specs.Base.{pick, and, or}
 use Rattle.model.specs.Names.{isElement, isAttribute, isInheritable}
 use Rattle.model.specs.Check.{_if_, firstOf}
-use Rattle.model.specs.Tables.{Tree, ROOT, ELEMENT, TEXT, kindOf, parentOf, nextSiblingOf, firstChildOf, lastChildOf, codeOf, fromOf, toOf, Entry, entryAt, hasAttribute, attributeOf, holderOf, elementById}
+use Rattle.model.specs.Tables.{Tree, ROOT, ELEMENT, TEXT, kindOf, parentOf, nextSiblingOf, firstChildOf, lastChildOf, codeOf, fromOf}
+use Rattle.model.specs.Tables.{toOf, Entry, entryAt, hasAttribute, attributeOf, holderOf, elementById}
 
 -- THE 40 TEST
 
@@ -16,7 +17,8 @@ use Rattle.model.specs.Tables.{Tree, ROOT, ELEMENT, TEXT, kindOf, parent
 abbrev pub countsFit : Tree → Bool
 countsFit t =
     and (leb 1 (t .nodeCount))
-    (and (leb (8 * t .nodeCount) (length (t .nodes))) (and (leb (5 * t .attributeCount) (length (t .attributes))) (leb (t .textCount) (length (t .text)))))
+    (and (leb (8 * t .nodeCount) (length (t .nodes))) (and (leb (5 * t .attributeCount) (length (t .attributes)))
+    (leb (t .textCount) (length (t .text)))))
 
 -- Record 0 alone is the root, parent 0; every other kind is 2 or 3 and its parent's index is smaller than its own.
 abbrev pub isPlaced : Tree → ℕ → Bool
@@ -52,7 +54,8 @@ isNode t i = and (isPlaced t i) (and (isLinked t i) (isFilled t i))
 abbrev pub isEntry : ℕ → Entry → Bool
 isEntry size e =
     and (isAttribute (e .name))
-    (pick (eqb (e .command) 0) (λ u. and (and (leb 1 (e .start)) (leb (e .start) 18)) (eqb (e .size) 0)) (λ u. leb (e .start + e .size) size))
+    (pick (eqb (e .command) 0) (λ u. and (and (leb 1 (e .start)) (leb (e .start) 18)) (eqb (e .size) 0))
+    (λ u. leb (e .start + e .size) size))
 
 -- Do all of the first n pass?
 unfoldable pub allBelow : (ℕ → Bool) → ℕ → Bool

@@ -88,7 +88,8 @@ module _ (chars : List ℕ) (values : List Value) where
   -- `find_recursive_pattern`: what the first pattern, and below it the first node, that gives anything gives.
   unfoldable pub findRecursivePattern : ℕ → Tree → ℕ
   findRecursivePattern a t =
-      firstFound (λ i. firstFound (recursivePatternAt t a (elementId chars t i)) (descendants t i)) (allNamed t EId.Pattern (upFrom 0 (t .nodeCount)))
+      firstFound (λ i. firstFound (recursivePatternAt t a (elementId chars t i)) (descendants t i))
+      (allNamed t EId.Pattern (upFrom 0 (t .nodeCount)))
 
   -- `find_recursive_link`: what the node `child` below the node i gives, as its index plus 1; 0 for nothing.
   unfoldable pub recursiveLinkAt : Tree → ℕ → ℕ → ℕ → ℕ

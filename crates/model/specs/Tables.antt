@@ -208,11 +208,25 @@ textRoom t = min (length (t .text)) most
 
 -- Tables of these lengths, cleared.
 unfoldable pub cleared : ℕ → ℕ → ℕ → Tree
-cleared n m b = record { nodes = replicate n 0; attributes = replicate m 0; text = replicate b 0; nodeCount = 0; attributeCount = 0; textCount = 0 }
+cleared n m b = record {
+  nodes = replicate n 0;
+  attributes = replicate m 0;
+  text = replicate b 0;
+  nodeCount = 0;
+  attributeCount = 0;
+  textCount = 0;
+}
 
 -- The same with the root in them.
 unfoldable pub rooted : Tree → Tree
-rooted t = record { nodes = setWord (t .nodes) 0 0 ROOT; attributes = t .attributes; text = t .text; nodeCount = 1; attributeCount = 0; textCount = 0 }
+rooted t = record {
+  nodes = setWord (t .nodes) 0 0 ROOT;
+  attributes = t .attributes;
+  text = t .text;
+  nodeCount = 1;
+  attributeCount = 0;
+  textCount = 0;
+}
 
 -- A new element below p, with these entries.
 unfoldable pub addElement : ℕ → List Entry → ℕ → Tree → Tree

@@ -10,7 +10,8 @@ use Rattle.model.specs.Base.{pick, and, given, among, sameBytes}
 use Rattle.model.specs.Utf8.{isBlank}
 use Rattle.model.specs.AId
 use Rattle.model.specs.Drawing.{Source}
-use Rattle.model.specs.Tables.{Tree, Out, refused, done, TEXT, kindOf, parentOf, fromOf, toOf, attributeId, valueAtEntry, holderOf, nodeRoom, textRoom, addText, textOf, setText}
+use Rattle.model.specs.Tables.{Tree, Out, refused, done, TEXT, kindOf, parentOf, fromOf, toOf, attributeId, valueAtEntry, holderOf}
+use Rattle.model.specs.Tables.{nodeRoom, textRoom, addText, textOf, setText}
 
 -- `XmlSpace`
 pub data XmlSpace : Type 0 where
@@ -123,10 +124,12 @@ unfoldable pub textNodes : List ℕ → Tree → XmlSpace → ℕ → ℕ → �
 textNodes chars t w e i zero = []
 textNodes chars t w e i (suc n) =
     pick (eqb (kindOf t i) TEXT)
-    (λ u. record { node = i; depth = depthBelow t e i i; space = getXmlspace chars t (parentOf t i - 1) w } ∷ textNodes chars t w e (i + 1) n)
+    (λ u. record { node = i; depth = depthBelow t e i i; space = getXmlspace chars t (parentOf t i - 1) w } ∷
+    textNodes chars t w e (i + 1) n)
     (λ u. textNodes chars t w e (i + 1) n)
 
--- Those of the text element e, where there are n nodes. It is the last one built, so that all nodes behind it stand under it, in tree order.
+-- Those of the text element e, where there are n nodes. It is the last one built, so that all nodes behind it stand under it, in tree
+-- order.
 unfoldable pub ownTextNodes : List ℕ → Tree → XmlSpace → ℕ → ℕ → List TextNode
 ownTextNodes chars t w e n = textNodes chars t w e (e + 1) (n - (e + 1))
 

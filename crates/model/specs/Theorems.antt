@@ -11,12 +11,15 @@ pub mod Spelled
 pub mod Related
 pub mod Inside
 pub mod Places
+pub mod Real
 pub mod Whole
 pub mod Always
 pub mod Sealed
 pub mod Spare
 pub mod Cuts
 pub mod GoingOn
+pub mod Images
 pub mod Unused
 pub mod Kept
+pub mod Runs
 pub mod Sound

@@ -27,7 +27,8 @@ pub under-parent : (ns : List ℕ) (e i : ℕ) → (i ≡ e → ⊥) → Under n
 under-parent ns e i h here = absurd (h refl)
 under-parent ns e i h (up j p w b u) = let q : word ns i 1 - 1 ≡ p = omega arith in rw q (b, u)
 
-pub under-appended : (kind code from to : ℕ) (ns : List ℕ) (p i e j : ℕ) → j < i → Under ns e j → Under (appended kind code from to ns p i) e j
+pub under-appended : (kind code from to : ℕ) (ns : List ℕ) (p i e j : ℕ) → j < i → Under ns e j →
+    Under (appended kind code from to ns p i) e j
 under-appended kind code from to ns p i e j l u =
     under-keep ns (appended kind code from to ns p i) e i
     (λ m b. appended-old kind code from to ns p i m 1 b (omega arith) (λ x y. omega arith)) j l u
@@ -36,4 +37,5 @@ under-appended kind code from to ns p i e j l u =
 pub under-new : (kind code from to : ℕ) (ns : List ℕ) (p i e : ℕ) → 8 * i + 8 ≤ length ns → p < i → Under ns e p →
     Under (appended kind code from to ns p i) e i
 under-new kind code from to ns p i e r l u =
-    up i p (appended-new kind code from to ns p i 1 r (omega arith) (λ x y. omega arith)) l (under-appended kind code from to ns p i e p l u)
+    up i p (appended-new kind code from to ns p i 1 r (omega arith) (λ x y. omega arith)) l (under-appended kind code from to ns p i e p l
+    u)

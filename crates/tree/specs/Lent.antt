@@ -7,11 +7,13 @@ use lib.ListN.{length}
 use lib.Seq.{slice}
 use lib.Dec.{eqb, leb}
 use Rattle.model.specs.Base.{pick, and, or}
-use Rattle.model.specs.Tables.{Tree, ELEMENT, TEXT, word, kindOf, fromOf, toOf, entryAt}
+use Rattle.model.specs.Tables.{Tree, Out, refused, done, ELEMENT, TEXT, word, kindOf, fromOf, toOf, entryAt}
 use Rattle.model.specs.Tables as M
 use Rattle.model.specs.Questions as Q
 use Rattle.tree.specs.declared.Counts.{Counts}
 use Rattle.tree.specs.declared.Entry.{Entry}
+use Rattle.tree.specs.declared.Outcome.{Outcome}
+use Rattle.tree.specs.declared.Outcome.the-variants.{Refused, Done}
 use Rattle.tree.specs.declared.Answer.{Answer}
 use Rattle.tree.specs.declared.Part.{Part}
 
@@ -45,6 +47,11 @@ entriesOf es = readOf [] es
 -- What a function sees that is lent nodes and text alone.
 abbrev pub textsOf : List ℕ → List ℕ → Tree
 textsOf ns bs = treeOf ns [] bs (record { nodes = 0; attributes = 0; text = 0 })
+
+-- What a step of the build comes to, with the tables as it leaves them.
+abbrev pub outOf : List ℕ → List ℕ → List ℕ → Outcome → Out Tree
+outOf ns es bs (Refused k) = refused k
+outOf ns es bs (Done c) = done (treeOf ns es bs c)
 
 -- An attribute's record as the model has it.
 abbrev pub entryOf : Entry → M.Entry

@@ -38,3 +38,9 @@ pub struct Entry {
     pub size: u32,
     pub command: u32,
 }
+
+// What a step of the build comes to: a refusal's number, or how much of the tables is taken then.
+pub enum Outcome {
+    Refused(u32),
+    Done(Counts),
+}

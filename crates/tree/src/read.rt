@@ -1,5 +1,6 @@
 // Reading the tables: the attributes of a node, and the nodes above it.
 // A node or an entry that may be missing is its index plus 1, 0 for none.
+use crate::Entry;
 use crate::word;
 use crate::word::entry_word;
 use crate::word::node_word;
@@ -14,7 +15,7 @@ ghost use lib.ListN.{length};
 ghost use Rattle.model.specs.Base.{sameBytes};
 ghost use Rattle.model.specs.Tables.{entryAt, valueOf, findEntry, attributeId, attributeOf, parentOf, holderOf, hasIdBytes, lastWithId};
 ghost use Rattle.model.specs.Questions.{elementFrom, selfOrParent, findAttributeImpl};
-ghost use Rattle.tree.specs.Lent.{readOf, entriesOf, nodesRead, Valued, Placed, Readable, ReadableIn, Climbable, HeldBy};
+ghost use Rattle.tree.specs.Lent.{readOf, entriesOf, nodesRead, entryOf, Valued, Placed, Readable, ReadableIn, Climbable, HeldBy};
 
 // The first entry of that name from `from` up to `to`.
 pub fn find_entry(attributes: &[u32], a: u32, from: u32, to: u32) -> u32
@@ -30,6 +31,20 @@ pub fn find_entry(attributes: &[u32], a: u32, from: u32, to: u32) -> u32
         j += 1;
     }
     0
+}
+
+// Entry j.
+pub fn entry_at(attributes: &[u32], j: u32) -> Entry
+    requires { ⌜ 5 * j + 4 < length (now attributes) ⌝ }
+    ensures { λ r. ⌜ entryOf r ≡ entryAt (entriesOf (now (attributes .entry))) j ⌝ }
+{
+    Entry {
+        name: entry_word(attributes, j, word::NAME),
+        important: entry_word(attributes, j, word::IMPORTANT),
+        start: entry_word(attributes, j, word::START),
+        size: entry_word(attributes, j, word::SIZE),
+        command: entry_word(attributes, j, word::COMMAND),
+    }
 }
 
 // `attribute_id`: the first attribute of that name of node i, which only an element has.

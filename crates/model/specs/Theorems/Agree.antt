@@ -69,13 +69,16 @@ agree-outs (v ∷ vs) xs p f =
 pub sets-in : (vs xs : List ℕ) (p k : ℕ) → p + length vs ≤ length xs → k < length vs → getD (sets xs p vs) (p + k) 0 ≡ getD vs k 0
 sets-in [] xs p k h l = absurd (omega arith)
 sets-in (v ∷ vs) xs p zero h l =
-    rw add-zero (agree-outs {P = λ j. j ≡ p} vs (set xs p v) (suc p) (λ j a b e. omega arith) .at p refl ∙ getD-set-same xs p v 0 (omega arith))
-sets-in (v ∷ vs) xs p (suc k) h l = rw (add-suc, ← suc-add p k) (sets-in vs (set xs p v) (suc p) k (rw length-set (omega arith)) (omega arith))
+    rw add-zero (agree-outs {P = λ j. j ≡ p} vs (set xs p v) (suc p) (λ j a b e. omega arith) .at p refl ∙ getD-set-same xs p v 0
+    (omega arith))
+sets-in (v ∷ vs) xs p (suc k) h l = rw (add-suc, ← suc-add p k) (sets-in vs (set xs p v) (suc p) k (rw length-set (omega arith))
+    (omega arith))
 
 pub sets-out : (vs xs : List ℕ) (p j : ℕ) → ((p ≤ j → j < p + length vs → ⊥)) → getD (sets xs p vs) j 0 ≡ getD xs j 0
 sets-out vs xs p j h = agree-outs {P = λ i. i ≡ j} vs xs p (λ i a b e. h (omega arith) (omega arith)) .at j refl
 
-pub agree-slice : {P : ℕ → Type 0} {xs ys : List ℕ} (f t : ℕ) → ((j : ℕ) → f ≤ j → j < t → P j) → Agree P xs ys → slice f t xs ≡ slice f t ys
+pub agree-slice : {P : ℕ → Type 0} {xs ys : List ℕ} (f t : ℕ) → ((j : ℕ) → f ≤ j → j < t → P j) → Agree P xs ys →
+    slice f t xs ≡ slice f t ys
 agree-slice {P} {xs} {ys} f t g a =
     ext-getD 0 (slice f t xs) (slice f t ys) (simp (length-drop, length-take) (rw (a .long) refl))
     (λ i l. let h : f + i < t = omega (arith, simp (length-drop, length-take) at l) in

@@ -8,11 +8,13 @@ use lib.Dec.{eqb, leb, ltb}
 use lib.ListN.{length, length-set}
 use Rattle.model.specs.Base.{pick, and}
 use Rattle.model.specs.EId
-use Rattle.model.specs.Drawing.{Element, Source, Event, begin, text, other, close, childrenFrom, hasTagName, quoted, useTarget, valuesIn}
+use Rattle.model.specs.Drawing.{Element, Source, Event, begin, text, other, close, childrenFrom, hasTagName, quoted, useTarget}
+use Rattle.model.specs.Drawing.{valuesIn}
 use Rattle.model.specs.Tables.{Tree, Out, refused, done, then, nodeRoom, attributeRoom, textRoom, cleared, rooted, textOf}
 use Rattle.model.specs.Element.{entriesOf, mostNodes, parseSvgElement}
 use Rattle.model.specs.Text.{totalSize, spaceOf, trimText, joined, appendText, Trimming, stop, look, cut, cutText, run, trimTextNodes}
-use Rattle.model.specs.Parse.{Ops, Builder, each, refuse, tagOf, textTagOf, isTextContent, quote, inside, label, copy, level, node, plain}
+use Rattle.model.specs.Parse.{Ops, Builder, each, refuse, tagOf, textTagOf, isTextContent, quote, inside, label, copy, level, node}
+use Rattle.model.specs.Parse.{plain}
 use Rattle.model.specs.Repair.{Cut, cutEntry, applyCut, applied, repairs, repaired}
 use Rattle.model.specs.Build.{parsed, withRoot, firstIsSvg, tested, parseTree, withRepairs}
 use Rattle.model.specs.Theorems.Unused.{SameLengths, element-lengths, text-lengths, bounds-lengths, none-lengths}
@@ -22,12 +24,14 @@ abbrev pub Always : {S : Type 0} → (S → Type 0) → Out S → Type 0
 Always P (refused k) = k ≡ 0 → ⊥
 Always P (done s) = P s
 
-pub always-then : {S T : Type 0} (P : S → Type 0) (Q : T → Type 0) (o : Out S) (f : S → Out T) → Always P o → ((s : S) → P s → Always Q (f s)) →
+pub always-then : {S T : Type 0} (P : S → Type 0) (Q : T → Type 0) (o : Out S) (f : S → Out T) → Always P o →
+    ((s : S) → P s → Always Q (f s)) →
     Always Q (then o f)
 always-then P Q (refused k) f h g = h
 always-then P Q (done s) f h g = g s h
 
-pub always-pick : {S : Type 0} (P : S → Type 0) (b : Bool) (x y : Unit {0} → Out S) → Always P (x tt) → Always P (y tt) → Always P (pick b x y)
+pub always-pick : {S : Type 0} (P : S → Type 0) (b : Bool) (x y : Unit {0} → Out S) → Always P (x tt) → Always P (y tt) →
+    Always P (pick b x y)
 always-pick P true x y h g = h
 always-pick P false x y h g = g
 
@@ -46,7 +50,8 @@ module _ {S : Type 0} (P : S → Type 0) (o : Ops S) (all : List Event)
       (inside-always e xs zero (o .count s) r g)))
       (inside-always e xs 1 p s h)
   inside-always e (begin x ∷ xs) (suc k) p s h = inside-always e xs (suc (suc k)) p s h
-  inside-always e (text a ∷ xs) zero p s h = always-then P P (o .text e (a ∷ []) p s) _ (tx e (a ∷ []) p s h) (λ r g. inside-always e xs zero p r g)
+  inside-always e (text a ∷ xs) zero p s h = always-then P P (o .text e (a ∷ []) p s) _ (tx e (a ∷ []) p s h)
+      (λ r g. inside-always e xs zero p r g)
   inside-always e (text a ∷ xs) (suc k) p s h = inside-always e xs (suc k) p s h
   inside-always e (other ∷ xs) k p s h = inside-always e xs k p s h
   inside-always e (close ∷ xs) zero p s h = always-pick P (eqb p e) _ _ h (inside-always e xs zero (o .parent p s) s h)
@@ -55,7 +60,8 @@ module _ {S : Type 0} (P : S → Type 0) (o : Ops S) (all : List Event)
   label-always : (x : Element) (xs : List Event) (i : Bool) (p : ℕ) (s : S) → P s → Always P (label o all x xs i p s)
   label-always x xs i p s h =
       always-then P P (o .element x EId.Text i p s) _ (el x EId.Text i p s h) (λ r g.
-      always-then P P (inside o all (o .count s) xs zero (o .count s) r) _ (inside-always (o .count s) xs zero (o .count s) r g) (λ q f. fin (o .count s) q f))
+      always-then P P (inside o all (o .count s) xs zero (o .count s) r) _ (inside-always (o .count s) xs zero (o .count s) r g)
+      (λ q f. fin (o .count s) q f))
 
   -- A way to build a node that keeps it.
   abbrev Keeps : Builder S → Type 0
@@ -103,7 +109,8 @@ run-lengths : (g : Trimming) (t : Tree) → SameLengths (run g t) t
 unfolding run cutText
 run-lengths stop t = record { nodes = refl; attributes = refl; text = refl }
 run-lengths (look i k) t = run-lengths (k (textOf t i)) t
-run-lengths (cut i a b k) t = lengths-then (run k (cutText i a b t)) (cutText i a b t) t (run-lengths k (cutText i a b t)) (bounds-lengths i _ _ t)
+run-lengths (cut i a b k) t = lengths-then (run k (cutText i a b t)) (cutText i a b t) t (run-lengths k (cutText i a b t))
+    (bounds-lengths i _ _ t)
 
 cut-lengths : (t : Tree) (c : Cut) → SameLengths (applyCut t c) t
 unfolding applyCut
@@ -141,7 +148,8 @@ module _ (chars : List ℕ) (base : Tree) where
   text-lent e from p t h =
       always-pick AsLent (leb (t .textCount + totalSize from) (textRoom t)) _ _
       (always-pick AsLent (ltb (t .nodeCount) (nodeRoom t)) _ _
-      (lengths-then _ t base (text-lengths (trimText (spaceOf chars t p) (joined chars from)) (totalSize from) p t) h) (λ x. omega arith)) (λ x. omega arith)
+      (lengths-then _ t base (text-lengths (trimText (spaceOf chars t p) (joined chars from)) (totalSize from) p t) h) (λ x. omega arith))
+      (λ x. omega arith)
 
   finish-lent : (e : ℕ) (t : Tree) → AsLent t → AsLent (plain chars .finish e t)
   unfolding trimTextNodes

@@ -1,19 +1,18 @@
 -- What a cut changes: one value is none, and everything else that the repairs read is as it was.
 use Prim.Native.Nat.{ℕ, zero, suc, _+_, _-_, _*_, _≤_, _<_}
-use mathlib.Core.Path.{_≡_, refl, sym, ap, _∙_, fun-ext}
+use mathlib.Core.Path.{_≡_, refl, sym, ap, _∙_}
 use mathlib.Core.Bool.{Bool, true, false}
 use mathlib.Core.List.{List, [], _∷_}
-use mathlib.Core.Option.{Option, none, some}
 use native.Mathlib.Omega.{arith}
 use native.Mathlib.Decide.{ℕ-discrete, decLt}
 use borrow.Author.Tests.{eqb-true, eqb-false, eq-eqb, ne-eqb}
-use lib.Dec.{eqb, leb}
-use lib.ListN.{length, getD}
-use Rattle.model.specs.Base.{pick, and, given, sameBytes}
+use lib.Dec.{eqb}
+use Rattle.model.specs.Base.{pick, and, sameBytes}
 use Rattle.model.specs.Names.{isPossibleNone, fixedBytes}
 use Rattle.model.specs.AId
-use Rattle.model.specs.Drawing.{Part, Reading, Value, readingsOf, readingOf}
-use Rattle.model.specs.Tables.{Tree, ELEMENT, kindOf, fromOf, toOf, entryWord, entryAt, valueOf, findEntry, attributeId, fixedEntry, attributeOf, valueAtEntry, hasIdBytes, lastWithId, elementById, setNone}
+use Rattle.model.specs.Drawing.{Reading, Value, readingsOf}
+use Rattle.model.specs.Tables.{Tree, ELEMENT, kindOf, fromOf, toOf, entryWord, entryAt, valueOf, findEntry, attributeId, attributeOf}
+use Rattle.model.specs.Tables.{valueAtEntry, hasIdBytes, lastWithId, elementById, setNone}
 use Rattle.model.specs.Repair.{elementId, readingsOfAttribute}
 use Rattle.model.specs.Theorems.Agree.{sets-out}
 use Rattle.model.specs.Theorems.Entries.{none-others, none-entry}
@@ -52,14 +51,20 @@ holds-attribute size t k i a h = go (ℕ-discrete (kindOf t i) ELEMENT)
         let n = find-named t a (fromOf t i) (toOf t i - fromOf t i) (λ z. h (q ∙ z)) in
         let l : i < t .nodeCount = counted (decLt i (t .nodeCount)) in
         let r = k .kept .nodes i l .range e in
-        record { element = e; low = omega (arith, q, f .0); high = omega (arith, q, f .1, r .0); named = ap (λ j. entryWord t (j - 1) 0) q ∙ n }
+        record {
+          element = e;
+          low = omega (arith, q, f .0);
+          high = omega (arith, q, f .1, r .0);
+          named = ap (λ j. entryWord t (j - 1) 0) q ∙ n;
+        }
       where
         counted : Dec (i < t .nodeCount) → i < t .nodeCount
         counted (yes l) = l
         counted (no l) = absurd (let z : _≡_ {A = ℕ} 0 2 = sym (k .unused .nodes (8 * i + 0) (omega arith)) ∙ e in omega arith)
 
 -- One entry is the attribute of one node alone, under one name.
-pub one-owner : (size : ℕ) (t : Tree) → Tidy size t → (i j a b : ℕ) → (attributeId t i a ≡ 0 → ⊥) → attributeId t i a ≡ attributeId t j b → (i ≡ j) × (a ≡ b)
+pub one-owner : (size : ℕ) (t : Tree) → Tidy size t → (i j a b : ℕ) → (attributeId t i a ≡ 0 → ⊥) →
+    attributeId t i a ≡ attributeId t j b → (i ≡ j) × (a ≡ b)
 one-owner size t k i j a b h e =
     let p = holds-attribute size t k i a h in
     let q = holds-attribute size t k j b (λ z. h (e ∙ z)) in
@@ -77,7 +82,8 @@ one-owner size t k i j a b h e =
     owner p q (no d) (yes l) =
         let o = k .ordered i j l (counted j (q .element)) (p .element) (q .element) in absurd (omega (arith, e, p .high, q .low))
     owner p q (no d) (no l) =
-        let o = k .ordered j i (omega arith) (counted i (p .element)) (q .element) (p .element) in absurd (omega (arith, e, p .low, q .high))
+        let o = k .ordered j i (omega arith) (counted i (p .element)) (q .element) (p .element) in
+        absurd (omega (arith, e, p .low, q .high))
 
 -- THE CUT
 
@@ -92,7 +98,8 @@ pub id-same : (n : ℕ) (t : Tree) (i a : ℕ) → attributeId (setNone n t) i a
 unfolding attributeId setNone
 id-same n t i a = go (eqb (kindOf t i) ELEMENT)
   where
-    go : (b : Bool) → pick b (λ u. findEntry (setNone n t) a (fromOf t i) (toOf t i - fromOf t i)) (λ u. 0) ≡ pick b (λ u. findEntry t a (fromOf t i) (toOf t i - fromOf t i)) (λ u. 0)
+    go : (b : Bool) → pick b (λ u. findEntry (setNone n t) a (fromOf t i) (toOf t i - fromOf t i)) (λ u. 0)
+        ≡ pick b (λ u. findEntry t a (fromOf t i) (toOf t i - fromOf t i)) (λ u. 0)
     go true = find-same n t a (fromOf t i) (toOf t i - fromOf t i)
     go false = refl
 
@@ -104,7 +111,8 @@ attribute-there chars t j b z = go (eqb (attributeId t j b) 0) refl z
   where
     read : Bool → ℕ
     read c = pick c (λ u. 0)
-        (λ u. pick (and (isPossibleNone b) (sameBytes (valueAtEntry chars t (attributeId t j b)) (fixedBytes 1))) (λ v. 0) (λ v. attributeId t j b))
+        (λ u. pick (and (isPossibleNone b) (sameBytes (valueAtEntry chars t (attributeId t j b)) (fixedBytes 1))) (λ v. 0)
+        (λ v. attributeId t j b))
 
     inner : (c : Bool) → (pick c (λ v. 0) (λ v. attributeId t j b) ≡ 0 → ⊥) → pick c (λ v. 0) (λ v. attributeId t j b) ≡ attributeId t j b
     inner true y = absurd (y refl)
@@ -115,16 +123,20 @@ attribute-there chars t j b z = go (eqb (attributeId t j b) 0) refl z
     go false e y = (inner (and (isPossibleNone b) (sameBytes (valueAtEntry chars t (attributeId t j b)) (fixedBytes 1))) y, eqb-false _ 0 e)
 
 -- The attribute a of node i is cut.
-module _ (size : ℕ) (chars : List ℕ) (values : List Value) (bare : readingsOf 0 values ≡ []) (t : Tree) (k : Tidy size t) (i a : ℕ) (h : attributeId t i a ≡ 0 → ⊥) where
+module _ (size : ℕ) (chars : List ℕ) (values : List Value) (bare : readingsOf 0 values ≡ []) (t : Tree) (k : Tidy size t) (i a : ℕ)
+    (h : attributeId t i a ≡ 0 → ⊥) where
   abbrev pub after : Tree
   after = setNone (attributeId t i a - 1) t
 
   -- The entry of any other attribute is as it was.
-  entry-kept : (j b : ℕ) → (attributeId t j b ≡ 0 → ⊥) → (j ≡ i → b ≡ a → ⊥) → entryAt after (attributeId t j b - 1) ≡ entryAt t (attributeId t j b - 1)
+  pub entry-kept : (j b : ℕ) → (attributeId t j b ≡ 0 → ⊥) → (j ≡ i → b ≡ a → ⊥) →
+      entryAt after (attributeId t j b - 1) ≡ entryAt t (attributeId t j b - 1)
   entry-kept j b z d = none-others (attributeId t i a - 1) t (attributeId t j b - 1)
-      (λ e. let q : attributeId t i a ≡ attributeId t j b = omega arith in let o = one-owner size t k i j a b h q in d (sym (o .0)) (sym (o .1)))
+      (λ e. let q : attributeId t i a ≡ attributeId t j b = omega arith in let o = one-owner size t k i j a b h q in
+      d (sym (o .0)) (sym (o .1)))
 
-  value-kept : (j b : ℕ) → (attributeId t j b ≡ 0 → ⊥) → (j ≡ i → b ≡ a → ⊥) → valueAtEntry chars after (attributeId t j b) ≡ valueAtEntry chars t (attributeId t j b)
+  value-kept : (j b : ℕ) → (attributeId t j b ≡ 0 → ⊥) → (j ≡ i → b ≡ a → ⊥) →
+      valueAtEntry chars after (attributeId t j b) ≡ valueAtEntry chars t (attributeId t j b)
   value-kept j b z d = ap (valueOf chars) (entry-kept j b z d)
 
   -- What it counts as, and its readings.
@@ -134,7 +146,8 @@ module _ (size : ℕ) (chars : List ℕ) (values : List Value) (bare : readingsO
     where
       read : Tree → ℕ
       read u = pick (eqb (attributeId t j b) 0) (λ x. 0)
-          (λ x. pick (and (isPossibleNone b) (sameBytes (valueAtEntry chars u (attributeId t j b)) (fixedBytes 1))) (λ y. 0) (λ y. attributeId t j b))
+          (λ x. pick (and (isPossibleNone b) (sameBytes (valueAtEntry chars u (attributeId t j b)) (fixedBytes 1))) (λ y. 0)
+          (λ y. attributeId t j b))
 
       go : Dec (attributeId t j b ≡ 0) → read after ≡ read t
       go (yes e) = rw (eq-eqb _ 0 e) refl
@@ -152,7 +165,8 @@ module _ (size : ℕ) (chars : List ℕ) (values : List Value) (bare : readingsO
       go (yes e) = rw (eq-eqb _ 0 e) refl
       go (no e) =
           let f = attribute-there chars t j b e in
-          let q : entryAt after (attributeOf chars t j b - 1) ≡ entryAt t (attributeOf chars t j b - 1) = rw (f .0) (entry-kept j b (f .1) d) in
+          let q : entryAt after (attributeOf chars t j b - 1) ≡ entryAt t (attributeOf chars t j b - 1) =
+          rw (f .0) (entry-kept j b (f .1) d) in
           ap (λ x. pick (eqb (attributeOf chars t j b) 0) (λ x. []) (λ y. readingsOf (x .command) values)) q
 
   -- The cut value has no readings.
@@ -165,10 +179,12 @@ module _ (size : ℕ) (chars : List ℕ) (values : List Value) (bare : readingsO
           (omega (arith, attribute-any size t (k .kept) (k .unused) i a h, k .kept .fits .entries)))
 
       go : Dec (attributeOf chars after i a ≡ 0) →
-          pick (eqb (attributeOf chars after i a) 0) (λ u. []) (λ u. readingsOf (entryAt after (attributeOf chars after i a - 1) .command) values) ≡ []
+          pick (eqb (attributeOf chars after i a) 0) (λ u. []) (λ u. readingsOf (entryAt after (attributeOf chars after i a - 1) .command)
+          values) ≡ []
       go (yes e) = rw (eq-eqb _ 0 e) refl
       go (no e) =
-          let f : attributeOf chars after i a ≡ attributeId t i a = attribute-there chars after i a e .0 ∙ id-same (attributeId t i a - 1) t i a in
+          let f : attributeOf chars after i a ≡ attributeId t i a = attribute-there chars after i a e .0 ∙ id-same (attributeId t i a - 1)
+          t i a in
           rw (ne-eqb _ 0 e, f, fixed) bare
 
   -- Ids are as they were, where the name is not `id`.
@@ -203,4 +219,5 @@ module _ (size : ℕ) (chars : List ℕ) (values : List Value) (bare : readingsO
 
         go : Dec (attributeId t j AId.Id ≡ 0) → bytes after ≡ bytes t
         go (yes e) = rw (eq-eqb _ 0 e) refl
-        go (no e) = ap (λ (v : List ℕ). pick (eqb (attributeId t j AId.Id) 0) (λ x. []) (λ x. v)) (value-kept j AId.Id e (λ x y. other (sym y)))
+        go (no e) = ap (λ (v : List ℕ). pick (eqb (attributeId t j AId.Id) 0) (λ x. []) (λ x. v))
+            (value-kept j AId.Id e (λ x y. other (sym y)))

@@ -15,8 +15,11 @@ use Rattle.model.specs.Names.{isAttribute, allowsInheritValue, inheritDe
 use Rattle.model.specs.EId
 use Rattle.model.specs.AId
 use Rattle.model.specs.Drawing.{Part, Reading, Value, Attribute, Declaration, Element, readingOf}
-use Rattle.model.specs.Tables.{Tree, Entry, entryWords, entriesWords, entryWord, entryAt, attributeId, hasAttribute, parentOf, holderFrom, fixedEntry, addElement, setNone}
-use Rattle.model.specs.Element.{inheritWord, marker, inheritedFrom, defaultOf, resolveInherit, appendAttribute, isTaken, hasEntry, onFirst, withValue, withMore, addAttribute, standing, insertEntry, fontParts, insertAttribute, resetTo, insertPart, isRead, writeDeclaration, entriesOf}
+use Rattle.model.specs.Tables.{Tree, Entry, entryWords, entriesWords, entryWord, entryAt, attributeId, hasAttribute, parentOf}
+use Rattle.model.specs.Tables.{holderFrom, fixedEntry, addElement, setNone}
+use Rattle.model.specs.Element.{inheritWord, marker, inheritedFrom, defaultOf, resolveInherit, appendAttribute, isTaken, hasEntry}
+use Rattle.model.specs.Element.{onFirst, withValue, withMore, addAttribute, standing, insertEntry, fontParts, insertAttribute}
+use Rattle.model.specs.Element.{resetTo, insertPart, isRead, writeDeclaration, entriesOf}
 use Rattle.model.specs.Theorems.Sim.{Every, and-left, and-right}
 use Rattle.model.specs.Theorems.Agree.{sets-in, sets-out}
 
@@ -97,7 +100,8 @@ unfolding holderFrom
 holder-falls t a zero w h = omega arith
 holder-falls t a (suc n) w h = at (eqb w 0) refl (holder-falls t a n (parentOf t (w - 1)))
   where
-    at : (b : Bool) → eqb w 0 ≡ b → (((i : ℕ) → i < parentOf t (w - 1) → parentOf t i ≤ i) → holderFrom t a n (parentOf t (w - 1)) ≤ parentOf t (w - 1)) →
+    at : (b : Bool) → eqb w 0 ≡ b → (((i : ℕ) → i < parentOf t (w - 1) → parentOf t i ≤ i) →
+        holderFrom t a n (parentOf t (w - 1)) ≤ parentOf t (w - 1)) →
         pick b (λ u. 0) (λ u. pick (hasAttribute t (w - 1) a) (λ v. w) (λ v. holderFrom t a n (parentOf t (w - 1)))) ≤ w
     at true e r = omega arith
     at false e r = on (hasAttribute t (w - 1) a)
@@ -107,7 +111,8 @@ holder-falls t a (suc n) w h = at (eqb w 0) refl (holder-falls t a n (parentOf t
 
         on : (b : Bool) → pick b (λ v. w) (λ v. holderFrom t a n (parentOf t (w - 1))) ≤ w
         on true = omega arith
-        on false = let f : holderFrom t a n (parentOf t (w - 1)) ≤ parentOf t (w - 1) = r (λ i l. h i (omega (arith, low))) in omega (arith, low)
+        on false = let f : holderFrom t a n (parentOf t (w - 1)) ≤ parentOf t (w - 1) = r (λ i l. h i (omega (arith, low))) in
+            omega (arith, low)
 
 -- THE LAW
 
@@ -115,7 +120,8 @@ holder-falls t a (suc n) w h = at (eqb w 0) refl (holder-falls t a n (parentOf t
 abbrev pub ReadFrom : (Part → ℕ → Type 0) → Element → Type 0
 ReadFrom Q e =
     Every (λ (a : Attribute). Q (a .value .part) (a .value .command)) (e .attributes)
-    × Every (λ (d : Declaration). Q (d .value .part) (d .value .command) × Every (λ (r : Reading). Q (r .part) (d .value .command)) (d .value .readings))
+    × Every (λ (d : Declaration). Q (d .value .part) (d .value .command) × Every (λ (r : Reading). Q (r .part) (d .value .command))
+    (d .value .readings))
     (e .declarations)
 
 -- P holds of an entry made from a value of which Q holds, of a fixed value, and of an entry with another such value.
@@ -151,13 +157,15 @@ module _ (P : Entry → Type 0) (Q : Part → ℕ → Type 0) (k : Closed P Q) w
   unfolding insertEntry
   every-insert a es none h g = h
   every-insert a es (some e) h g =
-      every-pick (hasEntry a es) _ _ (λ b. every-first (standing e) a es (λ x s. old-or-new x s (eqb (x .important) 0)) h) (λ b. every-more es e h g)
+      every-pick (hasEntry a es) _ _ (λ b. every-first (standing e) a es (λ x s. old-or-new x s (eqb (x .important) 0)) h)
+      (λ b. every-more es e h g)
     where
       old-or-new : (x : Entry) → P x → (b : Bool) → P (pick b (λ u. e) (λ u. x))
       old-or-new x s true = g
       old-or-new x s false = s
 
-  every-folded : {A : Type 0} (f : List Entry → A → List Entry) (H : A → Type 0) → ((es : List Entry) (a : A) → H a → Every P es → Every P (f es a)) →
+  every-folded : {A : Type 0} (f : List Entry → A → List Entry) (H : A → Type 0) → ((es : List Entry) (a : A) → H a → Every P es →
+      Every P (f es a)) →
       (es : List Entry) (xs : List A) → Every H xs → Every P es → Every P (folded f es xs)
   every-folded f H g es [] h s = s
   every-folded f H g es (x ∷ xs) h s = every-folded f H g (f es x) xs (h .1) (g es x (h .0) s)
@@ -185,18 +193,21 @@ module _ (P : Entry → Type 0) (Q : Part → ℕ → Type 0) (k : Closed P Q) w
         last = if-pick (eqb (inheritDefault a) 0) _ _ (λ b. tt) (λ b. k .fixed a 0 (inheritDefault a) x (default-fixed a (eqb-false _ 0 b)))
 
         copied : (w : ℕ) → w ≤ p + 1 → (b : Bool) → eqb w 0 ≡ b →
-            IfAny (given (let j : ℕ = pick b (λ u. 0) (λ u. attributeId t (w - 1) a) in pick (eqb j 0) (λ u. none) (λ u. some (entryAt t (j - 1))))
+            IfAny (given (let j : ℕ = pick b (λ u. 0) (λ u. attributeId t (w - 1) a) in
+            pick (eqb j 0) (λ u. none) (λ u. some (entryAt t (j - 1))))
             (λ e. some e) (λ u. defaultOf t p a (inheritDefault a)))
         copied w l true e = last
         copied w l false e = one (eqb (attributeId t (w - 1) a) 0) refl
           where
             one : (b : Bool) → eqb (attributeId t (w - 1) a) 0 ≡ b →
-                IfAny (given (pick b (λ u. none) (λ u. some (entryAt t (attributeId t (w - 1) a - 1)))) (λ e. some e) (λ u. defaultOf t p a (inheritDefault a)))
+                IfAny (given (pick b (λ u. none) (λ u. some (entryAt t (attributeId t (w - 1) a - 1)))) (λ e. some e)
+                (λ u. defaultOf t p a (inheritDefault a)))
             one true f = last
             one false f = held (w - 1) a (omega arith) (eqb-false _ 0 f)
 
         go : (w : ℕ) → w ≤ p + 1 →
-            IfAny (given (let j : ℕ = pick (eqb w 0) (λ u. 0) (λ u. attributeId t (w - 1) a) in pick (eqb j 0) (λ u. none) (λ u. some (entryAt t (j - 1))))
+            IfAny (given (let j : ℕ = pick (eqb w 0) (λ u. 0) (λ u. attributeId t (w - 1) a) in
+            pick (eqb j 0) (λ u. none) (λ u. some (entryAt t (j - 1))))
             (λ e. some e) (λ u. defaultOf t p a (inheritDefault a)))
         go w l = copied w l (eqb w 0) refl
 
@@ -206,7 +217,8 @@ module _ (P : Entry → Type 0) (Q : Part → ℕ → Type 0) (k : Closed P Q) w
         if-pick (or (or (eqb a AId.Style) (eqb a AId.Class)) (and (eqb tag EId.Tspan) (eqb a AId.Href))) _ _ (λ b. tt)
         (λ b. if-pick (and (allowsInheritValue a) (sameBytes (v .bytes) inheritWord)) _ _ (λ b′. resolved a x) (λ b′. k .made a i v c x h))
 
-    adding : (g : Bool) (es : List Entry) (x : Attribute) → Q (x .value .part) (x .value .command) → Every P es → Every P (addAttribute t p tag g es x)
+    adding : (g : Bool) (es : List Entry) (x : Attribute) → Q (x .value .part) (x .value .command) → Every P es →
+        Every P (addAttribute t p tag g es x)
     unfolding addAttribute isTaken
     adding g es x h s =
         every-pick (not (isTaken g x)) _ _ (λ b. s)
@@ -217,14 +229,18 @@ module _ (P : Entry → Type 0) (Q : Part → ℕ → Type 0) (k : Closed P Q) w
         (appending (x .name) 0 (x .value .part) (x .value .command) (taken (isTaken g x) refl b) h)))
       where
         taken : (b : Bool) → isTaken g x ≡ b → not b ≡ false → isAttribute (x .name) ≡ true
-        taken true e f = and-right (leb (x .namespace) 3) (isAttribute (x .name)) (and-left (and (leb (x .namespace) 3) (isAttribute (x .name))) _ e)
+        taken true e f = and-right (leb (x .namespace) 3) (isAttribute (x .name))
+            (and-left (and (leb (x .namespace) 3) (isAttribute (x .name))) _ e)
         taken false e f = let z : _≡_ {A = ℕ} 0 1 = ap (λ (c : Bool). pick c (λ u. 1) (λ u. 0)) (sym f) in absurd (omega arith)
 
-    module _ (d : Declaration) (h : Q (d .value .part) (d .value .command)) (hs : Every (λ (r : Reading). Q (r .part) (d .value .command)) (d .value .readings)) where
-      inserting : (es : List Entry) (a : ℕ) (v : Part) → isAttribute a ≡ true → Q v (d .value .command) → Every P es → Every P (insertAttribute t p tag d es a v)
+    module _ (d : Declaration) (h : Q (d .value .part) (d .value .command)) (hs : Every (λ (r : Reading). Q (r .part) (d .value .command))
+        (d .value .readings)) where
+      inserting : (es : List Entry) (a : ℕ) (v : Part) → isAttribute a ≡ true → Q v (d .value .command) → Every P es →
+          Every P (insertAttribute t p tag d es a v)
       inserting es a v x g s = every-insert a es _ s (appending a (d .important) v (d .value .command) x g)
 
-      reading : (n : ℕ) (rs : List Reading) → Every (λ (r : Reading). Q (r .part) (d .value .command)) rs → (es : List Entry) (a : ℕ) → isAttribute a ≡ true →
+      reading : (n : ℕ) (rs : List Reading) → Every (λ (r : Reading). Q (r .part) (d .value .command)) rs → (es : List Entry) (a : ℕ) →
+          isAttribute a ≡ true →
           Every P es → Every P (given (readingOf n rs) (λ v. insertAttribute t p tag d es a v) (λ u. es))
       unfolding readingOf
       reading n [] g es a x s = s
@@ -235,22 +251,26 @@ module _ (P : Entry → Type 0) (Q : Part → ℕ → Type 0) (k : Closed P Q) w
           go true q = inserting es a (r .part) x (g .0) s
           go false q = q
 
-      resetting : (es : List Entry) (r : Pair) → and (isAttribute (r .key)) (isFixed (r .value)) ≡ true → Every P es → Every P (resetTo t p tag d es r)
+      resetting : (es : List Entry) (r : Pair) → and (isAttribute (r .key)) (isFixed (r .value)) ≡ true → Every P es →
+          Every P (resetTo t p tag d es r)
       resetting es r x s = every-insert (r .key) es (some (fixedEntry (r .key) (d .important) (r .value))) s
-          (k .fixed (r .key) (d .important) (r .value) (and-left (isAttribute (r .key)) _ x) (fixed-facts (r .value) (and-right (isAttribute (r .key)) _ x)))
+          (k .fixed (r .key) (d .important) (r .value) (and-left (isAttribute (r .key)) _ x)
+          (fixed-facts (r .value) (and-right (isAttribute (r .key)) _ x)))
 
       writing : (es : List Entry) → Every P es → Every P (writeDeclaration t p tag d es)
       unfolding writeDeclaration
       writing es s =
           every-pick (eqb (d .name) marker) _ _
           (λ b. every-folded (λ es a. insertAttribute t p tag d es a (d .value .part)) (λ a. isAttribute a ≡ true)
-          (λ es a x q. inserting es a (d .value .part) x h q) es (AId.MarkerStart ∷ AId.MarkerMid ∷ AId.MarkerEnd ∷ []) markers-attributes s)
+          (λ es a x q. inserting es a (d .value .part) x h q) es (AId.MarkerStart ∷ AId.MarkerMid ∷ AId.MarkerEnd ∷ []) markers-attributes
+          s)
           (λ b. every-pick (eqb (d .name) AId.Font) _ _
           (λ b′. every-pick (and (isRead t p tag d 9) (isRead t p tag d 10)) _ _
           (λ b″. every-folded (insertPart t p tag d) (λ (n : Pair). isAttribute (n .value) ≡ true)
           (λ es n x q. reading (n .key) (d .value .readings) hs es (n .value) x q)
           (folded (resetTo t p tag d) es fontResets) fontParts parts-attributes
-          (every-folded (resetTo t p tag d) (λ (r : Pair). and (isAttribute (r .key)) (isFixed (r .value)) ≡ true) resetting es fontResets resets-fixed s))
+          (every-folded (resetTo t p tag d) (λ (r : Pair). and (isAttribute (r .key)) (isFixed (r .value)) ≡ true) resetting es fontResets
+          resets-fixed s))
           (λ b″. s))
           (λ b′. every-pick (isPresentation (d .name)) _ _
           (λ b″. inserting es (d .name) (d .value .part) (presentation-attribute (d .name) b″) h s) (λ b″. s)))
@@ -260,14 +280,16 @@ module _ (P : Entry → Type 0) (Q : Part → ℕ → Type 0) (k : Closed P Q) w
     unfolding entriesOf
     every-entry g e h =
         every-folded (λ es d. writeDeclaration t p tag d es)
-        (λ (d : Declaration). Q (d .value .part) (d .value .command) × Every (λ (r : Reading). Q (r .part) (d .value .command)) (d .value .readings))
+        (λ (d : Declaration). Q (d .value .part) (d .value .command) × Every (λ (r : Reading). Q (r .part) (d .value .command))
+        (d .value .readings))
         (λ es d q s. writing d (q .0) (q .1) es s) (folded (addAttribute t p tag g) [] (e .attributes)) (e .declarations) (h .1)
-        (every-folded (addAttribute t p tag g) (λ (a : Attribute). Q (a .value .part) (a .value .command)) (λ es a q s. adding g es a q s) [] (e .attributes) (h .0) tt)
+        (every-folded (addAttribute t p tag g) (λ (a : Attribute). Q (a .value .part) (a .value .command)) (λ es a q s. adding g es a q s)
+        [] (e .attributes) (h .0) tt)
 
 -- STORING ENTRIES
 
 -- The words of an entry that is read are those of the table.
-entry-word : (t : Tree) (j w : ℕ) → w < 5 → getD (entryWords (entryAt t j)) w 0 ≡ entryWord t j w
+pub entry-word : (t : Tree) (j w : ℕ) → w < 5 → getD (entryWords (entryAt t j)) w 0 ≡ entryWord t j w
 unfolding entryAt
 entry-word t j zero l = refl
 entry-word t j (suc zero) l = refl
@@ -279,8 +301,13 @@ entry-word t j (suc (suc (suc (suc (suc w))))) l = absurd (omega arith)
 -- Two entries with the same words are the same.
 pub entry-by-words : (s t : Tree) (i : ℕ) → ((k : ℕ) → k < 5 → entryWord s i k ≡ entryWord t i k) → entryAt s i ≡ entryAt t i
 unfolding entryAt
-entry-by-words s t i f = λ x. record
-    { name = f 0 (omega arith) x; important = f 1 (omega arith) x; start = f 2 (omega arith) x; size = f 3 (omega arith) x; command = f 4 (omega arith) x }
+entry-by-words s t i f = λ x. record {
+  name = f 0 (omega arith) x;
+  important = f 1 (omega arith) x;
+  start = f 2 (omega arith) x;
+  size = f 3 (omega arith) x;
+  command = f 4 (omega arith) x;
+}
 
 pub entries-long : (es : List Entry) → length (entriesWords es) ≡ 5 * length es
 unfolding entriesWords
@@ -293,8 +320,13 @@ words-every : (P : Entry → Type 0) (es : List Entry) → Every P es → (k : �
 unfolding entriesWords
 words-every P [] h k l e f = absurd (omega arith)
 words-every P (x ∷ es) h zero l e f =
-    let q : e ≡ x = λ i. record
-    { name = f 0 (omega arith) i; important = f 1 (omega arith) i; start = f 2 (omega arith) i; size = f 3 (omega arith) i; command = f 4 (omega arith) i } in
+    let q : e ≡ x = λ i. record {
+      name = f 0 (omega arith) i;
+      important = f 1 (omega arith) i;
+      start = f 2 (omega arith) i;
+      size = f 3 (omega arith) i;
+      command = f 4 (omega arith) i;
+    } in
     rw q (h .0)
 words-every P (x ∷ es) h (suc k) l e f =
     words-every P es (h .1) k (omega arith) e (λ w b. f w b ∙ ap (λ j. getD (entriesWords (x ∷ es)) j 0) (place w))
@@ -304,9 +336,11 @@ words-every P (x ∷ es) h (suc k) l e f =
 
 module _ (c : ℕ) (es : List Entry) (p : ℕ) (t : Tree) where
   -- An entry that is none of the new ones is as it was.
-  pub old-entry : (j : ℕ) → ((t .attributeCount ≤ j → j < t .attributeCount + length es → ⊥)) → entryAt (addElement c es p t) j ≡ entryAt t j
+  pub old-entry : (j : ℕ) → ((t .attributeCount ≤ j → j < t .attributeCount + length es → ⊥)) →
+      entryAt (addElement c es p t) j ≡ entryAt t j
   unfolding addElement
-  old-entry j h = entry-by-words (addElement c es p t) t j (λ k b. sets-out (entriesWords es) (t .attributes) (5 * t .attributeCount) (5 * j + k)
+  old-entry j h = entry-by-words (addElement c es p t) t j (λ k b. sets-out (entriesWords es) (t .attributes) (5 * t .attributeCount)
+      (5 * j + k)
       (λ x y. h (omega arith) (omega (arith, entries-long es))))
 
   -- What holds of all new entries holds of each where it stands.
@@ -316,7 +350,8 @@ module _ (c : ℕ) (es : List Entry) (p : ℕ) (t : Tree) where
   new-entry P h room j a b =
       words-every P es h (j - n) (omega arith) (entryAt (addElement c es p t) j) (λ w l.
       entry-word (addElement c es p t) j w l ∙ ap (λ q. getD (sets (t .attributes) (5 * n) (entriesWords es)) q 0) (place w)
-      ∙ sets-in (entriesWords es) (t .attributes) (5 * n) (5 * (j - n) + w) (omega (arith, entries-long es)) (omega (arith, entries-long es)))
+      ∙ sets-in (entriesWords es) (t .attributes) (5 * n) (5 * (j - n) + w) (omega (arith, entries-long es))
+      (omega (arith, entries-long es)))
     where
       n : ℕ
       n = t .attributeCount
@@ -329,19 +364,27 @@ module _ (c : ℕ) (es : List Entry) (p : ℕ) (t : Tree) where
 -- The other entries are as they were.
 pub none-others : (j : ℕ) (t : Tree) (i : ℕ) → (i ≡ j → ⊥) → entryAt (setNone j t) i ≡ entryAt t i
 unfolding setNone
-none-others j t i d = entry-by-words (setNone j t) t i (λ k b. sets-out (1 ∷ 0 ∷ 0 ∷ []) (t .attributes) (5 * j + 2) (5 * i + k) (λ x y. d (omega arith)))
+none-others j t i d = entry-by-words (setNone j t) t i (λ k b. sets-out (1 ∷ 0 ∷ 0 ∷ []) (t .attributes) (5 * j + 2) (5 * i + k)
+    (λ x y. d (omega arith)))
 
 -- The entry itself has fixed value 1, its name and importance kept.
 pub none-entry : (j : ℕ) (t : Tree) → 5 * j + 5 ≤ length (t .attributes) →
     entryAt (setNone j t) j ≡ fixedEntry (entryAt t j .name) (entryAt t j .important) 1
 unfolding setNone entryAt
-none-entry j t room = λ x. record { name = kept 0 (omega arith) x; important = kept 1 (omega arith) x; start = new 0 (omega arith) x; size = new 1 (omega arith) x; command = new 2 (omega arith) x }
+none-entry j t room = λ x. record {
+  name = kept 0 (omega arith) x;
+  important = kept 1 (omega arith) x;
+  start = new 0 (omega arith) x;
+  size = new 1 (omega arith) x;
+  command = new 2 (omega arith) x;
+}
   where
     kept : (w : ℕ) → w < 2 → getD (sets (t .attributes) (5 * j + 2) (1 ∷ 0 ∷ 0 ∷ [])) (5 * j + w) 0 ≡ getD (t .attributes) (5 * j + w) 0
     kept w b = sets-out (1 ∷ 0 ∷ 0 ∷ []) (t .attributes) (5 * j + 2) (5 * j + w) (λ x y. omega arith)
 
     new : (w : ℕ) → w < 3 → getD (sets (t .attributes) (5 * j + 2) (1 ∷ 0 ∷ 0 ∷ [])) (5 * j + (2 + w)) 0 ≡ getD (1 ∷ 0 ∷ 0 ∷ []) w 0
-    new w b = ap (λ q. getD (sets (t .attributes) (5 * j + 2) (1 ∷ 0 ∷ 0 ∷ [])) q 0) (place w) ∙ sets-in (1 ∷ 0 ∷ 0 ∷ []) (t .attributes) (5 * j + 2) w (omega arith) (omega arith)
+    new w b = ap (λ q. getD (sets (t .attributes) (5 * j + 2) (1 ∷ 0 ∷ 0 ∷ [])) q 0) (place w) ∙ sets-in (1 ∷ 0 ∷ 0 ∷ []) (t .attributes)
+        (5 * j + 2) w (omega arith) (omega arith)
       where
         place : (w : ℕ) → 5 * j + (2 + w) ≡ 5 * j + 2 + w
         place w = omega arith

@@ -1,5 +1,5 @@
 -- The repairs without starting over: the cuts of a pass, found going on after each cut, are those that are found from the start again.
-use Prim.Native.Nat.{ℕ, zero, suc, _+_, _-_, _*_, _≤_, _<_}
+use Prim.Native.Nat.{ℕ, zero, suc, _+_, _-_, _≤_, _<_}
 use mathlib.Core.Path.{_≡_, refl, sym, ap, _∙_, fun-ext}
 use mathlib.Core.Bool.{Bool, true, false, not}
 use mathlib.Core.List.{List, [], _∷_, _++_, append-assoc}
@@ -7,18 +7,20 @@ use mathlib.Core.Option.{Option, none, some}
 use native.Mathlib.Omega.{arith}
 use native.Mathlib.Decide.{ℕ-discrete}
 use native.Mathlib.Numerals.{add-one}
-use borrow.Author.Tests.{eqb-true, eqb-false, eq-eqb, ne-eqb, leb-true}
+use borrow.Author.Tests.{eqb-true, eq-eqb, ne-eqb}
 use lib.Dec.{eqb, leb}
 use lib.ListN.{getD}
 use Rattle.model.specs.Base.{pick, given, sameBytes, Pair}
 use Rattle.model.specs.EId
 use Rattle.model.specs.AId
-use Rattle.model.specs.Drawing.{Part, Reading, Value, readingsOf, readingOf}
-use Rattle.model.specs.Tables.{Tree, isNamed, parentOf, entryAt, attributeId, attributeOf, elementById, setNone}
-use Rattle.model.specs.Repair.{upFrom, allNamed, belowFrom, descendants, firstFound, ifPasses, firstBelow, linkKind, elementId, readingsOfAttribute, linkOf, paintsWith, nodeAttribute, recursivePatternAt, findRecursivePattern, recursiveLinkAt, findRecursiveLink, Cut, cutName, cutEntry, cutAt, applyCut, applied, nextCut, cutsFrom, cutsOf}
+use Rattle.model.specs.Drawing.{Part, Value, readingsOf, readingOf}
+use Rattle.model.specs.Tables.{Tree, parentOf, entryAt, attributeId, attributeOf, elementById, setNone}
+use Rattle.model.specs.Repair.{upFrom, allNamed, belowFrom, descendants, firstFound, ifPasses, firstBelow, linkKind, elementId}
+use Rattle.model.specs.Repair.{readingsOfAttribute, linkOf, paintsWith, nodeAttribute, recursivePatternAt, findRecursivePattern}
+use Rattle.model.specs.Repair.{recursiveLinkAt, findRecursiveLink, Cut, cutName, cutAt, applyCut, applied, nextCut, cutsFrom}
 use Rattle.model.specs.Theorems.Entries.{absurd-bool, none-others, none-entry}
 use Rattle.model.specs.Theorems.Kept.{Tidy, tidy-none, attribute-any}
-use Rattle.model.specs.Theorems.Cuts.{attribute-there, id-same, readings-kept, readings-gone, by-id-kept, element-id-kept}
+use Rattle.model.specs.Theorems.Cuts.{attribute-there, readings-kept, readings-gone, by-id-kept, element-id-kept}
 
 -- SEARCHES IN RISING LISTS
 
@@ -67,12 +69,14 @@ module _ (f g : ℕ → Bool) (m : ℕ) (w : Without f g m) where
   first-passing n [] h e = absurd (omega arith)
   first-passing n (x ∷ xs) h e = go (f x) refl e (first-passing (x + 1) xs (h .1)) (ℕ-discrete x m)
     where
-      go : (b : Bool) → f x ≡ b → (let r : ℕ = pick b (λ u. x + 1) (λ u. 0) in pick (eqb r 0) (λ u. firstFound (ifPasses f) xs) (λ u. r)) ≡ m + 1 →
+      go : (b : Bool) → f x ≡ b → (let r : ℕ = pick b (λ u. x + 1) (λ u. 0) in pick (eqb r 0) (λ u. firstFound (ifPasses f) xs) (λ u. r))
+          ≡ m + 1 →
           (firstFound (ifPasses f) xs ≡ m + 1 → passing f xs ≡ m ∷ passing g xs) → Dec (x ≡ m) →
           pick b (λ u. x ∷ passing f xs) (λ u. passing f xs) ≡ m ∷ pick (g x) (λ u. x ∷ passing g xs) (λ u. passing g xs)
       go true y z r (yes d) = rw (d, w .gone) (ap (λ l. m ∷ l) (sym (above-same (x + 1) xs (omega arith) (h .1))))
       go true y z r (no d) =
-          let q : pick (eqb (x + 1) 0) (λ u. firstFound (ifPasses f) xs) (λ u. x + 1) ≡ x + 1 = rw (ne-eqb (x + 1) 0 (λ o. omega arith)) refl in
+          let q : pick (eqb (x + 1) 0) (λ u. firstFound (ifPasses f) xs) (λ u. x + 1) ≡ x + 1 = rw (ne-eqb (x + 1) 0 (λ o. omega arith))
+          refl in
           absurd (d (omega (arith, q, z)))
       go false y z r (yes d) = rw (d, w .gone) (r z)
       go false y z r (no d) = rw (w .others x d, y) (r z)
@@ -83,11 +87,13 @@ module _ (f g : ℕ → Bool) (m : ℕ) (w : Without f g m) where
   still-nothing [] e = refl
   still-nothing (x ∷ xs) e = go (f x) refl e (still-nothing xs) (ℕ-discrete x m)
     where
-      go : (b : Bool) → f x ≡ b → (let r : ℕ = pick b (λ u. x + 1) (λ u. 0) in pick (eqb r 0) (λ u. firstFound (ifPasses f) xs) (λ u. r)) ≡ 0 →
+      go : (b : Bool) → f x ≡ b → (let r : ℕ = pick b (λ u. x + 1) (λ u. 0) in pick (eqb r 0) (λ u. firstFound (ifPasses f) xs) (λ u. r))
+          ≡ 0 →
           (firstFound (ifPasses f) xs ≡ 0 → firstFound (ifPasses g) xs ≡ 0) → Dec (x ≡ m) →
           (let r : ℕ = pick (g x) (λ u. x + 1) (λ u. 0) in pick (eqb r 0) (λ u. firstFound (ifPasses g) xs) (λ u. r)) ≡ 0
       go true y z r d =
-          let q : pick (eqb (x + 1) 0) (λ u. firstFound (ifPasses f) xs) (λ u. x + 1) ≡ x + 1 = rw (ne-eqb (x + 1) 0 (λ o. omega arith)) refl in
+          let q : pick (eqb (x + 1) 0) (λ u. firstFound (ifPasses f) xs) (λ u. x + 1) ≡ x + 1 = rw (ne-eqb (x + 1) 0 (λ o. omega arith))
+          refl in
           absurd (omega (arith, q, z))
       go false y z r (yes d) = rw (d, w .gone) (r z)
       go false y z r (no d) = rw (w .others x d, y) (r z)
@@ -100,7 +106,8 @@ none-passing f (x ∷ xs) e = go (f x) e (none-passing f xs)
     go : (b : Bool) → (let r : ℕ = pick b (λ u. x + 1) (λ u. 0) in pick (eqb r 0) (λ u. firstFound (ifPasses f) xs) (λ u. r)) ≡ 0 →
         (firstFound (ifPasses f) xs ≡ 0 → passing f xs ≡ []) → pick b (λ u. x ∷ passing f xs) (λ u. passing f xs) ≡ []
     go true z r =
-        let q : pick (eqb (x + 1) 0) (λ u. firstFound (ifPasses f) xs) (λ u. x + 1) ≡ x + 1 = rw (ne-eqb (x + 1) 0 (λ o. omega arith)) refl in
+        let q : pick (eqb (x + 1) 0) (λ u. firstFound (ifPasses f) xs) (λ u. x + 1) ≡ x + 1 = rw (ne-eqb (x + 1) 0 (λ o. omega arith))
+        refl in
         absurd (omega (arith, q, z))
     go false z r = r z
 
@@ -110,10 +117,12 @@ unfolding firstFound
 found-passes f [] m e = absurd (omega arith)
 found-passes f (x ∷ xs) m e = go (f x) refl e (found-passes f xs m)
   where
-    go : (b : Bool) → f x ≡ b → (let r : ℕ = pick b (λ u. x + 1) (λ u. 0) in pick (eqb r 0) (λ u. firstFound (ifPasses f) xs) (λ u. r)) ≡ m + 1 →
+    go : (b : Bool) → f x ≡ b → (let r : ℕ = pick b (λ u. x + 1) (λ u. 0) in pick (eqb r 0) (λ u. firstFound (ifPasses f) xs) (λ u. r))
+        ≡ m + 1 →
         (firstFound (ifPasses f) xs ≡ m + 1 → f m ≡ true) → f m ≡ true
     go true y z r =
-        let q : pick (eqb (x + 1) 0) (λ u. firstFound (ifPasses f) xs) (λ u. x + 1) ≡ x + 1 = rw (ne-eqb (x + 1) 0 (λ o. omega arith)) refl in
+        let q : pick (eqb (x + 1) 0) (λ u. firstFound (ifPasses f) xs) (λ u. x + 1) ≡ x + 1 = rw (ne-eqb (x + 1) 0 (λ o. omega arith))
+        refl in
         let d : x ≡ m = omega (arith, q, z) in
         ap f (sym d) ∙ y
     go false y z r = r z
@@ -141,7 +150,8 @@ unfolding firstPair withEach firstFound
 each-first f i [] more = refl
 each-first f i (j ∷ js) more = go (each-first f i js more) (ℕ-discrete (f i j) 0)
   where
-    go : firstPair f (withEach i js more) ≡ pick (eqb (firstFound (f i) js) 0) (λ u. firstPair f more) (λ u. firstFound (f i) js) → Dec (f i j ≡ 0) →
+    go : firstPair f (withEach i js more) ≡ pick (eqb (firstFound (f i) js) 0) (λ u. firstPair f more) (λ u. firstFound (f i) js) →
+        Dec (f i j ≡ 0) →
         pick (eqb (f i j) 0) (λ u. firstPair f (withEach i js more)) (λ u. f i j)
         ≡ pick (eqb (let r : ℕ = f i j in pick (eqb r 0) (λ u. firstFound (f i) js) (λ u. r)) 0) (λ u. firstPair f more)
         (λ u. let r : ℕ = f i j in pick (eqb r 0) (λ u. firstFound (f i) js) (λ u. r))
@@ -149,7 +159,8 @@ each-first f i (j ∷ js) more = go (each-first f i js more) (ℕ-discrete (f i 
     go r (no e) = rw (ne-eqb (f i j) 0 e, ne-eqb (f i j) 0 e) refl
 
 -- The search of an element, and below it of a node, is the search of a pair.
-pub nested-first : (t : Tree) (f : ℕ → ℕ → ℕ) (is : List ℕ) → firstFound (λ i. firstFound (f i) (descendants t i)) is ≡ firstPair f (pairsOf t is)
+pub nested-first : (t : Tree) (f : ℕ → ℕ → ℕ) (is : List ℕ) →
+    firstFound (λ i. firstFound (f i) (descendants t i)) is ≡ firstPair f (pairsOf t is)
 unfolding firstPair pairsOf firstFound
 nested-first t f [] = refl
 nested-first t f (i ∷ is) =
@@ -201,7 +212,8 @@ count-less f g m (suc n) w e l = go (ℕ-discrete n m) (λ d. count-less f g m n
     go (yes d) r = rw (d, w .gone, e) (ap suc (count-same f g m (λ x l. w .others x (λ z. omega arith))))
     go (no d) r = rw (w .others n d) (inner (f n) (r (omega arith)))
       where
-        inner : (b : Bool) → suc (countBelow g n) ≡ countBelow f n → suc (pick b (λ u. suc (countBelow g n)) (λ u. countBelow g n)) ≡ pick b (λ u. suc (countBelow f n)) (λ u. countBelow f n)
+        inner : (b : Bool) → suc (countBelow g n) ≡ countBelow f n → suc (pick b (λ u. suc (countBelow g n)) (λ u. countBelow g n))
+            ≡ pick b (λ u. suc (countBelow f n)) (λ u. countBelow f n)
         inner true x = ap suc x
         inner false x = x
 
@@ -278,7 +290,8 @@ module _ (chars : List ℕ) (values : List Value) (k : ℕ) where
   abbrev shape : Tree → ℕ → (ℕ → Bool) → ℕ → ℕ
   shape t j f w = pick (f j) (λ u. j + 1) (λ u. firstBelow t f w)
 
-  pattern-found : (t : Tree) (i j : ℕ) → leb k 2 ≡ true → recursivePatternAt chars values t (cutName k) (elementId chars t i) j ≡ foundAt t i j
+  pattern-found : (t : Tree) (i j : ℕ) → leb k 2 ≡ true → recursivePatternAt chars values t (cutName k) (elementId chars t i) j
+      ≡ foundAt t i j
   unfolding recursivePatternAt paintsWith
   pattern-found t i j e = go (linkOf chars values 3 t (cutName k) j) ∙ sym (λ x. shape t j (leads-pattern e t i x) (target-pattern e t j x))
     where
@@ -286,7 +299,8 @@ module _ (chars : List ℕ) (values : List Value) (k : ℕ) where
           given o (λ v. pick (sameBytes (v .bytes) (elementId chars t i)) (λ u. j + 1)
           (λ u. firstBelow t (paintsWith chars values t (cutName k) (elementId chars t i)) (elementById chars t (v .bytes)))) (λ u. 0)
           ≡ pick (given o (λ v. sameBytes (v .bytes) (elementId chars t i)) (λ u. false)) (λ u. j + 1)
-          (λ u. firstBelow t (paintsWith chars values t (cutName k) (elementId chars t i)) (given o (λ v. elementById chars t (v .bytes)) (λ x. 0)))
+          (λ u. firstBelow t (paintsWith chars values t (cutName k) (elementId chars t i)) (given o (λ v. elementById chars t (v .bytes))
+          (λ x. 0)))
       go none = refl
       go (some v) = refl
 
@@ -302,10 +316,12 @@ module _ (chars : List ℕ) (values : List Value) (k : ℕ) where
           pick b (λ u. findRecursivePattern chars values (cutName k) t)
           (λ u. findRecursiveLink chars values (getD (EId.ClipPath ∷ EId.Mask ∷ EId.Filter ∷ []) (k - 3) 0) (cutName k) t)
           ≡ firstFound (λ i. firstFound (foundAt t i) (descendants t i))
-          (allNamed t (pick b (λ u. EId.Pattern) (λ u. getD (EId.ClipPath ∷ EId.Mask ∷ EId.Filter ∷ []) (k - 3) 0)) (upFrom 0 (t .nodeCount)))
+          (allNamed t (pick b (λ u. EId.Pattern) (λ u. getD (EId.ClipPath ∷ EId.Mask ∷ EId.Filter ∷ []) (k - 3) 0))
+          (upFrom 0 (t .nodeCount)))
       go true e = ap (λ f. firstFound f (allNamed t EId.Pattern (upFrom 0 (t .nodeCount))))
           (fun-ext (λ i. ap (λ f. firstFound f (descendants t i)) (fun-ext (λ j. pattern-found t i j e))))
-      go false e = ap (λ f. firstFound f (allNamed t (getD (EId.ClipPath ∷ EId.Mask ∷ EId.Filter ∷ []) (k - 3) 0) (upFrom 0 (t .nodeCount))))
+      go false e = ap (λ f. firstFound f (allNamed t (getD (EId.ClipPath ∷ EId.Mask ∷ EId.Filter ∷ []) (k - 3) 0)
+          (upFrom 0 (t .nodeCount))))
           (fun-ext (λ i. ap (λ f. firstFound f (descendants t i)) (fun-ext (λ j. link-found t i j e))))
 
 -- A CUT CHANGES ONE NODE'S LINK
@@ -329,9 +345,26 @@ unfolding pairsOf
 pairs-same n t [] = refl
 pairs-same n t (i ∷ is) = rw (descendants-same n t i, pairs-same n t is) refl
 
-given-both : {A B : Type 0} (o : Option A) (f g : A → B) (b : B) → ((a : A) → f a ≡ g a) → given o f (λ u. b) ≡ given o g (λ u. b)
+pub given-both : {A B : Type 0} (o : Option A) (f g : A → B) (b : B) → ((a : A) → f a ≡ g a) → given o f (λ u. b) ≡ given o g (λ u. b)
 given-both none f g b h = refl
 given-both (some a) f g b h = h a
+
+-- What a pair gives leads to its element.
+found-leads : (chars : List ℕ) (values : List Value) (k : ℕ) (t : Tree) (i j m : ℕ) → foundAt chars values k t i j ≡ m + 1 →
+    leadsTo chars values k t i m ≡ true
+found-leads chars values k t i j m e = go (f j) refl (eqb w 0) e
+  where
+    f : ℕ → Bool
+    f = leadsTo chars values k t i
+
+    w : ℕ
+    w = targetOf chars values k t j
+
+    go : (b : Bool) → f j ≡ b → (o : Bool) →
+        pick b (λ u. j + 1) (λ u. pick o (λ x. 0) (λ x. firstFound (ifPasses f) (descendants t (w - 1)))) ≡ m + 1 → f m ≡ true
+    go true l o z = let d : j ≡ m = omega arith in ap f (sym d) ∙ l
+    go false l true z = absurd (omega arith)
+    go false l false z = found-passes f (descendants t (w - 1)) m z
 
 -- Pass k cuts node m of a tidy tree; the name that it cuts is not `id`.
 module _ (size : ℕ) (chars : List ℕ) (values : List Value) (bare : readingsOf 0 values ≡ []) (k : ℕ) (other : cutName k ≡ AId.Id → ⊥)
@@ -389,8 +422,10 @@ module _ (size : ℕ) (chars : List ℕ) (values : List Value) (bare : readingsO
   target-others x d = rw (node-others x d) (go (leb k 2))
     where
       go : (b : Bool) →
-          pick b (λ u. given (linkOf chars values 3 v a x) (λ p. elementById chars v (p .bytes)) (λ y. 0)) (λ u. nodeAttribute chars values t a x)
-          ≡ pick b (λ u. given (linkOf chars values 3 t a x) (λ p. elementById chars t (p .bytes)) (λ y. 0)) (λ u. nodeAttribute chars values t a x)
+          pick b (λ u. given (linkOf chars values 3 v a x) (λ p. elementById chars v (p .bytes)) (λ y. 0))
+          (λ u. nodeAttribute chars values t a x)
+          ≡ pick b (λ u. given (linkOf chars values 3 t a x) (λ p. elementById chars t (p .bytes)) (λ y. 0))
+          (λ u. nodeAttribute chars values t a x)
       go true = given-both (linkOf chars values 3 v a x) _ _ 0 (λ p. by-id (p .bytes))
           ∙ ap (λ o. given o (λ p. elementById chars t (p .bytes)) (λ u. 0)) (link-others 3 x d)
       go false = refl
@@ -402,3 +437,232 @@ module _ (size : ℕ) (chars : List ℕ) (values : List Value) (bare : readingsO
       go : (b : Bool) → _≡_ {A = ℕ} (pick b (λ u. 0) (λ u. 0)) 0
       go true = refl
       go false = refl
+
+  -- A pair that gave nothing still gives nothing.
+  still-below : (i w : ℕ) → firstBelow t (leadsTo chars values k t i) w ≡ 0 → firstBelow v (leadsTo chars values k v i) w ≡ 0
+  still-below i w e = go (eqb w 0) e
+    where
+      go : (b : Bool) → pick b (λ u. 0) (λ u. firstFound (ifPasses (leadsTo chars values k t i)) (descendants t (w - 1))) ≡ 0 →
+          pick b (λ u. 0) (λ u. firstFound (ifPasses (leadsTo chars values k v i)) (descendants v (w - 1))) ≡ 0
+      go true z = refl
+      go false z = rw (descendants-same n t (w - 1)) (still-nothing _ _ m (leads-without i) (descendants t (w - 1)) z)
+
+  pub found-nothing : (i j : ℕ) → foundAt chars values k t i j ≡ 0 → foundAt chars values k v i j ≡ 0
+  found-nothing i j e = go (leadsTo chars values k t i j) refl e (ℕ-discrete j m)
+    where
+      below : Tree → ℕ → ℕ
+      below u w = firstBelow u (leadsTo chars values k u i) w
+
+      go : (b : Bool) → leadsTo chars values k t i j ≡ b → pick b (λ u. j + 1) (λ u. below t (targetOf chars values k t j)) ≡ 0 →
+          Dec (j ≡ m) → foundAt chars values k v i j ≡ 0
+      go true l z d = absurd (omega arith)
+      go false l z (yes d) = rw (d, leads-gone i, target-gone) refl
+      go false l z (no d) = rw (leads-others i j d ∙ l, target-others j d) (still-below i (targetOf chars values k t j) z)
+
+  -- A pair that gives m is cut at m, and then where it is cut without m.
+  pub one-cut : (i j : ℕ) → foundAt chars values k t i j ≡ m + 1 → nodesAt chars values k t i j ≡ m ∷ nodesAt chars values k v i j
+  unfolding nodesAt
+  one-cut i j e = go (leadsTo chars values k t i j) refl e (ℕ-discrete j m)
+    where
+      f : ℕ → Bool
+      f = leadsTo chars values k t i
+
+      w : ℕ
+      w = targetOf chars values k t j
+
+      go : (b : Bool) → leadsTo chars values k t i j ≡ b → pick b (λ u. j + 1) (λ u. firstBelow t f w) ≡ m + 1 → Dec (j ≡ m) →
+          pick b (λ u. j ∷ []) (λ u. pick (eqb w 0) (λ x. []) (λ x. passing f (descendants t (w - 1)))) ≡ m ∷ nodesAt chars values k v i j
+      go true l z (yes d) = rw (d, leads-gone i, target-gone) refl
+      go true l z (no d) = absurd (d (omega arith))
+      go false l z (yes d) = absurd-bool (sym (found-leads chars values k t i j m e) ∙ ap f (sym d) ∙ l)
+      go false l z (no d) = inner w refl (ℕ-discrete w 0) z
+        where
+          inner : (x : ℕ) → w ≡ x → Dec (x ≡ 0) → firstBelow t f x ≡ m + 1 →
+              pick (eqb x 0) (λ y. []) (λ y. passing f (descendants t (x - 1))) ≡ m ∷ nodesAt chars values k v i j
+          inner x q (yes o) y =
+              let r : firstBelow t f x ≡ 0 = rw (eq-eqb x 0 o) refl in absurd (omega (arith, r, y))
+          inner x q (no o) y =
+              let r : eqb x 0 ≡ false = ne-eqb x 0 o in
+              rw (leads-others i j d ∙ l, target-others j d ∙ q, r, descendants-same n t (x - 1))
+              (first-passing f (leadsTo chars values k v i) m (leads-without i) (x - 1) (descendants t (x - 1))
+              (descendants-rising t (x - 1))
+              (rw r at y))
+
+  -- One entry less is no fixed value.
+  live-less : (entryAt t n .command ≡ 0 → ⊥) → suc (live v) ≡ live t
+  unfolding setNone
+  live-less c =
+      let r = attribute-any size t (g .kept) (g .unused) m a h in
+      let w : Without (isLive t) (isLive v) n =
+      record {
+        others = λ x d. ap (λ e. not (eqb (e .command) 0)) (none-others n t x d);
+        gone = ap (λ e. not (eqb (e .command) 0)) (none-entry n t (omega (arith, r, g .kept .fits .entries)));
+      } in
+      count-less (isLive t) (isLive v) n (t .attributeCount) w (rw (ne-eqb (entryAt t n .command) 0 c) refl) (omega (arith, r, h))
+
+  pub tidy-cut : Tidy size v
+  tidy-cut = tidy-none size t g n (omega (arith, attribute-any size t (g .kept) (g .unused) m a h, h))
+
+-- A value that leads anywhere is there, and is no fixed one.
+pub record There (t : Tree) (m a : ℕ) : Type 0 where
+  pub entry : attributeId t m a ≡ 0 → ⊥
+  pub command : entryAt t (attributeId t m a - 1) .command ≡ 0 → ⊥
+
+module _ (chars : List ℕ) (values : List Value) (bare : readingsOf 0 values ≡ []) where
+  pub readings-there : (t : Tree) (m a : ℕ) → (readingsOfAttribute chars values t a m ≡ [] → ⊥) → There t m a
+  unfolding readingsOfAttribute
+  readings-there t m a z = go (ℕ-discrete (attributeOf chars t m a) 0)
+    where
+      go : Dec (attributeOf chars t m a ≡ 0) → There t m a
+      go (yes e) = absurd (z (rw (eq-eqb _ 0 e) refl))
+      go (no e) =
+          let f = attribute-there chars t m a e in
+          record {
+            entry = f .1;
+            command = λ c. z (rw (ne-eqb _ 0 e, f .0, c) bare);
+          }
+
+  leads-there : (k : ℕ) (t : Tree) (i m : ℕ) → leadsTo chars values k t i m ≡ true → There t m (cutName k)
+  unfolding leadsTo paintsWith nodeAttribute readingOf
+  leads-there k t i m e = readings-there t m (cutName k) (λ z. go (leb k 2) (rw z at e))
+    where
+      go : (b : Bool) → pick b (λ u. false) (λ u. eqb 0 (i + 1)) ≡ true → ⊥
+      go true y = absurd-bool (sym y)
+      go false y = let q = eqb-true 0 (i + 1) y in omega arith
+
+-- THE PASS, GOING ON
+
+module _ (size : ℕ) (chars : List ℕ) (values : List Value) (bare : readingsOf 0 values ≡ []) (k : ℕ) (other : cutName k ≡ AId.Id → ⊥) where
+  abbrev found : Tree → ℕ → ℕ → ℕ
+  found t = foundAt chars values k t
+
+  nothing-kept : (t u : Tree) → ((i j : ℕ) → found t i j ≡ 0 → found u i j ≡ 0) → (ps : List Pair) → Nothing (found t) ps →
+      Nothing (found u) ps
+  nothing-kept t u f [] h = tt
+  nothing-kept t u f (p ∷ ps) h = (f (p .key) (p .value) (h .0), nothing-kept t u f ps (h .1))
+
+  -- The cuts of the pairs from p on, where one more node is cut for p.
+  on-cons : (t : Tree) (p : Pair) (ps : List Pair) (m : ℕ) (u : Tree) → applyCut t (cutAt t k m) ≡ u →
+      nodesAt chars values k t (p .key) (p .value) ≡ m ∷ nodesAt chars values k u (p .key) (p .value) →
+      goingOn chars values k t (p ∷ ps) ≡ cutAt t k m ∷ goingOn chars values k u (p ∷ ps)
+  unfolding goingOn cutsAlong applied
+  on-cons t p ps m u e q =
+      let ms = nodesAt chars values k u (p .key) (p .value) in
+      ap (λ (ns : List ℕ). let cs : List Cut = cutsAlong chars values k t ns in cs ++ goingOn chars values k (applied t cs) ps) q
+      ∙ ap (λ (w : Tree). let cs : List Cut = cutsAlong chars values k w ms in
+      cutAt t k m ∷ (cs ++ goingOn chars values k (applied w cs) ps)) e
+
+  -- Where it is cut nowhere.
+  on-none : (t : Tree) (p : Pair) (ps : List Pair) → nodesAt chars values k t (p .key) (p .value) ≡ [] →
+      goingOn chars values k t (p ∷ ps) ≡ goingOn chars values k t ps
+  unfolding goingOn cutsAlong applied
+  on-none t p ps e = rw e refl
+
+  nodes-none : (t : Tree) (i j : ℕ) → found t i j ≡ 0 → nodesAt chars values k t i j ≡ []
+  unfolding nodesAt
+  nodes-none t i j e = go (leadsTo chars values k t i j) (eqb (targetOf chars values k t j) 0) e
+    where
+      f : ℕ → Bool
+      f = leadsTo chars values k t i
+
+      ds : List ℕ
+      ds = descendants t (targetOf chars values k t j - 1)
+
+      go : (b o : Bool) → pick b (λ u. j + 1) (λ u. pick o (λ x. 0) (λ x. firstFound (ifPasses f) ds)) ≡ 0 →
+          pick b (λ u. j ∷ []) (λ u. pick o (λ x. []) (λ x. passing f ds)) ≡ []
+      go true o z = absurd (omega arith)
+      go false true z = refl
+      go false false z = none-passing f ds z
+
+  -- The next cut, where the pairs before p give nothing and p gives m.
+  next-is : (t : Tree) (past : List Pair) (p : Pair) (ps : List Pair) → passPairs chars values k t ≡ past ++ (p ∷ ps) →
+      Nothing (found t) past →
+      (m : ℕ) → found t (p .key) (p .value) ≡ m + 1 → nextCut chars values k t ≡ m + 1
+  unfolding firstPair
+  next-is t past p ps e h m q = next-found chars values k t ∙ rw (
+    e,
+    pass-nothing (found t) past (p ∷ ps) h,
+    q,
+    ne-eqb (m + 1) 0
+        (λ o. omega arith),
+  ) refl
+
+  pass-same : (n : ℕ) (t : Tree) → passPairs chars values k (setNone n t) ≡ passPairs chars values k t
+  unfolding setNone
+  pass-same n t =
+      pairs-same n t (allNamed (setNone n t) (elementOf k) (upFrom 0 (t .nodeCount)))
+      ∙ ap (pairsOf t) (named-same n t (elementOf k) (upFrom 0 (t .nodeCount)))
+
+  cuts-step : (n : ℕ) (t : Tree) (m : ℕ) → nextCut chars values k t ≡ m + 1 →
+      cutsFrom chars values k (suc n) t ≡ cutAt t k m ∷ cutsFrom chars values k n (applyCut t (cutAt t k m))
+  unfolding cutsFrom
+  cuts-step n t m q = let z : m + 1 - 1 ≡ m = omega arith in rw (q, ne-eqb (m + 1) 0 (λ o. omega arith), z) refl
+
+  -- The pair p, with pairs before it that give nothing: what is cut for it, and then for the pairs behind it.
+  module _ (past : List Pair) (p : Pair) (ps : List Pair)
+      (rest : (n : ℕ) (t : Tree) → Tidy size t → passPairs chars values k t ≡ (past ++ (p ∷ [])) ++ ps →
+      Nothing (found t) (past ++ (p ∷ [])) →
+      live t ≤ n → cutsFrom chars values k n t ≡ goingOn chars values k t ps) where
+    -- What there is to show with n cuts at the most.
+    abbrev Along : ℕ → Type 0
+    Along n =
+        (t : Tree) → Tidy size t → passPairs chars values k t ≡ past ++ (p ∷ ps) → Nothing (found t) past → live t ≤ n →
+        cutsFrom chars values k n t ≡ goingOn chars values k t (p ∷ ps)
+
+    none-here : (n : ℕ) (t : Tree) → Tidy size t → passPairs chars values k t ≡ past ++ (p ∷ ps) → Nothing (found t) past → live t ≤ n →
+        found t (p .key) (p .value) ≡ 0 → cutsFrom chars values k n t ≡ goingOn chars values k t (p ∷ ps)
+    none-here n t g e h l z =
+        rest n t g (e ∙ sym (append-assoc past (p ∷ []) ps)) (one-more (found t) past p h z) l
+        ∙ sym (on-none t p ps (nodes-none t (p .key) (p .value) z))
+
+    there : (t : Tree) (m : ℕ) → found t (p .key) (p .value) ≡ m + 1 → There t m (cutName k)
+    there t m z = leads-there chars values bare k t (p .key) m (found-leads chars values k t (p .key) (p .value) m z)
+
+    one-here : (n : ℕ) → Along n → (t : Tree) → Tidy size t → passPairs chars values k t ≡ past ++ (p ∷ ps) → Nothing (found t) past →
+        live t ≤ suc n → (m : ℕ) → found t (p .key) (p .value) ≡ m + 1 →
+        cutsFrom chars values k (suc n) t ≡ goingOn chars values k t (p ∷ ps)
+    one-here n next t g e h l m z =
+        let w = there t m z in
+        let u = setNone (attributeId t m (cutName k) - 1) t in
+        let c = cut-is size chars values bare k other t g m (w .entry) in
+        let s = live-less size chars values bare k other t g m (w .entry) (w .command) in
+        let kept = nothing-kept t u (found-nothing size chars values bare k other t g m (w .entry)) past h in
+        cuts-step n t m (next-is t past p ps e h m z)
+        ∙ ap (λ (x : Tree). cutAt t k m ∷ cutsFrom chars values k n x) c
+        ∙ ap (λ (x : List Cut). cutAt t k m ∷ x)
+        (next u (tidy-cut size chars values bare k other t g m (w .entry)) (pass-same _ t ∙ e) kept (omega (arith, s)))
+        ∙ sym (on-cons t p ps m u c (one-cut size chars values bare k other t g m (w .entry) (p .key) (p .value) z))
+
+    along : (n : ℕ) → Along n
+    along zero t g e h l = go (found t (p .key) (p .value)) refl
+      where
+        go : (x : ℕ) → found t (p .key) (p .value) ≡ x → cutsFrom chars values k zero t ≡ goingOn chars values k t (p ∷ ps)
+        go zero z = none-here zero t g e h l z
+        go (suc m) z =
+            let y = z ∙ sym (add-one m) in
+            let s = live-less size chars values bare k other t g m (there t m y .entry) (there t m y .command) in
+            absurd (omega (arith, s))
+    along (suc n) t g e h l = go (found t (p .key) (p .value)) refl (along n)
+      where
+        go : (x : ℕ) → found t (p .key) (p .value) ≡ x → Along n → cutsFrom chars values k (suc n) t ≡ goingOn chars values k t (p ∷ ps)
+        go zero z r = none-here (suc n) t g e h l z
+        go (suc m) z r = one-here n r t g e h l m (z ∙ sym (add-one m))
+
+  -- No pair is left: nothing is cut.
+  cuts-end : (n : ℕ) (t : Tree) → nextCut chars values k t ≡ 0 → cutsFrom chars values k n t ≡ []
+  unfolding cutsFrom
+  cuts-end zero t q = refl
+  cuts-end (suc n) t q = rw q refl
+
+  -- The cuts of the pairs from here on, where those before give nothing.
+  from-here : (past ps : List Pair) (n : ℕ) (t : Tree) → Tidy size t → passPairs chars values k t ≡ past ++ ps → Nothing (found t) past →
+      live t ≤ n →
+      cutsFrom chars values k n t ≡ goingOn chars values k t ps
+  unfolding goingOn firstPair
+  from-here past [] n t g e h l = cuts-end n t (next-found chars values k t ∙ rw (e, pass-nothing (found t) past [] h) refl)
+  from-here past (p ∷ ps) n t g e h l = along past p ps (λ m u. from-here (past ++ (p ∷ [])) ps m u) n t g e h l
+
+  -- THE LAW: the cuts of a pass, found going on after each cut, are those that are found from the start again.
+  pub cuts-going-on : (t : Tree) → Tidy size t →
+      cutsFrom chars values k (t .attributeCount) t ≡ goingOn chars values k t (passPairs chars values k t)
+  cuts-going-on t g = from-here [] (passPairs chars values k t) (t .attributeCount) t g refl tt (count-most (isLive t) (t .attributeCount))

@@ -47,7 +47,8 @@ pub record Good (size′ : ℕ) (ns : List Note) (t : Tree) : Type 0 where
   pub noted : (i : ℕ) → i < t .nodeCount → kindOf t i ≡ TEXT → (n : Note) × In n ns × (n .node ≡ i)
 
 -- Notes still fit where the words of their nodes are the same.
-fits-on : (n : Note) (s t : Tree) → kindOf t (n .node) ≡ kindOf s (n .node) → fromOf t (n .node) ≡ fromOf s (n .node) → toOf t (n .node) ≡ toOf s (n .node) →
+fits-on : (n : Note) (s t : Tree) → kindOf t (n .node) ≡ kindOf s (n .node) → fromOf t (n .node) ≡ fromOf s (n .node) →
+    toOf t (n .node) ≡ toOf s (n .node) →
     Fits n s → Fits n t
 fits-on n s t a b c f = record { kind = a ∙ f .kind; low = rw b (f .low); mid = rw (b, c) (f .mid); high = rw c (f .high) }
 
@@ -68,7 +69,8 @@ text-nodes-keep s t zero h = refl
 text-nodes-keep s t (suc n) h = rw (h n (omega arith), text-nodes-keep s t n (λ j l. h j (omega arith))) refl
 
 -- One node more.
-text-nodes-more : (t : Tree) (n : ℕ) → textNodesDown t (n + 1) ≡ pick (eqb (kindOf t n) TEXT) (λ u. n ∷ textNodesDown t n) (λ u. textNodesDown t n)
+text-nodes-more : (t : Tree) (n : ℕ) →
+    textNodesDown t (n + 1) ≡ pick (eqb (kindOf t n) TEXT) (λ u. n ∷ textNodesDown t n) (λ u. textNodesDown t n)
 unfolding textNodesDown
 text-nodes-more t n = ap (textNodesDown t) (add-one n)
 
@@ -100,12 +102,14 @@ good-element size′ ns c es p t is pb room space ev g = record {
     b : ℕ
     b = t .attributeCount + length es
 
-    was : (j k : ℕ) → j < t .nodeCount → k < 8 → (2 ≤ k → k ≤ 4 → ⊥) → word (appended ELEMENT c a b (t .nodes) p (t .nodeCount)) j k ≡ word (t .nodes) j k
+    was : (j k : ℕ) → j < t .nodeCount → k < 8 → (2 ≤ k → k ≤ 4 → ⊥) →
+        word (appended ELEMENT c a b (t .nodes) p (t .nodeCount)) j k ≡ word (t .nodes) j k
     was j k l x h = appended-old ELEMENT c a b (t .nodes) p (t .nodeCount) j k l x h
 
     new-kind : word (appended ELEMENT c a b (t .nodes) p (t .nodeCount)) (t .nodeCount) 0 ≡ TEXT → ⊥
     new-kind k =
-        let z : _≡_ {A = ℕ} 2 3 = sym (appended-new ELEMENT c a b (t .nodes) p (t .nodeCount) 0 room (omega arith) (λ x y. omega arith)) ∙ k in omega arith
+        let z : _≡_ {A = ℕ} 2 3 = sym (appended-new ELEMENT c a b (t .nodes) p (t .nodeCount) 0 room (omega arith) (λ x y. omega arith))
+        ∙ k in omega arith
 
     go : (i : ℕ) → i < t .nodeCount + 1 → word (appended ELEMENT c a b (t .nodes) p (t .nodeCount)) i 0 ≡ TEXT → Dec (i < t .nodeCount) →
         (n : Note) × In n ns × (n .node ≡ i)
@@ -114,14 +118,17 @@ good-element size′ ns c es p t is pb room space ev g = record {
         let e : i ≡ t .nodeCount = omega arith in
         absurd (new-kind (rw e at k))
 
-pub good-text : (size′ : ℕ) (ns : List Note) (e p : ℕ) (bs : List ℕ) (from : List Source) (t : Tree) → 8 * t .nodeCount + 8 ≤ length (t .nodes) →
-    t .textCount + totalSize from ≤ length (t .text) → length bs ≤ totalSize from → e < t .nodeCount → IsTextElement t e → p < t .nodeCount →
+pub good-text : (size′ : ℕ) (ns : List Note) (e p : ℕ) (bs : List ℕ) (from : List Source) (t : Tree) →
+    8 * t .nodeCount + 8 ≤ length (t .nodes) →
+    t .textCount + totalSize from ≤ length (t .text) → length bs ≤ totalSize from → e < t .nodeCount → IsTextElement t e →
+    p < t .nodeCount →
     Under (t .nodes) e p → Good size′ ns t → Good size′ (noteOf e from (t .nodeCount) (t .textCount) ∷ ns) (addText bs (totalSize from) p t)
 unfolding addText
 good-text size′ ns e p bs from t room space l eb ec pb pu g = record {
   tidy = tidy-text size′ t (g .tidy) bs (totalSize from) p pb room l space;
   tiles = (refl, g .tiles);
-  each = ap (λ m. t .nodeCount ∷ m) (g .each ∙ sym (text-nodes-keep grown t (t .nodeCount) (λ j l. was j 0 l (omega arith) (λ x y. omega arith))))
+  each = ap (λ m. t .nodeCount ∷ m) (g .each
+      ∙ sym (text-nodes-keep grown t (t .nodeCount) (λ j l. was j 0 l (omega arith) (λ x y. omega arith))))
       ∙ sym (text-nodes-more grown (t .nodeCount) ∙ rw (eq-eqb _ TEXT (its 0 (omega arith) (λ x y. omega arith))) refl);
   fits = λ n h. fit n h;
   below = λ n h. low n h;
@@ -142,7 +149,8 @@ good-text size′ ns e p bs from t room space l eb ec pb pu g = record {
     b : ℕ
     b = t .textCount + length bs
 
-    was : (j k : ℕ) → j < t .nodeCount → k < 8 → (2 ≤ k → k ≤ 4 → ⊥) → word (appended TEXT 0 a b (t .nodes) p (t .nodeCount)) j k ≡ word (t .nodes) j k
+    was : (j k : ℕ) → j < t .nodeCount → k < 8 → (2 ≤ k → k ≤ 4 → ⊥) →
+        word (appended TEXT 0 a b (t .nodes) p (t .nodeCount)) j k ≡ word (t .nodes) j k
     was j k l x h = appended-old TEXT 0 a b (t .nodes) p (t .nodeCount) j k l x h
 
     its : (k : ℕ) → k < 8 → (2 ≤ k → k ≤ 4 → ⊥) → word (appended TEXT 0 a b (t .nodes) p (t .nodeCount)) (t .nodeCount) k
@@ -162,9 +170,15 @@ good-text size′ ns e p bs from t room space l eb ec pb pu g = record {
         (was (n .node) 7 b (omega arith) (λ x y. omega arith)) (g .fits n h)
 
     place : (n : Note) → In n (new ∷ ns) → (n .elem < t .nodeCount + 1)
-        × ((word (appended TEXT 0 a b (t .nodes) p (t .nodeCount)) (n .elem) 0 ≡ ELEMENT) × (word (appended TEXT 0 a b (t .nodes) p (t .nodeCount)) (n .elem) 5 ≡ EId.Text))
+        × ((word (appended TEXT 0 a b (t .nodes) p (t .nodeCount)) (n .elem) 0 ≡ ELEMENT)
+        × (word (appended TEXT 0 a b (t .nodes) p (t .nodeCount)) (n .elem) 5 ≡ EId.Text))
         × Under (appended TEXT 0 a b (t .nodes) p (t .nodeCount)) (n .elem) (n .node)
-    place n (inl h) = rw h (omega arith, old-element TEXT 0 a b (t .nodes) p (t .nodeCount) e EId.Text eb ec, under-new TEXT 0 a b (t .nodes) p (t .nodeCount) e room pb pu)
+    place n (inl h) = rw h (
+      omega arith,
+      old-element TEXT 0 a b (t .nodes) p (t .nodeCount) e EId.Text eb ec,
+      under-new TEXT 0
+          a b (t .nodes) p (t .nodeCount) e room pb pu,
+    )
     place n (inr h) = let f = g .placed n h in (
       omega (arith, f .0),
       old-element TEXT 0 a b (t .nodes) p (t .nodeCount) (n .elem) EId.Text (f .0) (f .1),

@@ -8,8 +8,11 @@ use borrow.Author.Tests.{eqb-true, eqb-false, ltb-false}
 use lib.Dec.{eqb, ltb}
 use lib.ListN.{length}
 use Rattle.model.specs.Base.{pick, or}
-use Rattle.model.specs.Drawing.{Command, opening, attribute, declaration, reading, closing, broken, commands, Part, Reading, Value, Attribute, Declaration, Element, Source, text, other, Mark, past, partAt, readingsAt, valueAt, attributesAt, declarationsAt, elementAt, eventsFrom, events}
-use Rattle.model.specs.Check.{State, Test, _if_, firstOf, isNothing, valueSize, testsOf, stepped, starting, checkFrom, mostBytes, check}
+use Rattle.model.specs.Drawing.{Command, opening, attribute, declaration, reading, closing, broken, commands, Part, Reading, Value}
+use Rattle.model.specs.Drawing.{Attribute, Declaration, Element, Source, text, other, Mark, past, partAt, readingsAt, valueAt}
+use Rattle.model.specs.Drawing.{attributesAt, declarationsAt, elementAt, eventsFrom, events}
+use Rattle.model.specs.Check.{State, Test, _if_, firstOf, isNothing, valueSize, testsOf, stepped, starting, checkFrom, mostBytes}
+use Rattle.model.specs.Check.{check}
 use Rattle.model.specs.Theorems.Sim.{Every, Events}
 use Rattle.model.specs.Theorems.Entries.{absurd-bool, ReadFrom}
 
@@ -31,7 +34,8 @@ unfolding firstOf
 first-none = refl
 
 -- A reading has a value before it, and a broken command does not pass.
-pub reading-placed : (chars : List ℕ) (size : ℕ) (s : State) (k o l : ℕ) → firstOf (testsOf chars size s (reading k o l)) ≡ 0 → isNothing (s .last) ≡ false
+pub reading-placed : (chars : List ℕ) (size : ℕ) (s : State) (k o l : ℕ) → firstOf (testsOf chars size s (reading k o l)) ≡ 0 →
+    isNothing (s .last) ≡ false
 unfolding testsOf
 reading-placed chars size s k o l h = first-drop 3 _ _ (first-drop 2 _ _ h .1) .0
 
@@ -108,11 +112,17 @@ unfolding testsOf stepped
 ending chars size s [] h = tt
 ending chars size s (reading k o l ∷ cs) h = ending chars size _ cs (check-cons chars size s (reading k o l) cs h .1)
 ending chars size s (attribute a n l ∷ cs) h =
-    let c = check-cons chars size s (attribute a n l) cs h in
-    (string-within chars size (s .at) l (first-drop 3 _ _ (first-drop 2 _ _ (first-drop 6 _ _ (c .0) .1) .1) .1), ending chars size _ cs (c .1))
+    let c = check-cons chars size s (attribute a n l) cs h in (
+      string-within chars size (s .at) l (first-drop 3 _ _ (first-drop 2 _ _ (first-drop 6 _ _ (c .0) .1) .1) .1),
+      ending chars size _
+          cs (c .1),
+    )
 ending chars size s (declaration a i l ∷ cs) h =
-    let c = check-cons chars size s (declaration a i l) cs h in
-    (string-within chars size (s .at) l (first-drop 3 _ _ (first-drop 2 _ _ (first-drop 6 _ _ (c .0) .1) .1) .1), ending chars size _ cs (c .1))
+    let c = check-cons chars size s (declaration a i l) cs h in (
+      string-within chars size (s .at) l (first-drop 3 _ _ (first-drop 2 _ _ (first-drop 6 _ _ (c .0) .1) .1) .1),
+      ending chars size _
+          cs (c .1),
+    )
 ending chars size s (opening c n ∷ cs) h = ending chars size _ cs (check-cons chars size s (opening c n) cs h .1)
 ending chars size s (Command.text l ∷ cs) h =
     let c = check-cons chars size s (Command.text l) cs h in
@@ -134,7 +144,8 @@ LiesValue size v = (1 ≤ v .command) × LiesPart size (v .part) × Every (λ (r
 -- All values of an element do.
 abbrev pub LiesElement : ℕ → Element → Type 0
 LiesElement size e =
-    Every (λ (a : Attribute). LiesValue size (a .value)) (e .attributes) × Every (λ (d : Declaration). LiesValue size (d .value)) (e .declarations)
+    Every (λ (a : Attribute). LiesValue size (a .value)) (e .attributes) × Every (λ (d : Declaration). LiesValue size (d .value))
+    (e .declarations)
 
 -- A text does.
 abbrev pub LiesText : ℕ → Source → Type 0
@@ -145,7 +156,8 @@ lower : (size : ℕ) (m : Mark) (cs : List Command) → Ending size (m .at) cs �
 lower size m cs h = let e : m .at + 0 ≡ m .at = omega arith in rw e h
 
 module _ (chars : List ℕ) (size : ℕ) where
-  readings-lie : (v n : ℕ) → v + n ≤ size → (cs : List Command) → Bounded n cs → Every (λ (r : Reading). LiesPart size (r .part)) (readingsAt chars v cs)
+  readings-lie : (v n : ℕ) → v + n ≤ size → (cs : List Command) → Bounded n cs →
+      Every (λ (r : Reading). LiesPart size (r .part)) (readingsAt chars v cs)
   unfolding readingsAt partAt
   readings-lie v n h [] b = tt
   readings-lie v n h (reading k o l ∷ cs) b = (omega (arith, b .0), readings-lie v n h cs (b .1))
@@ -181,19 +193,26 @@ module _ (chars : List ℕ) (size : ℕ) where
   declarations-lie m n (attribute a s l ∷ cs) h b = declarations-lie (past m (attribute a s l)) l cs (h .1) b
   declarations-lie m n (reading k o l ∷ cs) h b = declarations-lie (past m (reading k o l)) n cs (lower size m cs h) (b .1)
   declarations-lie m n (opening c s ∷ cs) h b = tt
-  declarations-lie m n (declaration a i l ∷ cs) h b = (value-lies m l cs (h .0) b, declarations-lie (past m (declaration a i l)) l cs (h .1) b)
+  declarations-lie m n (declaration a i l ∷ cs) h b = (
+    value-lies m l cs (h .0) b,
+    declarations-lie (past m (declaration a i l))
+        l cs (h .1) b,
+  )
   declarations-lie m n (Command.text l ∷ cs) h b = tt
   declarations-lie m n (Command.other ∷ cs) h b = tt
   declarations-lie m n (closing ∷ cs) h b = tt
   declarations-lie m n (broken c ∷ cs) h b = tt
 
   -- The events of commands whose strings end within the characters, and whose readings lie within their values.
-  pub events-lie : (m : Mark) (n : ℕ) (cs : List Command) → Ending size (m .at) cs → Bounded n cs → Events (LiesElement size) (LiesText size) (eventsFrom chars m cs)
+  pub events-lie : (m : Mark) (n : ℕ) (cs : List Command) → Ending size (m .at) cs → Bounded n cs →
+      Events (LiesElement size) (LiesText size) (eventsFrom chars m cs)
   unfolding eventsFrom elementAt
   events-lie m n [] h b = tt
   events-lie m n (opening c s ∷ cs) h b =
-      let g = lower size m cs h in
-      ((attributes-lie (past m (opening c s)) 0 cs g b, declarations-lie (past m (opening c s)) 0 cs g b), events-lie (past m (opening c s)) 0 cs g b)
+      let g = lower size m cs h in (
+        (attributes-lie (past m (opening c s)) 0 cs g b, declarations-lie (past m (opening c s)) 0 cs g b),
+        events-lie (past m (opening c s)) 0 cs g b,
+      )
   events-lie m n (attribute a s l ∷ cs) h b = events-lie (past m (attribute a s l)) l cs (h .1) b
   events-lie m n (declaration a i l ∷ cs) h b = events-lie (past m (declaration a i l)) l cs (h .1) b
   events-lie m n (reading k o l ∷ cs) h b = events-lie (past m (reading k o l)) n cs (lower size m cs h) (b .1)
@@ -207,12 +226,14 @@ pub check-walk : (script chars : List ℕ) → check script chars ≡ 0 → chec
 unfolding check
 check-walk script chars h = go (or (ltb mostBytes (length script)) (ltb mostBytes (length chars))) h
   where
-    go : (c : Bool) → pick c (λ u. 1) (λ u. checkFrom chars (length chars) starting (commands script)) ≡ 0 → checkFrom chars (length chars) starting (commands script) ≡ 0
+    go : (c : Bool) → pick c (λ u. 1) (λ u. checkFrom chars (length chars) starting (commands script)) ≡ 0 →
+        checkFrom chars (length chars) starting (commands script) ≡ 0
     go true g = absurd (omega arith)
     go false g = g
 
 -- Where check gives 0, every value, reading and text of the drawing lies within the characters; by `Events`, so does every suffix of it.
-pub all-inside : (script chars : List ℕ) → check script chars ≡ 0 → Events (LiesElement (length chars)) (LiesText (length chars)) (events script chars)
+pub all-inside : (script chars : List ℕ) → check script chars ≡ 0 →
+    Events (LiesElement (length chars)) (LiesText (length chars)) (events script chars)
 unfolding events starting
 all-inside script chars h =
     let w = check-walk script chars h in
@@ -237,4 +258,11 @@ lies-read size e h = (attributes (e .attributes) (h .0), declarations (e .declar
         Every (λ (d : Declaration). ((d .value .command ≡ 0 → ⊥) × LiesPart size (d .value .part))
         × Every (λ (r : Reading). (d .value .command ≡ 0 → ⊥) × LiesPart size (r .part)) (d .value .readings)) xs
     declarations [] h = tt
-    declarations (x ∷ xs) h = (((λ z. omega (arith, h .0 .0), h .0 .1), readings (x .value .command) (h .0 .0) (x .value .readings) (h .0 .2)), declarations xs (h .1))
+    declarations (x ∷ xs) h = (
+      (
+        (λ z. omega (arith, h .0 .0), h .0 .1),
+        readings (x .value .command) (h .0 .0) (x .value .readings)
+            (h .0 .2),
+      ),
+      declarations xs (h .1),
+    )

@@ -12,10 +12,13 @@ use lib.ListN.{length, getD, set, replicate, length-set, length-replicate}
 use lib.Seq.{sets, getD-set-same, getD-set-other, length-sets}
 use Rattle.model.specs.Base.{pick}
 use Rattle.model.specs.Names.{isElement, isAttribute}
-use Rattle.model.specs.Tables.{Tree, ROOT, ELEMENT, TEXT, word, setWord, kindOf, parentOf, nextSiblingOf, firstChildOf, lastChildOf, codeOf, fromOf, toOf, nextLinked, firstLinked, linked, appended, Entry, entryWord, entryAt, findEntry, attributeId, cleared, rooted, addElement, addText, setText, setNone}
+use Rattle.model.specs.Tables.{Tree, ROOT, ELEMENT, TEXT, word, setWord, kindOf, parentOf, nextSiblingOf, firstChildOf, lastChildOf}
+use Rattle.model.specs.Tables.{codeOf, fromOf, toOf, nextLinked, firstLinked, linked, appended, Entry, entryWord, entryAt, findEntry}
+use Rattle.model.specs.Tables.{attributeId, cleared, rooted, addElement, addText, setText, setNone}
 use Rattle.model.specs.Theorems.Agree.{set-cases, sets-in, sets-out}
 use Rattle.model.specs.Theorems.Laws.{appended-old, appended-new}
-use Rattle.model.specs.Theorems.Unused.{Unused, next-long, element-lengths, text-lengths, bounds-lengths, replicate-zero, unused-root, unused-element, unused-text, unused-bounds, unused-none}
+use Rattle.model.specs.Theorems.Unused.{Unused, next-long, element-lengths, text-lengths, bounds-lengths, replicate-zero, unused-root}
+use Rattle.model.specs.Theorems.Unused.{unused-element, unused-text, unused-bounds, unused-none}
 use Rattle.model.specs.Theorems.Sim.{Every}
 use Rattle.model.specs.Theorems.Entries.{old-entry, new-entry, none-entry, none-others}
 
@@ -69,8 +72,14 @@ Coherent t = (i : ℕ) → i < t .nodeCount → (firstChildOf t i ≡ 0 → ⊥)
 
 -- The tree with another attribute table.
 abbrev pub withAttributes : List ℕ → Tree → Tree
-withAttributes ats t = record
-    { nodes = t .nodes; attributes = ats; text = t .text; nodeCount = t .nodeCount; attributeCount = t .attributeCount; textCount = t .textCount }
+withAttributes ats t = record {
+  nodes = t .nodes;
+  attributes = ats;
+  text = t .text;
+  nodeCount = t .nodeCount;
+  attributeCount = t .attributeCount;
+  textCount = t .textCount;
+}
 
 -- THE LINKS AFTER A NEW NODE
 
@@ -81,11 +90,13 @@ Stored v P xs ys = (q : ℕ) → (getD ys q 0 ≡ getD xs q 0) ⊎ (P q × (getD
 stored-set : (v : ℕ) (P : ℕ → Type 0) (xs : List ℕ) (n : ℕ) → P n → Stored v P xs (set xs n v)
 stored-set v P xs n h q = go (set-cases xs n v q)
   where
-    go : (getD (set xs n v) q 0 ≡ getD xs q 0) ⊎ ((q ≡ n) × (getD (set xs n v) q 0 ≡ v)) → (getD (set xs n v) q 0 ≡ getD xs q 0) ⊎ (P q × (getD (set xs n v) q 0 ≡ v))
+    go : (getD (set xs n v) q 0 ≡ getD xs q 0) ⊎ ((q ≡ n) × (getD (set xs n v) q 0 ≡ v)) →
+        (getD (set xs n v) q 0 ≡ getD xs q 0) ⊎ (P q × (getD (set xs n v) q 0 ≡ v))
     go (inl e) = inl e
     go (inr e) = inr (rw (e .0) h, e .1)
 
-stored-pick : (v : ℕ) (P : ℕ → Type 0) (xs ys zs : List ℕ) (b : Bool) → Stored v P xs ys → Stored v P xs zs → Stored v P xs (pick b (λ u. ys) (λ u. zs))
+stored-pick : (v : ℕ) (P : ℕ → Type 0) (xs ys zs : List ℕ) (b : Bool) → Stored v P xs ys → Stored v P xs zs →
+    Stored v P xs (pick b (λ u. ys) (λ u. zs))
 stored-pick v P xs ys zs true f g = f
 stored-pick v P xs ys zs false f g = g
 
@@ -109,7 +120,8 @@ module _ (p i : ℕ) where
       stored-then v P xs first (setWord first p 4 v)
       (stored-then v P xs next first
       (stored-pick v P xs xs (setWord xs (j - 1) 2 v) (eqb j 0) (λ q. inl refl) (stored-set v P xs (8 * (j - 1) + 2) (inl refl)))
-      (stored-pick v P next (setWord next p 3 v) next (eqb (word next p 3) 0) (stored-set v P next (8 * p + 3) (inr (inl refl))) (λ q. inl refl)))
+      (stored-pick v P next (setWord next p 3 v) next (eqb (word next p 3) 0) (stored-set v P next (8 * p + 3) (inr (inl refl)))
+      (λ q. inl refl)))
       (stored-set v P first (8 * p + 4) (inr (inr refl)))
     where
       v : ℕ
@@ -129,8 +141,10 @@ module _ (p i : ℕ) where
 
   linked-parts : (xs : List ℕ) → 8 * p + 4 < length xs → (word (linked xs p i) p 4 ≡ i + 1) × (word (linked xs p i) p 3 ≡ 0 → ⊥)
   unfolding linked firstLinked
-  linked-parts xs room =
-      (getD-set-same first (8 * p + 4) (i + 1) 0 (omega (arith, long (eqb (word next p 3) 0), next-long xs (word xs p 4) i)), λ e. given-first (eqb (word next p 3) 0) refl e)
+  linked-parts xs room = (
+    getD-set-same first (8 * p + 4) (i + 1) 0 (omega (arith, long (eqb (word next p 3) 0), next-long xs (word xs p 4) i)),
+    λ e. given-first (eqb (word next p 3) 0) refl e,
+  )
     where
       next : List ℕ
       next = nextLinked xs (word xs p 4) i
@@ -147,8 +161,11 @@ module _ (p i : ℕ) where
 
       given-first : (b : Bool) → eqb (word next p 3) 0 ≡ b → word (setWord (first-of b) p 4 (i + 1)) p 3 ≡ 0 → ⊥
       given-first true x e =
-          omega (arith, getD-set-other (set next (8 * p + 3) (i + 1)) (8 * p + 4) (8 * p + 3) (i + 1) 0 (λ z. omega arith),
-          getD-set-same next (8 * p + 3) (i + 1) 0 (omega (arith, next-long xs (word xs p 4) i)))
+          omega (
+            arith,
+            getD-set-other (set next (8 * p + 3) (i + 1)) (8 * p + 4) (8 * p + 3) (i + 1) 0 (λ z. omega arith),
+            getD-set-same next (8 * p + 3) (i + 1) 0 (omega (arith, next-long xs (word xs p 4) i)),
+          )
       given-first false x e = eqb-false _ 0 x (sym (getD-set-other next (8 * p + 4) (8 * p + 3) (i + 1) 0 (λ z. omega arith)) ∙ e)
 
 module _ (kind code from to : ℕ) (ns : List ℕ) (p i : ℕ) (below : p < i) (last : word ns p 4 ≤ i) (room : 8 * i + 8 ≤ length ns) where
@@ -172,8 +189,10 @@ module _ (kind code from to : ℕ) (ns : List ℕ) (p i : ℕ) (below : p < i) (
   unfolding appended
   old-word k w l b = go (linked-stored p i mid (8 * k + w))
     where
-      go : (getD (linked mid p i) (8 * k + w) 0 ≡ word mid k w) ⊎ (Links p i (word mid p 4) (8 * k + w) × (getD (linked mid p i) (8 * k + w) 0 ≡ i + 1)) →
-          (getD (linked mid p i) (8 * k + w) 0 ≡ word ns k w) ⊎ (Links p i (word mid p 4) (8 * k + w) × (getD (linked mid p i) (8 * k + w) 0 ≡ i + 1))
+      go : (getD (linked mid p i) (8 * k + w) 0 ≡ word mid k w) ⊎ (Links p i (word mid p 4) (8 * k + w)
+          × (getD (linked mid p i) (8 * k + w) 0 ≡ i + 1)) →
+          (getD (linked mid p i) (8 * k + w) 0 ≡ word ns k w) ⊎ (Links p i (word mid p 4) (8 * k + w)
+          × (getD (linked mid p i) (8 * k + w) 0 ≡ i + 1))
       go (inl e) = inl (e ∙ mid-old k w l b)
       go (inr e) = inr e
 
@@ -242,7 +261,8 @@ module _ (kind code from to : ℕ) (ns : List ℕ) (p i : ℕ) (below : p < i) (
       zero-word (suc (suc (suc (suc zero)))) a b = refl
       zero-word (suc (suc (suc (suc (suc w))))) a b = absurd (omega arith)
 
-      go : (getD (linked mid p i) (8 * i + w) 0 ≡ word mid i w) ⊎ (Links p i (word mid p 4) (8 * i + w) × (getD (linked mid p i) (8 * i + w) 0 ≡ i + 1)) →
+      go : (getD (linked mid p i) (8 * i + w) 0 ≡ word mid i w) ⊎ (Links p i (word mid p 4) (8 * i + w)
+          × (getD (linked mid p i) (8 * i + w) 0 ≡ i + 1)) →
           getD (linked mid p i) (8 * i + w) 0 ≡ 0
       go (inl e) = e ∙ mid-new w (omega arith) ∙ zero-word w a b
       go (inr e) = absurd (off (e .0))
@@ -314,12 +334,16 @@ module _ (size : ℕ) (t u : Tree) (s : Kept size t) (kind code from to p : ℕ)
         bytes = λ q. let m = n .bytes (sym e0 ∙ q) in rw (e6, e7) (m .0, omega (arith, m .1));
       }
     where
-      same-children : Dec (k ≡ p) → (word (u .nodes) k 3 ≡ 0 → word (u .nodes) k 4 ≡ 0) × (word (u .nodes) k 4 ≡ 0 → word (u .nodes) k 3 ≡ 0)
-      same-children (yes d) =
-          (λ z. absurd (parent-first kind code from to (t .nodes) p i below low room (ap (λ j. word (appended kind code from to (t .nodes) p i) j 3) (sym d) ∙ sym (at k 3) ∙ z)),
-          λ z. let f = parent-last kind code from to (t .nodes) p i below low room in
-          let g : word (u .nodes) k 4 ≡ word (appended kind code from to (t .nodes) p i) p 4 = at k 4 ∙ ap (λ j. word (appended kind code from to (t .nodes) p i) j 4) d in
-          absurd (omega arith))
+      same-children : Dec (k ≡ p) → (word (u .nodes) k 3 ≡ 0 → word (u .nodes) k 4 ≡ 0) × (word (u .nodes) k 4 ≡ 0 →
+          word (u .nodes) k 3 ≡ 0)
+      same-children (yes d) = (
+        λ z. absurd (parent-first kind code from to (t .nodes) p i below low room
+            (ap (λ j. word (appended kind code from to (t .nodes) p i) j 3) (sym d) ∙ sym (at k 3) ∙ z)),
+        λ z. let f = parent-last kind code from to (t .nodes) p i below low room in
+            let g : word (u .nodes) k 4 ≡ word (appended kind code from to (t .nodes) p i) p 4 = at k 4
+            ∙ ap (λ j. word (appended kind code from to (t .nodes) p i) j 4) d in
+            absurd (omega arith),
+      )
       same-children (no d) =
           let e3 = at k 3 ∙ old-child kind code from to (t .nodes) p i below low room k 3 l d (omega arith) (omega arith) in
           let e4 = at k 4 ∙ old-child kind code from to (t .nodes) p i below low room k 4 l d (omega arith) (omega arith) in
@@ -360,12 +384,14 @@ module _ (size : ℕ) (t u : Tree) (s : Kept size t) (kind code from to p : ℕ)
       new-parent : word (u .nodes) i 1 ≡ p + 1
       new-parent = its 1 (omega arith) (λ x y. omega arith)
 
-      cases : k < i → (word (appended kind code from to (t .nodes) p i) k 3 ≡ word (t .nodes) k 3) ⊎ ((k ≡ p) × (word (appended kind code from to (t .nodes) p i) k 3 ≡ i + 1)) →
+      cases : k < i → (word (appended kind code from to (t .nodes) p i) k 3 ≡ word (t .nodes) k 3)
+          ⊎ ((k ≡ p) × (word (appended kind code from to (t .nodes) p i) k 3 ≡ i + 1)) →
           word (u .nodes) (word (u .nodes) k 3 - 1) 1 ≡ k + 1
       cases d (inl e) =
           let f : word (u .nodes) k 3 ≡ word (t .nodes) k 3 = at k 3 ∙ e in
           let y = s .nodes k d .first (λ q. z (f ∙ q)) in
-          ap (λ j. word (u .nodes) (j - 1) 1) f ∙ was (word (t .nodes) k 3 - 1) 1 (omega (arith, y .0, y .1)) (omega arith) (λ a b. omega arith) ∙ h k d (λ q. z (f ∙ q))
+          ap (λ j. word (u .nodes) (j - 1) 1) f ∙ was (word (t .nodes) k 3 - 1) 1 (omega (arith, y .0, y .1)) (omega arith)
+          (λ a b. omega arith) ∙ h k d (λ q. z (f ∙ q))
       cases d (inr e) =
           let f : word (u .nodes) k 3 - 1 ≡ i = omega (arith, at k 3, e .1) in
           ap (λ j. word (u .nodes) j 1) f ∙ new-parent ∙ ap (λ j. j + 1) (sym (e .0))
@@ -379,16 +405,19 @@ module _ (size : ℕ) (t u : Tree) (s : Kept size t) (kind code from to p : ℕ)
 -- The root alone, in tables that are cleared.
 pub kept-root : (size n m b : ℕ) → 8 ≤ n → Kept size (rooted (cleared n m b)) × Coherent (rooted (cleared n m b))
 unfolding rooted cleared
-kept-root size n m b room = (record {
-  fits = record {
-    one = omega arith;
-    nodes = omega (arith, length-set {A = ℕ} (replicate n 0) (8 * 0 + 0) ROOT, length-replicate {A = ℕ} n 0);
-    entries = omega arith;
-    bytes = omega arith;
-  };
-  nodes = λ i l. let q : i ≡ 0 = omega arith in rw q root;
-  entries = λ j l. absurd (let z : j < 0 = l in omega arith);
-}, λ i l z. let q : i ≡ 0 = omega arith in absurd (z (ap (λ j. word ns j 3) q ∙ bare 3 (omega arith))))
+kept-root size n m b room = (
+  record {
+    fits = record {
+      one = omega arith;
+      nodes = omega (arith, length-set {A = ℕ} (replicate n 0) (8 * 0 + 0) ROOT, length-replicate {A = ℕ} n 0);
+      entries = omega arith;
+      bytes = omega arith;
+    };
+    nodes = λ i l. let q : i ≡ 0 = omega arith in rw q root;
+    entries = λ j l. absurd (let z : j < 0 = l in omega arith);
+  },
+  λ i l z. let q : i ≡ 0 = omega arith in absurd (z (ap (λ j. word ns j 3) q ∙ bare 3 (omega arith))),
+)
   where
     ns : List ℕ
     ns = setWord (replicate n 0) 0 0 ROOT
@@ -416,7 +445,8 @@ kept-root size n m b room = (record {
     }
 
 -- A new element.
-module _ (size : ℕ) (t : Tree) (k : Kept size t) (code : ℕ) (es : List Entry) (p : ℕ) (is : isElement code ≡ true) (below : p < t .nodeCount)
+module _ (size : ℕ) (t : Tree) (k : Kept size t) (code : ℕ) (es : List Entry) (p : ℕ) (is : isElement code ≡ true)
+    (below : p < t .nodeCount)
     (room : 8 * t .nodeCount + 8 ≤ length (t .nodes)) (space : 5 * (t .attributeCount + length es) ≤ length (t .attributes)) where
   fresh-element : Fresh ELEMENT code (t .attributeCount) (t .attributeCount + length es) (t .attributeCount + length es) (t .textCount)
   fresh-element = record {
@@ -437,18 +467,21 @@ module _ (size : ℕ) (t : Tree) (k : Kept size t) (code : ℕ) (es : List Entry
           entries = omega (arith, long .attributes);
           bytes = k .fits .bytes;
         };
-        nodes = grown size t (addElement code es p t) k ELEMENT code (t .attributeCount) (t .attributeCount + length es) p below room refl refl
+        nodes = grown size t (addElement code es p t) k ELEMENT code (t .attributeCount) (t .attributeCount + length es) p below room refl
+            refl
             (omega arith) (omega arith) fresh-element;
         entries = λ j l. entry j l (decLt j (t .attributeCount));
       }
     where
-      entry : (j : ℕ) → j < t .attributeCount + length es → Dec (j < t .attributeCount) → KeptEntry size (entryAt (addElement code es p t) j)
+      entry : (j : ℕ) → j < t .attributeCount + length es → Dec (j < t .attributeCount) →
+          KeptEntry size (entryAt (addElement code es p t) j)
       entry j l (yes d) = rw (old-entry code es p t j (λ x y. omega arith)) (k .entries j d)
       entry j l (no d) = new-entry code es p t (KeptEntry size) h space j (omega arith) l
 
   pub coherent-element : Coherent t → Coherent (addElement code es p t)
   unfolding addElement
-  coherent-element = coherent size t (addElement code es p t) k ELEMENT code (t .attributeCount) (t .attributeCount + length es) p below room refl refl
+  coherent-element = coherent size t (addElement code es p t) k ELEMENT code (t .attributeCount) (t .attributeCount + length es)
+      p below room refl refl
       (omega arith) (omega arith) fresh-element
 
 -- A new text node, its bytes within a place of that size.
@@ -473,13 +506,15 @@ module _ (size : ℕ) (t : Tree) (k : Kept size t) (bs : List ℕ) (place p : �
           entries = k .fits .entries;
           bytes = omega (arith, long .text);
         };
-        nodes = grown size t (addText bs place p t) k TEXT 0 (t .textCount) (t .textCount + length bs) p below room refl refl (omega arith) (omega arith) fresh-text;
+        nodes = grown size t (addText bs place p t) k TEXT 0 (t .textCount) (t .textCount + length bs) p below room refl refl
+            (omega arith) (omega arith) fresh-text;
         entries = k .entries;
       }
 
   pub coherent-text : Coherent t → Coherent (addText bs place p t)
   unfolding addText
-  coherent-text = coherent size t (addText bs place p t) k TEXT 0 (t .textCount) (t .textCount + length bs) p below room refl refl (omega arith) (omega arith) fresh-text
+  coherent-text = coherent size t (addText bs place p t) k TEXT 0 (t .textCount) (t .textCount + length bs) p below room refl refl
+      (omega arith) (omega arith) fresh-text
 
 -- Other bounds for a text node, within the bytes taken.
 module _ (size : ℕ) (t : Tree) (k : Kept size t) (i from to : ℕ) where
@@ -517,19 +552,24 @@ module _ (size : ℕ) (t : Tree) (k : Kept size t) (i from to : ℕ) where
       }
     where
       six : 8 * i + 8 ≤ length (t .nodes) → word (setText i from to t .nodes) i 6 ≡ from
-      six r = getD-set-other (setWord (t .nodes) i 6 from) (8 * i + 7) (8 * i + 6) to 0 (λ e. omega arith) ∙ getD-set-same (t .nodes) (8 * i + 6) from 0 (omega arith)
+      six r = getD-set-other (setWord (t .nodes) i 6 from) (8 * i + 7) (8 * i + 6) to 0 (λ e. omega arith)
+          ∙ getD-set-same (t .nodes) (8 * i + 6) from 0 (omega arith)
 
       seven : 8 * i + 8 ≤ length (t .nodes) → word (setText i from to t .nodes) i 7 ≡ to
       seven r = getD-set-same (setWord (t .nodes) i 6 from) (8 * i + 7) to 0 (omega (arith, length-set (t .nodes) (8 * i + 6) from))
 
       ranges : (j : ℕ) → j < t .nodeCount → Dec (j ≡ i) →
-          (kindOf t j ≡ ELEMENT → InOrder (word (setText i from to t .nodes) j 6) (word (setText i from to t .nodes) j 7) (t .attributeCount))
+          (kindOf t j ≡ ELEMENT → InOrder (word (setText i from to t .nodes) j 6) (word (setText i from to t .nodes) j 7)
+          (t .attributeCount))
           × (kindOf t j ≡ TEXT → InOrder (word (setText i from to t .nodes) j 6) (word (setText i from to t .nodes) j 7) (t .textCount))
       ranges j l (yes e) =
           let r : 8 * i + 8 ≤ length (t .nodes) = omega (arith, k .fits .nodes) in
           let x = ap (λ q. word (setText i from to t .nodes) q 6) e ∙ six r in
-          let y = ap (λ q. word (setText i from to t .nodes) q 7) e ∙ seven r in
-          (λ q. absurd (let z : _≡_ {A = ℕ} 3 2 = sym (ap (λ m. kindOf t m) e ∙ kind (omega arith)) ∙ q in omega arith), λ q. rw (x, y) (order, within))
+          let y = ap (λ q. word (setText i from to t .nodes) q 7) e ∙ seven r in (
+            λ q. absurd (let z : _≡_ {A = ℕ} 3 2 = sym (ap (λ m. kindOf t m) e ∙ kind (omega arith)) ∙ q in
+                omega arith),
+            λ q. rw (x, y) (order, within),
+          )
       ranges j l (no d) =
           let x = high-word j 6 d (omega arith) in
           let y = high-word j 7 d (omega arith) in
@@ -566,8 +606,18 @@ pub kept-attributes : (size : ℕ) (t : Tree) (ats : List ℕ) → Kept size t �
 kept-attributes size t ats k long h = record {
   fits = record { one = k .fits .one; nodes = k .fits .nodes; entries = omega (arith, k .fits .entries, long); bytes = k .fits .bytes };
   nodes = λ i l. let n = k .nodes i l in record {
-    root = n .root; kind = n .kind; below = n .below; falls = n .falls; next = n .next; first = n .first; last = n .last;
-    none = n .none; some = n .some; code = n .code; range = n .range; bytes = n .bytes;
+    root = n .root;
+    kind = n .kind;
+    below = n .below;
+    falls = n .falls;
+    next = n .next;
+    first = n .first;
+    last = n .last;
+    none = n .none;
+    some = n .some;
+    code = n .code;
+    range = n .range;
+    bytes = n .bytes;
   };
   entries = h;
 }
@@ -576,7 +626,8 @@ kept-attributes size t ats k long h = record {
 pub kept-none : (size : ℕ) (t : Tree) → Kept size t → (j : ℕ) → j < t .attributeCount → Kept size (setNone j t)
 unfolding setNone
 kept-none size t k j below =
-    kept-attributes size t (sets (t .attributes) (5 * j + 2) none) k (length-sets (t .attributes) (5 * j + 2) none) (λ i l. entry i l (ℕ-discrete i j))
+    kept-attributes size t (sets (t .attributes) (5 * j + 2) none) k (length-sets (t .attributes) (5 * j + 2) none)
+    (λ i l. entry i l (ℕ-discrete i j))
   where
     none : List ℕ
     none = 1 ∷ 0 ∷ 0 ∷ []
@@ -604,21 +655,25 @@ find-within t a j (suc n) h = go (eqb (entryWord t j 0) a) h (find-within t a (j
     go false h r = let f = r h in (omega (arith, f .0), omega (arith, f .1))
 
 -- An attribute that node i has is one of the counted entries.
-pub attribute-within : (size : ℕ) (t : Tree) → Kept size t → (i a : ℕ) → i < t .nodeCount → (attributeId t i a ≡ 0 → ⊥) → attributeId t i a ≤ t .attributeCount
+pub attribute-within : (size : ℕ) (t : Tree) → Kept size t → (i a : ℕ) → i < t .nodeCount → (attributeId t i a ≡ 0 → ⊥) →
+    attributeId t i a ≤ t .attributeCount
 unfolding attributeId
 attribute-within size t k i a l h = go (ℕ-discrete (kindOf t i) ELEMENT)
   where
-    go : Dec (kindOf t i ≡ ELEMENT) → pick (eqb (kindOf t i) ELEMENT) (λ u. findEntry t a (fromOf t i) (toOf t i - fromOf t i)) (λ u. 0) ≤ t .attributeCount
+    go : Dec (kindOf t i ≡ ELEMENT) → pick (eqb (kindOf t i) ELEMENT) (λ u. findEntry t a (fromOf t i) (toOf t i - fromOf t i)) (λ u. 0) ≤
+        t .attributeCount
     go (yes e) =
         let r = k .nodes i l .range e in
-        let q : pick (eqb (kindOf t i) ELEMENT) (λ u. findEntry t a (fromOf t i) (toOf t i - fromOf t i)) (λ u. 0) ≡ findEntry t a (fromOf t i) (toOf t i - fromOf t i) =
+        let q : pick (eqb (kindOf t i) ELEMENT) (λ u. findEntry t a (fromOf t i) (toOf t i - fromOf t i)) (λ u. 0)
+        ≡ findEntry t a (fromOf t i) (toOf t i - fromOf t i) =
         rw (eq-eqb (kindOf t i) ELEMENT e) refl in
         let f = find-within t a (fromOf t i) (toOf t i - fromOf t i) (λ z. h (q ∙ z)) in
         omega (arith, q, r .0, r .1, f .1)
     go (no e) = rw (ne-eqb (kindOf t i) ELEMENT e) (omega arith)
 
 -- Where nothing is past the counts, that is so of every node.
-pub attribute-any : (size : ℕ) (t : Tree) → Kept size t → Unused t → (i a : ℕ) → (attributeId t i a ≡ 0 → ⊥) → attributeId t i a ≤ t .attributeCount
+pub attribute-any : (size : ℕ) (t : Tree) → Kept size t → Unused t → (i a : ℕ) → (attributeId t i a ≡ 0 → ⊥) →
+    attributeId t i a ≤ t .attributeCount
 unfolding attributeId
 attribute-any size t k u i a h = go (decLt i (t .nodeCount))
   where
@@ -645,7 +700,8 @@ pub record Tidy (size : ℕ) (t : Tree) : Type 0 where
 
 -- The ranges after a new node: an element's range begins behind all that are taken.
 ordered-new : (size : ℕ) (t u : Tree) → Kept size t → Ordered t → (kind code from to p : ℕ) → 8 * t .nodeCount + 8 ≤ length (t .nodes) →
-    u .nodes ≡ appended kind code from to (t .nodes) p (t .nodeCount) → u .nodeCount ≡ t .nodeCount + 1 → (kind ≡ ELEMENT → t .attributeCount ≤ from) → Ordered u
+    u .nodes ≡ appended kind code from to (t .nodes) p (t .nodeCount) → u .nodeCount ≡ t .nodeCount + 1 →
+    (kind ≡ ELEMENT → t .attributeCount ≤ from) → Ordered u
 ordered-new size t u k o kind code from to p room nodes count start i j l b ki kj = go (decLt j (t .nodeCount))
   where
     n : ℕ
@@ -659,7 +715,8 @@ ordered-new size t u k o kind code from to p room nodes count start i j l b ki k
 
     go : Dec (j < n) → toOf u i ≤ fromOf u j
     go (yes d) =
-        let h = o i j l d (sym (was i 0 (omega arith) (omega arith) (λ x y. omega arith)) ∙ ki) (sym (was j 0 d (omega arith) (λ x y. omega arith)) ∙ kj) in
+        let h = o i j l d (sym (was i 0 (omega arith) (omega arith) (λ x y. omega arith)) ∙ ki)
+        (sym (was j 0 d (omega arith) (λ x y. omega arith)) ∙ kj) in
         rw (was i 7 (omega arith) (omega arith) (λ x y. omega arith), was j 6 d (omega arith) (λ x y. omega arith)) h
     go (no d) =
         let e : j ≡ n = omega (arith, count) in
@@ -677,7 +734,8 @@ tidy-root size n m b room =
     record { kept = k .0; coherent = k .1; ordered = λ i j l d. absurd (let z : j < 1 = d in omega arith); unused = unused-root n m b }
 
 module _ (size : ℕ) (t : Tree) (g : Tidy size t) where
-  pub tidy-element : (code : ℕ) (es : List Entry) (p : ℕ) → isElement code ≡ true → p < t .nodeCount → 8 * t .nodeCount + 8 ≤ length (t .nodes) →
+  pub tidy-element : (code : ℕ) (es : List Entry) (p : ℕ) → isElement code ≡ true → p < t .nodeCount →
+      8 * t .nodeCount + 8 ≤ length (t .nodes) →
       5 * (t .attributeCount + length es) ≤ length (t .attributes) → Every (KeptEntry size) es → Tidy size (addElement code es p t)
   unfolding addElement
   tidy-element code es p is below room space h = record {
@@ -706,7 +764,11 @@ module _ (size : ℕ) (t : Tree) (g : Tidy size t) where
     ordered = λ a b x y ka kb.
         let ea = low-word size t (g .kept) i from to a 0 (omega arith) in
         let eb = low-word size t (g .kept) i from to b 0 (omega arith) in
-        rw (high-word size t (g .kept) i from to a 7 (odd a (sym ea ∙ ka)) (omega arith), high-word size t (g .kept) i from to b 6 (odd b (sym eb ∙ kb)) (omega arith))
+        rw (
+          high-word size t (g .kept) i from to a 7 (odd a (sym ea ∙ ka)) (omega arith),
+          high-word size t (g .kept) i from to b 6
+              (odd b (sym eb ∙ kb)) (omega arith),
+        )
         (g .ordered a b x y (sym ea ∙ ka) (sym eb ∙ kb));
     unused = unused-bounds i from to t l (g .unused);
   }

@@ -68,7 +68,8 @@ next-agree {P} {xs} {ys} j i a = go (eqb j 0)
     go true = a
     go false = agree-set (8 * (j - 1) + 2) (i + 1) (i + 1) (λ u. refl) a
 
-first-agree : {P : ℕ → Type 0} {xs ys : List ℕ} (p i : ℕ) → P (8 * p + 3) → Agree P xs ys → Agree P (firstLinked xs p i) (firstLinked ys p i)
+first-agree : {P : ℕ → Type 0} {xs ys : List ℕ} (p i : ℕ) → P (8 * p + 3) → Agree P xs ys →
+    Agree P (firstLinked xs p i) (firstLinked ys p i)
 unfolding firstLinked
 first-agree {P} {xs} {ys} p i h a = rw (← a .at (8 * p + 3) h) (go (eqb (word xs p 3) 0))
   where
@@ -81,7 +82,8 @@ pub appended-agree : {P : ℕ → Type 0} {xs ys : List ℕ} (kind code from to 
     (P (8 * i + 7) → to ≡ to′) → Agree P xs ys → Agree P (appended kind code from to xs p i) (appended kind code from to′ ys p i)
 unfolding appended linked
 appended-agree {P} {xs} {ys} kind code from to to′ p i h3 h4 g a =
-    rw (← b .at (8 * p + 4) h4) (agree-set (8 * p + 4) (i + 1) (i + 1) (λ u. refl) (first-agree p i h3 (next-agree (word (full xs to) p 4) i b)))
+    rw (← b .at (8 * p + 4) h4) (agree-set (8 * p + 4) (i + 1) (i + 1) (λ u. refl)
+    (first-agree p i h3 (next-agree (word (full xs to) p 4) i b)))
   where
     full : List ℕ → ℕ → List ℕ
     full ns t = sets ns (8 * i) (kind ∷ (p + 1) ∷ 0 ∷ 0 ∷ 0 ∷ code ∷ from ∷ t ∷ [])

@@ -1,4 +1,5 @@
--- Places in the characters: a text's place is disjoint from every other string's, which follows from the decoding; so a drawing with one text
+-- Places in the characters: a text's place is disjoint from every other string's, which follows from the decoding; so a drawing with one
+-- text
 -- exchanged has the same events, and check takes it.
 use Prim.Native.Nat.{ℕ, _+_, _≤_, _<_}
 use mathlib.Core.Path.{_≡_, refl, sym, ap, _∙_}
@@ -13,14 +14,18 @@ use lib.Dec.{eqb, ltb}
 use lib.Seq.{slice}
 use Rattle.model.specs.Base.{pick}
 use Rattle.model.specs.Utf8.{isUtf8}
-use Rattle.model.specs.Drawing.{Command, opening, attribute, declaration, reading, closing, broken, Reading, Attribute, Declaration, Source, Event, begin, text, other, close, Mark, past, partAt, readingsAt, valueAt, attributesAt, declarationsAt, elementAt, sourceAt, eventsFrom, textNumbered}
-use Rattle.model.specs.Check.{State, Last, nothing, value, _if_, firstOf, isNothing, valueStart, valueSize, valueKinds, testsOf, testsAtEnd, stepped, checkFrom}
+use Rattle.model.specs.Drawing.{Command, opening, attribute, declaration, reading, closing, broken, Reading, Attribute, Declaration}
+use Rattle.model.specs.Drawing.{Source, Event, begin, text, other, close, Mark, past, partAt, readingsAt, valueAt, attributesAt}
+use Rattle.model.specs.Drawing.{declarationsAt, elementAt, sourceAt, eventsFrom, textNumbered}
+use Rattle.model.specs.Check.{State, Last, nothing, value, _if_, firstOf, isNothing, valueStart, valueSize, valueKinds, testsOf}
+use Rattle.model.specs.Check.{testsAtEnd, stepped, checkFrom}
 use Rattle.model.specs.Theorems.Sim.{Every, Events}
 use Rattle.model.specs.Theorems.Agree.{Agree, agree-slice}
 use Rattle.model.specs.Theorems.Spelled.{Spelled, SpelledElement}
 use Rattle.model.specs.Theorems.Related.{Harmless}
 use Rattle.model.specs.Theorems.Entries.{absurd-bool}
-use Rattle.model.specs.Theorems.Inside.{first-drop, first-keep, first-none, reading-placed, never-broken, check-cons, check-step, Bounded}
+use Rattle.model.specs.Theorems.Inside.{first-drop, first-keep, first-none, reading-placed, never-broken, check-cons, check-step}
+use Rattle.model.specs.Theorems.Inside.{Bounded}
 
 -- A string that was taken ends within the characters.
 text-within : (chars : List ℕ) (size : ℕ) (s : State) (l : ℕ) → firstOf (testsOf chars size s (Command.text l)) ≡ 0 → s .at + l ≤ size
@@ -45,7 +50,8 @@ module _ (t : ℕ) (a : Source) where
   Clear m (declaration b i l ∷ cs) = Away a (m .at) l × Clear (past m (declaration b i l)) cs
   Clear m (reading k o l ∷ cs) = Clear (past m (reading k o l)) cs
   Clear m (Command.text l ∷ cs) =
-      ((m .texts + 1 ≡ t → ⊥) → Away a (m .at) l) × (m .texts + 1 ≡ t → (m .at ≡ a .start) × (l ≡ a .size)) × Clear (past m (Command.text l)) cs
+      ((m .texts + 1 ≡ t → ⊥) → Away a (m .at) l) × (m .texts + 1 ≡ t → (m .at ≡ a .start) × (l ≡ a .size))
+      × Clear (past m (Command.text l)) cs
   Clear m (Command.other ∷ cs) = Clear (past m Command.other) cs
   Clear m (closing ∷ cs) = Clear (past m closing) cs
   Clear m (broken b ∷ cs) = Unit {0}
@@ -56,7 +62,12 @@ module _ (t : ℕ) (a : Source) where
   clear-behind m (attribute b n l ∷ cs) h k = (inr h, clear-behind (past m (attribute b n l)) cs (omega arith) (omega arith))
   clear-behind m (declaration b i l ∷ cs) h k = (inr h, clear-behind (past m (declaration b i l)) cs (omega arith) (omega arith))
   clear-behind m (reading c o l ∷ cs) h k = clear-behind (past m (reading c o l)) cs (omega arith) (omega arith)
-  clear-behind m (Command.text l ∷ cs) h k = (λ x. inr h, λ e. absurd (omega arith), clear-behind (past m (Command.text l)) cs (omega arith) (omega arith))
+  clear-behind m (Command.text l ∷ cs) h k = (
+    λ x. inr h,
+    λ e. absurd (omega arith),
+    clear-behind (past m (Command.text l))
+        cs (omega arith) (omega arith),
+  )
   clear-behind m (Command.other ∷ cs) h k = clear-behind (past m Command.other) cs (omega arith) (omega arith)
   clear-behind m (closing ∷ cs) h k = clear-behind (past m closing) cs (omega arith) (omega arith)
   clear-behind m (broken b ∷ cs) h k = tt
@@ -76,16 +87,22 @@ module _ (t : ℕ) (a : Source) where
   pub ahead : (chars : List ℕ) (m : Mark) (cs : List Command) → textNumbered t (eventsFrom chars m cs) ≡ some a → Ahead m cs
   unfolding eventsFrom textNumbered
   ahead chars m [] h = no-none a h
-  ahead chars m (opening c n ∷ cs) h = let r = ahead chars (past m (opening c n)) cs h in record { before = omega (arith, r .before); number = r .number; clear = r .clear }
+  ahead chars m (opening c n ∷ cs) h = let r = ahead chars (past m (opening c n)) cs h in
+      record { before = omega (arith, r .before); number = r .number; clear = r .clear }
   ahead chars m (attribute b n l ∷ cs) h =
-      let r = ahead chars (past m (attribute b n l)) cs h in record { before = omega (arith, r .before); number = r .number; clear = (inl (r .before), r .clear) }
+      let r = ahead chars (past m (attribute b n l)) cs h in
+      record { before = omega (arith, r .before); number = r .number; clear = (inl (r .before), r .clear) }
   ahead chars m (declaration b i l ∷ cs) h =
-      let r = ahead chars (past m (declaration b i l)) cs h in record { before = omega (arith, r .before); number = r .number; clear = (inl (r .before), r .clear) }
-  ahead chars m (reading k o l ∷ cs) h = let r = ahead chars (past m (reading k o l)) cs h in record { before = omega (arith, r .before); number = r .number; clear = r .clear }
+      let r = ahead chars (past m (declaration b i l)) cs h in
+      record { before = omega (arith, r .before); number = r .number; clear = (inl (r .before), r .clear) }
+  ahead chars m (reading k o l ∷ cs) h = let r = ahead chars (past m (reading k o l)) cs h in
+      record { before = omega (arith, r .before); number = r .number; clear = r .clear }
   ahead chars m (Command.text l ∷ cs) h = go (eqb (m .texts + 1) t) refl h (λ g. ahead chars (past m (Command.text l)) cs g)
     where
-      go : (b : Bool) → eqb (m .texts + 1) t ≡ b → pick b (λ u. some (sourceAt chars m l)) (λ u. textNumbered t (eventsFrom chars (past m (Command.text l)) cs)) ≡ some a →
-          (textNumbered t (eventsFrom chars (past m (Command.text l)) cs) ≡ some a → Ahead (past m (Command.text l)) cs) → Ahead m (Command.text l ∷ cs)
+      go : (b : Bool) → eqb (m .texts + 1) t ≡ b →
+          pick b (λ u. some (sourceAt chars m l)) (λ u. textNumbered t (eventsFrom chars (past m (Command.text l)) cs)) ≡ some a →
+          (textNumbered t (eventsFrom chars (past m (Command.text l)) cs) ≡ some a → Ahead (past m (Command.text l)) cs) →
+          Ahead m (Command.text l ∷ cs)
       go true e g r =
           let q : sourceAt chars m l ≡ a = some-same _ _ g in
           let n : m .texts + 1 ≡ t = eqb-true _ _ e in
@@ -100,8 +117,10 @@ module _ (t : ℕ) (a : Source) where
           let k = r g in
           let n : m .texts + 1 ≡ t → ⊥ = eqb-false _ _ e in
           record { before = omega (arith, k .before); number = k .number; clear = (λ f. inl (k .before), λ f. absurd (n f), k .clear) }
-  ahead chars m (Command.other ∷ cs) h = let r = ahead chars (past m Command.other) cs h in record { before = omega (arith, r .before); number = r .number; clear = r .clear }
-  ahead chars m (closing ∷ cs) h = let r = ahead chars (past m closing) cs h in record { before = omega (arith, r .before); number = r .number; clear = r .clear }
+  ahead chars m (Command.other ∷ cs) h = let r = ahead chars (past m Command.other) cs h in
+      record { before = omega (arith, r .before); number = r .number; clear = r .clear }
+  ahead chars m (closing ∷ cs) h = let r = ahead chars (past m closing) cs h in
+      record { before = omega (arith, r .before); number = r .number; clear = r .clear }
   ahead chars m (broken b ∷ cs) h = no-none a h
 
   -- The place of the text ends within the characters.
@@ -109,24 +128,33 @@ module _ (t : ℕ) (a : Source) where
       textNumbered t (eventsFrom chars m cs) ≡ some a → a .start + a .size ≤ size
   unfolding eventsFrom textNumbered stepped
   within chars size s m [] e k h = no-none a h
-  within chars size s m (opening c n ∷ cs) e k h = within chars size _ (past m (opening c n)) cs (omega arith) (check-cons chars size s (opening c n) cs k .1) h
-  within chars size s m (attribute b n l ∷ cs) e k h = within chars size _ (past m (attribute b n l)) cs (omega arith) (check-cons chars size s (attribute b n l) cs k .1) h
-  within chars size s m (declaration b i l ∷ cs) e k h = within chars size _ (past m (declaration b i l)) cs (omega arith) (check-cons chars size s (declaration b i l) cs k .1) h
-  within chars size s m (reading c o l ∷ cs) e k h = within chars size _ (past m (reading c o l)) cs (omega arith) (check-cons chars size s (reading c o l) cs k .1) h
+  within chars size s m (opening c n ∷ cs) e k h = within chars size _ (past m (opening c n)) cs (omega arith)
+      (check-cons chars size s (opening c n) cs k .1) h
+  within chars size s m (attribute b n l ∷ cs) e k h = within chars size _ (past m (attribute b n l)) cs (omega arith)
+      (check-cons chars size s (attribute b n l) cs k .1) h
+  within chars size s m (declaration b i l ∷ cs) e k h = within chars size _ (past m (declaration b i l)) cs (omega arith)
+      (check-cons chars size s (declaration b i l) cs k .1) h
+  within chars size s m (reading c o l ∷ cs) e k h = within chars size _ (past m (reading c o l)) cs (omega arith)
+      (check-cons chars size s (reading c o l) cs k .1) h
   within chars size s m (Command.text l ∷ cs) e k h =
       let d = check-cons chars size s (Command.text l) cs k in
-      go (eqb (m .texts + 1) t) h (λ g. within chars size _ (past m (Command.text l)) cs (omega arith) (d .1) g) (text-within chars size s l (d .0))
+      go (eqb (m .texts + 1) t) h (λ g. within chars size _ (past m (Command.text l)) cs (omega arith) (d .1) g)
+      (text-within chars size s l (d .0))
     where
-      go : (b : Bool) → pick b (λ u. some (sourceAt chars m l)) (λ u. textNumbered t (eventsFrom chars (past m (Command.text l)) cs)) ≡ some a →
-          (textNumbered t (eventsFrom chars (past m (Command.text l)) cs) ≡ some a → a .start + a .size ≤ size) → s .at + l ≤ size → a .start + a .size ≤ size
+      go : (b : Bool) → pick b (λ u. some (sourceAt chars m l)) (λ u. textNumbered t (eventsFrom chars (past m (Command.text l)) cs))
+          ≡ some a →
+          (textNumbered t (eventsFrom chars (past m (Command.text l)) cs) ≡ some a → a .start + a .size ≤ size) → s .at + l ≤ size →
+          a .start + a .size ≤ size
       go true q r f =
           let x : sourceAt chars m l ≡ a = some-same _ _ q in
           let y : m .at ≡ a .start = ap (λ (s : Source). s .start) x in
           let z : l ≡ a .size = ap (λ (s : Source). s .size) x in
           omega arith
       go false q r f = r q
-  within chars size s m (Command.other ∷ cs) e k h = within chars size _ (past m Command.other) cs (omega arith) (check-cons chars size s Command.other cs k .1) h
-  within chars size s m (closing ∷ cs) e k h = within chars size _ (past m closing) cs (omega arith) (check-cons chars size s closing cs k .1) h
+  within chars size s m (Command.other ∷ cs) e k h = within chars size _ (past m Command.other) cs (omega arith)
+      (check-cons chars size s Command.other cs k .1) h
+  within chars size s m (closing ∷ cs) e k h = within chars size _ (past m closing) cs (omega arith)
+      (check-cons chars size s closing cs k .1) h
   within chars size s m (broken b ∷ cs) e k h = no-none a h
 
   -- TWO LISTS OF CHARACTERS THAT AGREE OUTSIDE THAT PLACE
@@ -162,14 +190,16 @@ module _ (t : ℕ) (a : Source) where
     readings-same v n (broken c ∷ cs) h b = (refl, tt)
 
     value-same : (m : Mark) (l : ℕ) (cs : List Command) → Away a (m .at) l → Bounded l cs →
-        (valueAt one m l cs ≡ valueAt two m l cs) × Spelled one two (valueAt one m l cs .part) × Every (λ (r : Reading). Spelled one two (r .part)) (valueAt one m l cs .readings)
+        (valueAt one m l cs ≡ valueAt two m l cs) × Spelled one two (valueAt one m l cs .part)
+        × Every (λ (r : Reading). Spelled one two (r .part)) (valueAt one m l cs .readings)
     unfolding valueAt partAt
     value-same m l cs h b =
         let r = readings-same (m .at) l cs h b in
         ((λ i. record { command = m .number + 1; part = part-same (m .at) l h i; readings = r .0 i }), away-same (m .at) l h, r .1)
 
     attributes-same : (m : Mark) (n : ℕ) (cs : List Command) → Clear m cs → Bounded n cs →
-        (attributesAt one m cs ≡ attributesAt two m cs) × Every (λ (x : Attribute). Spelled one two (x .value .part)) (attributesAt one m cs)
+        (attributesAt one m cs ≡ attributesAt two m cs) × Every (λ (x : Attribute). Spelled one two (x .value .part))
+        (attributesAt one m cs)
     unfolding attributesAt
     attributes-same m n [] h b = (refl, tt)
     attributes-same m n (attribute c s l ∷ cs) h b =
@@ -186,7 +216,8 @@ module _ (t : ℕ) (a : Source) where
 
     declarations-same : (m : Mark) (n : ℕ) (cs : List Command) → Clear m cs → Bounded n cs →
         (declarationsAt one m cs ≡ declarationsAt two m cs)
-        × Every (λ (x : Declaration). Spelled one two (x .value .part) × Every (λ (r : Reading). Spelled one two (r .part)) (x .value .readings)) (declarationsAt one m cs)
+        × Every (λ (x : Declaration). Spelled one two (x .value .part) × Every (λ (r : Reading). Spelled one two (r .part))
+        (x .value .readings)) (declarationsAt one m cs)
     unfolding declarationsAt
     declarations-same m n [] h b = (refl, tt)
     declarations-same m n (attribute c s l ∷ cs) h b = declarations-same (past m (attribute c s l)) l cs (h .1) b
@@ -252,10 +283,12 @@ module _ (t : ℕ) (a : Source) where
       passes s m (reading k o n) cs e l h f = go (s .last) l f
         where
           go : (w : Last) → LastAway w →
-              firstOf (3 if not (Rattle.model.specs.Base.and (lib.Dec.leb 1 k) (lib.Dec.leb k 10)) ∷ 4 if isNothing w ∷ 6 if ltb (valueSize w) (o + n)
+              firstOf (3 if not (Rattle.model.specs.Base.and (lib.Dec.leb 1 k) (lib.Dec.leb k 10)) ∷ 4 if isNothing w ∷ 6
+              if ltb (valueSize w) (o + n)
               ∷ 7 if Rattle.model.specs.Base.and (not (eqb k 4)) (Rattle.model.specs.Base.among k (valueKinds w))
               ∷ 9 if not (isUtf8 (slice (valueStart w + o) (valueStart w + o + n) one)) ∷ []) ≡ 0 →
-              firstOf (3 if not (Rattle.model.specs.Base.and (lib.Dec.leb 1 k) (lib.Dec.leb k 10)) ∷ 4 if isNothing w ∷ 6 if ltb (valueSize w) (o + n)
+              firstOf (3 if not (Rattle.model.specs.Base.and (lib.Dec.leb 1 k) (lib.Dec.leb k 10)) ∷ 4 if isNothing w ∷ 6
+              if ltb (valueSize w) (o + n)
               ∷ 7 if Rattle.model.specs.Base.and (not (eqb k 4)) (Rattle.model.specs.Base.among k (valueKinds w))
               ∷ 9 if not (isUtf8 (slice (valueStart w + o) (valueStart w + o + n) two)) ∷ []) ≡ 0
           go nothing q f = absurd-bool (first-drop 3 _ _ (first-drop 2 _ _ f .1) .0)
@@ -283,7 +316,8 @@ module _ (t : ℕ) (a : Source) where
       check-same s m [] e l h k = k
       check-same s m (opening c n ∷ cs) e l h k =
           let d = check-cons one size s (opening c n) cs k in
-          check-step two size s (opening c n) cs (passes s m (opening c n) cs e l h (d .0)) (check-same _ (past m (opening c n)) cs (omega arith) tt h (d .1))
+          check-step two size s (opening c n) cs (passes s m (opening c n) cs e l h (d .0)) (check-same _ (past m (opening c n))
+          cs (omega arith) tt h (d .1))
       check-same s m (attribute c n j ∷ cs) e l h k =
           let d = check-cons one size s (attribute c n j) cs k in
           check-step two size s (attribute c n j) cs (passes s m (attribute c n j) cs e l h (d .0))
@@ -302,10 +336,12 @@ module _ (t : ℕ) (a : Source) where
           still (value v n ks) q f = q
       check-same s m (Command.text j ∷ cs) e l h k =
           let d = check-cons one size s (Command.text j) cs k in
-          check-step two size s (Command.text j) cs (passes s m (Command.text j) cs e l h (d .0)) (check-same _ (past m (Command.text j)) cs (omega arith) tt (h .2) (d .1))
+          check-step two size s (Command.text j) cs (passes s m (Command.text j) cs e l h (d .0)) (check-same _ (past m (Command.text j))
+          cs (omega arith) tt (h .2) (d .1))
       check-same s m (Command.other ∷ cs) e l h k =
           let d = check-cons one size s Command.other cs k in
-          check-step two size s Command.other cs (passes s m Command.other cs e l h (d .0)) (check-same _ (past m Command.other) cs (omega arith) tt h (d .1))
+          check-step two size s Command.other cs (passes s m Command.other cs e l h (d .0)) (check-same _ (past m Command.other)
+          cs (omega arith) tt h (d .1))
       check-same s m (closing ∷ cs) e l h k =
           let d = check-cons one size s closing cs k in
           check-step two size s closing cs (passes s m closing cs e l h (d .0)) (check-same _ (past m closing) cs (omega arith) tt h (d .1))

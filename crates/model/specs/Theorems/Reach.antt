@@ -13,10 +13,13 @@ use lib.Seq.{getD-set-other}
 use Rattle.model.specs.Base.{pick, and, given}
 use Rattle.model.specs.Utf8.{isBlank}
 use Rattle.model.specs.Tables.{Tree, TEXT, word, kindOf, parentOf, fromOf, toOf, textOf, setText}
-use Rattle.model.specs.Text.{XmlSpace, isDefault, getXmlspace, Trimming, stop, look, cut, cutFrom, cutTo, cutText, run, TextNode, depthBelow, textNodes, ownTextNodes, beginsWithSpace, endsWithSpace, isEmpty, single, between, outerSpaces, lastEdge, pair, standsFor, isNil, pairs, trimming}
+use Rattle.model.specs.Text.{XmlSpace, isDefault, getXmlspace, Trimming, stop, look, cut, cutFrom, cutTo, cutText, run, TextNode}
+use Rattle.model.specs.Text.{depthBelow, textNodes, ownTextNodes, beginsWithSpace, endsWithSpace, isEmpty, single, between}
+use Rattle.model.specs.Text.{outerSpaces, lastEdge, pair, standsFor, isNil, pairs, trimming}
 use Rattle.model.specs.Theorems.Sim.{Every}
 use Rattle.model.specs.Noted.{Note, size, In}
-use Rattle.model.specs.Theorems.Agree.{Agree, agree-refl, agree-trans, agree-set, agree-sets, agree-out, agree-outs, agree-slice, set-cases}
+use Rattle.model.specs.Theorems.Agree.{Agree, agree-refl, agree-trans, agree-set, agree-sets, agree-out, agree-outs, agree-slice}
+use Rattle.model.specs.Theorems.Agree.{set-cases}
 use Rattle.model.specs.Under.{under-keep}
 use Rattle.model.specs.Theorems.Kept.{Tidy, tidy-bounds}
 use Rattle.model.specs.Theorems.Good.{Fits, Good, text-nodes-keep}
@@ -27,14 +30,17 @@ moved : (f t a b : ℕ) → f ≤ t → (f ≤ cutFrom f t a) × (cutFrom f t a 
 moved f t a b h = (omega arith, omega arith, omega arith)
 
 -- The words but from and to stay.
-cut-word : (i a b : ℕ) (t : Tree) (j k : ℕ) → ((8 * j + k ≡ 8 * i + 6) → ⊥) → ((8 * j + k ≡ 8 * i + 7) → ⊥) → word (cutText i a b t .nodes) j k ≡ word (t .nodes) j k
+cut-word : (i a b : ℕ) (t : Tree) (j k : ℕ) → ((8 * j + k ≡ 8 * i + 6) → ⊥) → ((8 * j + k ≡ 8 * i + 7) → ⊥) →
+    word (cutText i a b t .nodes) j k ≡ word (t .nodes) j k
 unfolding cutText setText
 cut-word i a b t j k x y =
-    getD-set-other (set (t .nodes) (8 * i + 6) (cutFrom (fromOf t i) (toOf t i) a)) (8 * i + 7) (8 * j + k) (cutTo (fromOf t i) (toOf t i) a b) 0 y
+    getD-set-other (set (t .nodes) (8 * i + 6) (cutFrom (fromOf t i) (toOf t i) a)) (8 * i + 7) (8 * j + k)
+    (cutTo (fromOf t i) (toOf t i) a b) 0 y
     ∙ getD-set-other (t .nodes) (8 * i + 6) (8 * j + k) (cutFrom (fromOf t i) (toOf t i) a) 0 x
 
 -- From and to of a node after a cut: as they were, or the node is the one cut and they are the new ones.
-cut-from : (i a b : ℕ) (t : Tree) (j : ℕ) → (fromOf (cutText i a b t) j ≡ fromOf t j) ⊎ ((j ≡ i) × (fromOf (cutText i a b t) j ≡ cutFrom (fromOf t i) (toOf t i) a))
+cut-from : (i a b : ℕ) (t : Tree) (j : ℕ) →
+    (fromOf (cutText i a b t) j ≡ fromOf t j) ⊎ ((j ≡ i) × (fromOf (cutText i a b t) j ≡ cutFrom (fromOf t i) (toOf t i) a))
 unfolding cutText setText
 cut-from i a b t j = go (set-cases (t .nodes) (8 * i + 6) f (8 * j + 6))
   where
@@ -44,12 +50,14 @@ cut-from i a b t j = go (set-cases (t .nodes) (8 * i + 6) f (8 * j + 6))
     off : fromOf (cutText i a b t) j ≡ getD (set (t .nodes) (8 * i + 6) f) (8 * j + 6) 0
     off = getD-set-other (set (t .nodes) (8 * i + 6) f) (8 * i + 7) (8 * j + 6) (cutTo (fromOf t i) (toOf t i) a b) 0 (omega arith)
 
-    go : (getD (set (t .nodes) (8 * i + 6) f) (8 * j + 6) 0 ≡ fromOf t j) ⊎ ((8 * j + 6 ≡ 8 * i + 6) × (getD (set (t .nodes) (8 * i + 6) f) (8 * j + 6) 0 ≡ f)) →
+    go : (getD (set (t .nodes) (8 * i + 6) f) (8 * j + 6) 0 ≡ fromOf t j)
+        ⊎ ((8 * j + 6 ≡ 8 * i + 6) × (getD (set (t .nodes) (8 * i + 6) f) (8 * j + 6) 0 ≡ f)) →
         (fromOf (cutText i a b t) j ≡ fromOf t j) ⊎ ((j ≡ i) × (fromOf (cutText i a b t) j ≡ f))
     go (inl e) = inl (off ∙ e)
     go (inr e) = inr (omega (arith, e .0), off ∙ e .1)
 
-cut-to : (i a b : ℕ) (t : Tree) (j : ℕ) → (toOf (cutText i a b t) j ≡ toOf t j) ⊎ ((j ≡ i) × (toOf (cutText i a b t) j ≡ cutTo (fromOf t i) (toOf t i) a b))
+cut-to : (i a b : ℕ) (t : Tree) (j : ℕ) →
+    (toOf (cutText i a b t) j ≡ toOf t j) ⊎ ((j ≡ i) × (toOf (cutText i a b t) j ≡ cutTo (fromOf t i) (toOf t i) a b))
 unfolding cutText setText
 cut-to i a b t j = go (set-cases (set (t .nodes) (8 * i + 6) f) (8 * i + 7) g (8 * j + 7))
   where
@@ -62,7 +70,8 @@ cut-to i a b t j = go (set-cases (set (t .nodes) (8 * i + 6) f) (8 * i + 7) g (8
     off : getD (set (t .nodes) (8 * i + 6) f) (8 * j + 7) 0 ≡ toOf t j
     off = getD-set-other (t .nodes) (8 * i + 6) (8 * j + 7) f 0 (omega arith)
 
-    go : (toOf (cutText i a b t) j ≡ getD (set (t .nodes) (8 * i + 6) f) (8 * j + 7) 0) ⊎ ((8 * j + 7 ≡ 8 * i + 7) × (toOf (cutText i a b t) j ≡ g)) →
+    go : (toOf (cutText i a b t) j ≡ getD (set (t .nodes) (8 * i + 6) f) (8 * j + 7) 0)
+        ⊎ ((8 * j + 7 ≡ 8 * i + 7) × (toOf (cutText i a b t) j ≡ g)) →
         (toOf (cutText i a b t) j ≡ toOf t j) ⊎ ((j ≡ i) × (toOf (cutText i a b t) j ≡ g))
     go (inl e) = inl (e ∙ off)
     go (inr e) = inr (omega (arith, e .0), e .1)
@@ -85,8 +94,10 @@ fits-cut n i a b t h = go (cut-from i a b t (n .node)) (cut-to i a b t (n .node)
     same-to : n .node ≡ i → toOf t (n .node) ≡ g
     same-to e = ap (λ j. toOf t j) e
 
-    go : (fromOf (cutText i a b t) (n .node) ≡ fromOf t (n .node)) ⊎ ((n .node ≡ i) × (fromOf (cutText i a b t) (n .node) ≡ cutFrom f g a)) →
-        (toOf (cutText i a b t) (n .node) ≡ toOf t (n .node)) ⊎ ((n .node ≡ i) × (toOf (cutText i a b t) (n .node) ≡ cutTo f g a b)) → Fits n (cutText i a b t)
+    go : (fromOf (cutText i a b t) (n .node) ≡ fromOf t (n .node))
+        ⊎ ((n .node ≡ i) × (fromOf (cutText i a b t) (n .node) ≡ cutFrom f g a)) →
+        (toOf (cutText i a b t) (n .node) ≡ toOf t (n .node)) ⊎ ((n .node ≡ i) × (toOf (cutText i a b t) (n .node) ≡ cutTo f g a b)) →
+        Fits n (cutText i a b t)
     go (inl x) (inl y) = record { kind = k; low = rw x (h .low); mid = rw (x, y) (h .mid); high = rw y (h .high) }
     go (inl x) (inr y) =
         let e6 = same-from (y .0) in
@@ -120,14 +131,20 @@ unfolding cutText setText
 good-cut size′ ns i a b t x g = record {
   tidy = tidy-cut size′ i a b t x (g .tidy);
   tiles = g .tiles;
-  each = g .each ∙ sym (text-nodes-keep (cutText i a b t) t (t .nodeCount) (λ j l. cut-word i a b t j 0 (λ e. omega arith) (λ e. omega arith)));
+  each = g .each ∙ sym (text-nodes-keep (cutText i a b t) t (t .nodeCount) (λ j l. cut-word i a b t j 0 (λ e. omega arith)
+      (λ e. omega arith)));
   fits = λ n h. fits-cut n i a b t (g .fits n h);
   below = g .below;
   apart = g .apart;
   placed = λ n h. let f = g .placed n h in (
     f .0,
-    (cut-word i a b t (n .elem) 0 (λ e. omega arith) (λ e. omega arith) ∙ f .1 .0, cut-word i a b t (n .elem) 5 (λ e. omega arith) (λ e. omega arith) ∙ f .1 .1),
-    under-keep (t .nodes) _ (n .elem) (t .nodeCount) (λ j b. cut-word i a _ t j 1 (λ e. omega arith) (λ e. omega arith)) (n .node) (g .below n h .0) (f .2),
+    (
+      cut-word i a b t (n .elem) 0 (λ e. omega arith) (λ e. omega arith) ∙ f .1 .0,
+      cut-word i a b t (n .elem) 5 (λ e. omega arith)
+          (λ e. omega arith) ∙ f .1 .1,
+    ),
+    under-keep (t .nodes) _ (n .elem) (t .nodeCount) (λ j b. cut-word i a _ t j 1 (λ e. omega arith) (λ e. omega arith)) (n .node)
+        (g .below n h .0) (f .2),
   );
   noted = λ j h k. g .noted j h (sym (cut-word i a b t j 0 (λ e. omega arith) (λ e. omega arith)) ∙ k);
 }
@@ -205,7 +222,8 @@ run-out size′ ns stop t g h = (agree-refl _ _, agree-refl _ _)
 run-out {P} {Q} size′ ns (look i k) t g h = run-out {P = P} {Q = Q} size′ ns (k (textOf t i)) t g (h .1 (textOf t i))
 run-out {P} {Q} size′ ns (cut i a b k) t g h =
     let w = h .0 .2 in
-    let r = run-out {P = P} {Q = Q} size′ ns k (cutText i a b t) (good-cut size′ ns i a b t (noted-text size′ ns t g (w .0) (w .1) i (w .2)) g) (h .1) in
+    let r = run-out {P = P} {Q = Q} size′ ns k (cutText i a b t)
+    (good-cut size′ ns i a b t (noted-text size′ ns t g (w .0) (w .1) i (w .2)) g) (h .1) in
     let o = cut-out {P = P} {Q = Q} (w .0) i a b t (g .fits (w .0) (w .1)) (w .2) (h .0 .0) (h .0 .1) (w .3) in
     (agree-trans (r .0) (o .0), agree-trans (r .1) (o .1))
 
@@ -219,7 +237,8 @@ set-text-both i f g f′ g′ s t a b c d x y = (
   rw (a, b, c, d) (agree-sets (replicate (g - g′) 0) g′ (agree-sets (replicate (f′ - f) 0) f y)),
 )
 
-cut-both : {P Q : ℕ → Type 0} (i a b : ℕ) (s t : Tree) → P (8 * i + 6) → P (8 * i + 7) → Agree P (s .nodes) (t .nodes) → Agree Q (s .text) (t .text) →
+cut-both : {P Q : ℕ → Type 0} (i a b : ℕ) (s t : Tree) → P (8 * i + 6) → P (8 * i + 7) → Agree P (s .nodes) (t .nodes) →
+    Agree Q (s .text) (t .text) →
     Agree P (cutText i a b s .nodes) (cutText i a b t .nodes) × Agree Q (cutText i a b s .text) (cutText i a b t .text)
 unfolding cutText
 cut-both {P} {Q} i a b s t p q x y =
@@ -227,7 +246,8 @@ cut-both {P} {Q} i a b s t p q x y =
     (set-text-both {P = P} {Q = Q} i (fromOf s i) (toOf s i) _ _ s t refl (sym (x .at (8 * i + 6) p)) refl (sym (x .at (8 * i + 7) q)) x y)
 
 text-same : {P Q : ℕ → Type 0} (n : Note) (i : ℕ) (s t : Tree) → Fits n s → n .node ≡ i → P (8 * i + 6) → P (8 * i + 7) →
-    ((j : ℕ) → n .start ≤ j → j < n .start + size n → Q j) → Agree P (s .nodes) (t .nodes) → Agree Q (s .text) (t .text) → textOf s i ≡ textOf t i
+    ((j : ℕ) → n .start ≤ j → j < n .start + size n → Q j) → Agree P (s .nodes) (t .nodes) → Agree Q (s .text) (t .text) →
+    textOf s i ≡ textOf t i
 unfolding textOf
 text-same n i s t h e p q f x y =
     let e6 : fromOf s (n .node) ≡ fromOf s i = ap (λ j. fromOf s j) e in
@@ -237,13 +257,16 @@ text-same n i s t h e p q f x y =
 
 -- It does the same to tables that agree on what it names.
 pub run-both : {P Q : ℕ → Type 0} (size′ : ℕ) (ns : List Note) (g : Trimming) (s t : Tree) → Good size′ ns s →
-    Within (λ i. P (8 * i + 6) × P (8 * i + 7) × ((n : Note) × In n ns × (n .node ≡ i) × ((j : ℕ) → n .start ≤ j → j < n .start + size n → Q j))) g →
-    Agree P (s .nodes) (t .nodes) → Agree Q (s .text) (t .text) → Agree P (run g s .nodes) (run g t .nodes) × Agree Q (run g s .text) (run g t .text)
+    Within (λ i. P (8 * i + 6) × P (8 * i + 7) × ((n : Note) × In n ns × (n .node ≡ i) × ((j : ℕ) → n .start ≤ j → j < n .start + size n →
+    Q j))) g →
+    Agree P (s .nodes) (t .nodes) → Agree Q (s .text) (t .text) →
+    Agree P (run g s .nodes) (run g t .nodes) × Agree Q (run g s .text) (run g t .text)
 unfolding run
 run-both size′ ns stop s t g h x y = (x, y)
 run-both {P} {Q} size′ ns (look i k) s t g h x y =
     let w = h .0 .2 in
-    subst (λ (v : List ℕ). Agree P (run (k (textOf s i)) s .nodes) (run (k v) t .nodes) × Agree Q (run (k (textOf s i)) s .text) (run (k v) t .text))
+    subst (λ (v : List ℕ). Agree P (run (k (textOf s i)) s .nodes) (run (k v) t .nodes) × Agree Q (run (k (textOf s i)) s .text)
+    (run (k v) t .text))
     (text-same {P = P} {Q = Q} (w .0) i s t (g .fits (w .0) (w .1)) (w .2) (h .0 .0) (h .0 .1) (w .3) x y)
     (run-both {P = P} {Q = Q} size′ ns (k (textOf s i)) s t g (h .1 (textOf s i)) x y)
 run-both {P} {Q} size′ ns (cut i a b k) s t g h x y =
@@ -264,13 +287,23 @@ module _ (Q : ℕ → Type 0) where
     q,
     λ v. within-pick (eqb (length v) 1) _ _
         (within-pick (beginsWithSpace v) _ _ (q, tt) tt)
-        (within-pick (beginsWithSpace v) _ _ (q, within-pick (endsWithSpace v) _ _ (q, tt) tt) (within-pick (endsWithSpace v) _ _ (q, tt) tt)),
+        (within-pick (beginsWithSpace v) _ _ (q, within-pick (endsWithSpace v) _ _ (q, tt) tt) (within-pick (endsWithSpace v) _ _ (q, tt)
+        tt)),
   )
 
-  within-last : (z : Bool) (a b : TextNode) (v : List ℕ) (k : Trimming) → Q (a .node) → Q (b .node) → Within Q k → Within Q (lastEdge z a b v k)
-  within-last z a b v k p q h = (p, λ x. (q, λ y. within-pick (and (and z (endsWithSpace v)) (and (isEmpty y) (endsWithSpace x))) _ _ (p, h) h))
+  within-last : (z : Bool) (a b : TextNode) (v : List ℕ) (k : Trimming) → Q (a .node) → Q (b .node) → Within Q k →
+      Within Q (lastEdge z a b v k)
+  within-last z a b v k p q h = (
+    p,
+    λ x. (
+      q,
+      λ y. within-pick (and (and z (endsWithSpace v)) (and (isEmpty y) (endsWithSpace x))) _ _
+          (p, h) h,
+    ),
+  )
 
-  within-outerSpaces : (f z : Bool) (a b : TextNode) (v w : List ℕ) (k : Trimming) → Q (a .node) → Q (b .node) → Within Q k → Within Q (outerSpaces f z a b v w k)
+  within-outerSpaces : (f z : Bool) (a b : TextNode) (v w : List ℕ) (k : Trimming) → Q (a .node) → Q (b .node) → Within Q k →
+      Within Q (outerSpaces f z a b v w k)
   within-outerSpaces f z a b v w k p q h = (
     p,
     λ x. (
@@ -280,10 +313,12 @@ module _ (Q : ℕ → Type 0) where
     ),
   )
 
-  within-between : (d : Bool) (a b : TextNode) (v w : List ℕ) (k : Trimming) → Q (a .node) → Q (b .node) → Within Q k → Within Q (between d a b v w k)
+  within-between : (d : Bool) (a b : TextNode) (v w : List ℕ) (k : Trimming) → Q (a .node) → Q (b .node) → Within Q k →
+      Within Q (between d a b v w k)
   within-between d a b v w k p q h =
       within-pick d _ _ (within-pick (and (beginsWithSpace w) (isDefault (b .space))) _ _ (q, h) h)
-      (within-pick (and (and (endsWithSpace v) (beginsWithSpace w)) (isDefault (b .space))) _ _ (within-pick (isDefault (a .space)) _ _ (p, h) (q, h)) h)
+      (within-pick (and (and (endsWithSpace v) (beginsWithSpace w)) (isDefault (b .space))) _ _ (within-pick (isDefault (a .space)) _ _
+      (p, h) (q, h)) h)
 
   within-pair : (d f z : Bool) (a b : TextNode) (k : Trimming) → Q (a .node) → Q (b .node) → Within Q k → Within Q (pair d f z a b k)
   within-pair d f z a b k p q h =
@@ -308,10 +343,13 @@ module _ (Q : ℕ → Type 0) where
       Every (λ (o : TextNode). Q (o .node)) more → Within Q (pairs f last a more)
   unfolding pairs
   within-pairs f last a [] h q e = tt
-  within-pairs f last a (b ∷ more) h q e = (q, λ v.
-      let p = stands-named (isEmpty v) last a h q in
-      within-pair (ltb (a .depth) (b .depth)) f (isNil more) (standsFor v a last) b _ p (e .0)
-      (p, λ x. within-pairs false _ b more (named-pick (isBlank x) last (standsFor v a last) h p) (e .0) (e .1)))
+  within-pairs f last a (b ∷ more) h q e = (
+    q,
+    λ v.
+        let p = stands-named (isEmpty v) last a h q in
+        within-pair (ltb (a .depth) (b .depth)) f (isNil more) (standsFor v a last) b _ p (e .0)
+        (p, λ x. within-pairs false _ b more (named-pick (isBlank x) last (standsFor v a last) h p) (e .0) (e .1)),
+  )
 
   pub within-trimming : (w : XmlSpace) (is : List TextNode) → Every (λ (o : TextNode). Q (o .node)) is → Within Q (trimming w is)
   unfolding trimming
@@ -325,11 +363,13 @@ module _ (Q : ℕ → Type 0) where
   unfolding textNodes
   collected chars t w e i zero h = tt
   collected chars t w e i (suc n) h =
-      go (collected chars t w e (i + 1) n (λ j a b k. h j (omega arith) (omega arith) k)) (eqb (kindOf t i) TEXT) (λ f. h i (omega arith) (omega arith) (eqb-true _ _ f))
+      go (collected chars t w e (i + 1) n (λ j a b k. h j (omega arith) (omega arith) k)) (eqb (kindOf t i) TEXT)
+      (λ f. h i (omega arith) (omega arith) (eqb-true _ _ f))
     where
       go : Every (λ (o : TextNode). Q (o .node)) (textNodes chars t w e (i + 1) n) → (b : Bool) → (b ≡ true → Q i) →
           Every (λ (o : TextNode). Q (o .node))
-          (pick b (λ u. record { node = i; depth = depthBelow t e i i; space = getXmlspace chars t (parentOf t i - 1) w } ∷ textNodes chars t w e (i + 1) n)
+          (pick b (λ u. record { node = i; depth = depthBelow t e i i; space = getXmlspace chars t (parentOf t i - 1) w } ∷
+          textNodes chars t w e (i + 1) n)
           (λ u. textNodes chars t w e (i + 1) n))
       go r true f = (f refl, r)
       go r false f = r

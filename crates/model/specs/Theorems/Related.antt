@@ -12,12 +12,15 @@ use lib.Seq.{sets, slice}
 use Rattle.model.specs.Base.{pick, and, or, among}
 use Rattle.model.specs.EId
 use Rattle.model.specs.Drawing.{Element, Source, Event}
-use Rattle.model.specs.Tables.{Tree, Out, ELEMENT, TEXT, word, kindOf, parentOf, most, nodeRoom, attributeRoom, textRoom, Entry, entryAt, addElement, addText}
+use Rattle.model.specs.Tables.{Tree, Out, ELEMENT, TEXT, word, kindOf, parentOf, most, nodeRoom, attributeRoom, textRoom, Entry}
+use Rattle.model.specs.Tables.{entryAt, addElement, addText}
 use Rattle.model.specs.Element.{entriesOf, mostNodes, parseSvgElement}
-use Rattle.model.specs.Text.{XmlSpace, isDefault, SPACE, converted, trimTextAfter, trimText, spaceOf, totalSize, joined, appendText, Trimming, run, TextNode, ownTextNodes, trimming, trimTextNodes}
+use Rattle.model.specs.Text.{XmlSpace, isDefault, SPACE, converted, trimTextAfter, trimText, spaceOf, totalSize, joined, appendText}
+use Rattle.model.specs.Text.{Trimming, run, TextNode, ownTextNodes, trimming, trimTextNodes}
 use Rattle.model.specs.Parse.{label, plain}
 use Rattle.model.specs.Build.{parsed}
-use Rattle.model.specs.Theorems.Sim.{Rel, both, same, Every, Events, rel-map, then-rel, Carried, Grown, IsCode, text-code, inside-sim, top-sim}
+use Rattle.model.specs.Theorems.Sim.{Rel, both, same, Every, Events, rel-map, then-rel, Carried, Grown, IsCode, text-code, inside-sim}
+use Rattle.model.specs.Theorems.Sim.{top-sim}
 use Rattle.model.specs.Noted.{Note, size, sources, Noted, noteOf, withNotes, noting, In}
 use Rattle.model.specs.Theorems.Agree.{Agree, agree-sym, agree-trans, agree-weak, agree-sets, agree-outs}
 use Rattle.model.specs.Theorems.Same.{Same, entries-same, space-same, own-nodes-same}
@@ -112,12 +115,14 @@ unfolding textRoom
 text-room-fits t n h = omega (arith, leb-true (t .textCount + n) (min (length (t .text)) most) h)
 
 -- There is room for as many entries.
-entries-fit : (t : Tree) (n : ℕ) → leb (t .attributeCount + n) (attributeRoom t) ≡ true → 5 * (t .attributeCount + n) ≤ length (t .attributes)
+entries-fit : (t : Tree) (n : ℕ) → leb (t .attributeCount + n) (attributeRoom t) ≡ true →
+    5 * (t .attributeCount + n) ≤ length (t .attributes)
 unfolding attributeRoom
 entries-fit t n h = omega (arith, leb-true (t .attributeCount + n) (min (length (t .attributes) / 5) most) h)
 
 -- Entries are safe in a tree with the same attribute table.
-entry-safe : (one two : List ℕ) (s r : Tree) → s .attributes ≡ r .attributes → ((j : ℕ) → Safe one two (entryAt r j)) → (j : ℕ) → Safe one two (entryAt s j)
+entry-safe : (one two : List ℕ) (s r : Tree) → s .attributes ≡ r .attributes → ((j : ℕ) → Safe one two (entryAt r j)) → (j : ℕ) →
+    Safe one two (entryAt s j)
 entry-safe one two s r h safe j = rw (entry-by-words s r j (λ k b. ap (λ (l : List ℕ). getD l (5 * j + k) 0) h)) (safe j)
 
 module _ (t : ℕ) (one two : List ℕ) where
@@ -158,7 +163,8 @@ module _ (t : ℕ) (one two : List ℕ) where
     attributes = ap (λ l. sets l (5 * s .tree .attributeCount) (Rattle.model.specs.Tables.entriesWords es)) (o .attributes)
         ∙ ap (λ n. sets (r .tree .attributes) (5 * n) (Rattle.model.specs.Tables.entriesWords es)) (o .attributeCount);
     nodes = rw (← o .nodeCount, ← o .attributeCount)
-        (appended-agree ELEMENT c (s .tree .attributeCount) _ _ p (s .tree .nodeCount) (stable-word t (s .notes) p 3 (omega arith)) (stable-word t (s .notes) p 4 (omega arith))
+        (appended-agree ELEMENT c (s .tree .attributeCount) _ _ p (s .tree .nodeCount) (stable-word t (s .notes) p 3 (omega arith))
+        (stable-word t (s .notes) p 4 (omega arith))
         (λ u. refl) (o .nodes));
     text = o .text;
     safe = add-safe one two c es p (s .tree) fit sf (o .safe);
@@ -184,17 +190,23 @@ module _ (t : ℕ) (one two : List ℕ) where
       every-entry (KeptEntry (length one)) _ kept-closed u p c (λ j b. g .tidy .kept .nodes j (omega arith) .falls)
       (λ j a b z. kept-attribute (length one) u (g .tidy .kept) j a (omega arith) z) i x (lies-read (length one) x h)
 
-  element-rel : (R : Noted → Noted → Type 0) (x : Element) → Fine x → (c : ℕ) → IsCode c → (i : Bool) (p : ℕ) (s r : Noted) → Open t one two p s r →
-      ((es : List Entry) → 8 * s .tree .nodeCount + 8 ≤ length (s .tree .nodes) → Outer t one two (grown c es p s) (grown c es p r) → R (grown c es p s) (grown c es p r)) →
+  element-rel : (R : Noted → Noted → Type 0) (x : Element) → Fine x → (c : ℕ) → IsCode c → (i : Bool) (p : ℕ) (s r : Noted) →
+      Open t one two p s r →
+      ((es : List Entry) → 8 * s .tree .nodeCount + 8 ≤ length (s .tree .nodes) → Outer t one two (grown c es p s) (grown c es p r) →
+      R (grown c es p s) (grown c es p r)) →
       Rel R (noting (plain one) .element x c i p s) (noting (plain two) .element x c i p r)
   unfolding parseSvgElement
   element-rel R x g c is i p s r q f =
       let o = q .outer in
       rw (← entries-same one two (s .tree) (r .tree) (outer-same s r o) p c i x)
-      (pick-both R (s .notes) (r .notes) (leb (s .tree .attributeCount + length es) (attributeRoom (s .tree))) (leb (r .tree .attributeCount + length es) (attributeRoom (r .tree))) _ _ _ _
-      (ap (λ n. leb (n + length es) (attributeRoom (s .tree))) (o .attributeCount) ∙ ap (λ n. leb (r .tree .attributeCount + length es) n) (attribute-room-same _ _ (o .attributes)))
-      (λ fit. pick-both R (s .notes) (r .notes) (leb (s .tree .nodeCount) mostNodes) (leb (r .tree .nodeCount) mostNodes) _ _ _ _ (ap (λ n. leb n mostNodes) (o .nodeCount))
-      (λ few. pick-both R (s .notes) (r .notes) (ltb (s .tree .nodeCount) (nodeRoom (s .tree))) (ltb (r .tree .nodeCount) (nodeRoom (r .tree))) _ _ _ _
+      (pick-both R (s .notes) (r .notes) (leb (s .tree .attributeCount + length es) (attributeRoom (s .tree)))
+      (leb (r .tree .attributeCount + length es) (attributeRoom (r .tree))) _ _ _ _
+      (ap (λ n. leb (n + length es) (attributeRoom (s .tree))) (o .attributeCount) ∙ ap (λ n. leb (r .tree .attributeCount + length es) n)
+      (attribute-room-same _ _ (o .attributes)))
+      (λ fit. pick-both R (s .notes) (r .notes) (leb (s .tree .nodeCount) mostNodes) (leb (r .tree .nodeCount) mostNodes) _ _ _ _
+      (ap (λ n. leb n mostNodes) (o .nodeCount))
+      (λ few. pick-both R (s .notes) (r .notes) (ltb (s .tree .nodeCount) (nodeRoom (s .tree)))
+      (ltb (r .tree .nodeCount) (nodeRoom (r .tree))) _ _ _ _
       (ap (λ n. ltb n (nodeRoom (s .tree))) (o .nodeCount) ∙ ap (λ n. ltb (r .tree .nodeCount) n) (node-room-same _ _ (o .nodes .long)))
       (λ room. same (f es (room-fits (s .tree) room)
       (outer-add c p es s r o is (q .opened) (room-fits (s .tree) room) (entries-fit (s .tree) (length es) fit)
@@ -225,14 +237,15 @@ module _ (t : ℕ) (one two : List ℕ) where
       Rel (Inner t one two (s .tree .nodeCount) (s .tree .textCount) (s .tree .nodeCount)) (noting (plain one) .element x EId.Text i p s)
       (noting (plain two) .element x EId.Text i p r)
   unfolding addElement
-  enter x g i p s r o = element-rel (Inner t one two (s .tree .nodeCount) (s .tree .textCount) (s .tree .nodeCount)) x g EId.Text text-code i p s r o (λ es room q. record {
-    outer = q;
-    base = omega arith;
-    past = omega arith;
-    split = λ n h. inr (omega (arith, o .outer .left .below n h .0), o .outer .left .below n h .1);
-    label = (its es room 0 (omega arith) (λ x y. omega arith), its es room 5 (omega arith) (λ x y. omega arith));
-    opened = (omega arith, here);
-  })
+  enter x g i p s r o = element-rel (Inner t one two (s .tree .nodeCount) (s .tree .textCount) (s .tree .nodeCount)) x g EId.Text
+      text-code i p s r o (λ es room q. record {
+        outer = q;
+        base = omega arith;
+        past = omega arith;
+        split = λ n h. inr (omega (arith, o .outer .left .below n h .0), o .outer .left .below n h .1);
+        label = (its es room 0 (omega arith) (λ x y. omega arith), its es room 5 (omega arith) (λ x y. omega arith));
+        opened = (omega arith, here);
+      })
     where
       its : (es : List Entry) → 8 * s .tree .nodeCount + 8 ≤ length (s .tree .nodes) → (k : ℕ) → k < 8 → (2 ≤ k → k ≤ 4 → ⊥) →
           word (addElement EId.Text es p (s .tree) .nodes) (s .tree .nodeCount) k
@@ -240,35 +253,53 @@ module _ (t : ℕ) (one two : List ℕ) where
       its es room k b h = appended-new ELEMENT EId.Text _ _ (s .tree .nodes) p (s .tree .nodeCount) k room b h
 
   inner-element : (e low : ℕ) (x : Element) → Fine x → (c : ℕ) → IsCode c → (p : ℕ) (s r : Noted) → Inner t one two e low p s r →
-      Rel (Grown (Inner t one two e low) (r .tree .nodeCount) s r) (noting (plain one) .element x c false p s) (noting (plain two) .element x c false p r)
+      Rel (Grown (Inner t one two e low) (r .tree .nodeCount) s r) (noting (plain one) .element x c false p s)
+      (noting (plain two) .element x c false p r)
   unfolding addElement
-  inner-element e low x g c is p s r i = element-rel _ x g c is false p s r (record { outer = i .outer; opened = i .opened .0 }) (λ es room q. let keep = kept es q in (
-    record {
-      outer = q;
-      base = i .base;
-      past = omega (arith, i .past);
-      split = i .split;
-      label = keep p i .label;
-      opened = rw (← i .outer .nodeCount) (omega arith, under-new ELEMENT c _ _ (s .tree .nodes) p (s .tree .nodeCount) e room (i .opened .0) (i .opened .1));
-    },
-    keep,
-  ))
+  inner-element e low x g c is p s r i = element-rel _ x g c is false p s r (record { outer = i .outer; opened = i .opened .0 })
+      (λ es room q. let keep = kept es q in (
+        record {
+          outer = q;
+          base = i .base;
+          past = omega (arith, i .past);
+          split = i .split;
+          label = keep p i .label;
+          opened = rw (← i .outer .nodeCount) (
+            omega arith,
+            under-new ELEMENT c _ _ (s .tree .nodes) p (s .tree .nodeCount)
+                e room (i .opened .0) (i .opened .1),
+          );
+        },
+        keep,
+      ))
     where
-      kept : (es : List Entry) → Outer t one two (grown c es p s) (grown c es p r) → Carried (Inner t one two e low) s r (grown c es p s) (grown c es p r)
+      kept : (es : List Entry) → Outer t one two (grown c es p s) (grown c es p r) →
+          Carried (Inner t one two e low) s r (grown c es p s) (grown c es p r)
       kept es q p′ j = record {
         outer = q;
         base = j .base;
         past = omega (arith, j .past);
         split = j .split;
         label = old-element ELEMENT c _ _ (s .tree .nodes) p (s .tree .nodeCount) e EId.Text (j .past) (j .label);
-        opened = (omega (arith, j .opened .0), under-appended ELEMENT c _ _ (s .tree .nodes) p (s .tree .nodeCount) e p′ (j .opened .0) (j .opened .1));
+        opened = (
+          omega (arith, j .opened .0),
+          under-appended ELEMENT c _ _ (s .tree .nodes) p (s .tree .nodeCount) e p′ (j .opened .0)
+              (j .opened .1),
+        );
       }
 
-  inner-up : (e low p : ℕ) (s r : Noted) → eqb p e ≡ false → Inner t one two e low p s r → Inner t one two e low (parentOf (r .tree) p - 1) s r
+  inner-up : (e low p : ℕ) (s r : Noted) → eqb p e ≡ false → Inner t one two e low p s r →
+      Inner t one two e low (parentOf (r .tree) p - 1) s r
   inner-up e low p s r f i =
       let u = under-parent (s .tree .nodes) e p (eqb-false p e f) (i .opened .1) in
-      rw (← i .outer .nodes .at (8 * p + 1) (stable-word t (s .notes) p 1 (omega arith))) (record
-      { outer = i .outer; base = i .base; past = i .past; split = i .split; label = i .label; opened = (omega (arith, u .0, i .opened .0), u .1) })
+      rw (← i .outer .nodes .at (8 * p + 1) (stable-word t (s .notes) p 1 (omega arith))) (record {
+        outer = i .outer;
+        base = i .base;
+        past = i .past;
+        split = i .split;
+        label = i .label;
+        opened = (omega (arith, u .0, i .opened .0), u .1);
+      })
 
   -- A TEXT NODE
 
@@ -288,14 +319,19 @@ module _ (t : ℕ) (one two : List ℕ) where
       go k false e g = rw (h .0 (λ x. eqb-false t (a .number) e (sym x)), k g)
 
   -- All texts that a text node is made from are noted.
-  all-noted : (e : ℕ) (from : List Source) (i j : ℕ) → among t (map (λ a. a .number) from) ≡ true → among t (sources (noteOf e from i j)) ≡ true
+  all-noted : (e : ℕ) (from : List Source) (i j : ℕ) → among t (map (λ a. a .number) from) ≡ true →
+      among t (sources (noteOf e from i j)) ≡ true
   all-noted e from i j h = h
 
   -- Both trees with a new text node.
   abbrev worded : ℕ → List Source → List ℕ → ℕ → Noted → Noted
-  worded e from bs p s = record { tree = addText bs (totalSize from) p (s .tree); notes = noteOf e from (s .tree .nodeCount) (s .tree .textCount) ∷ s .notes }
+  worded e from bs p s = record {
+    tree = addText bs (totalSize from) p (s .tree);
+    notes = noteOf e from (s .tree .nodeCount) (s .tree .textCount) ∷ s .notes;
+  }
 
-  inner-worded : (e low p : ℕ) (from : List Source) (s r : Noted) (us vs : List ℕ) → length us ≤ totalSize from → length vs ≤ totalSize from →
+  inner-worded : (e low p : ℕ) (from : List Source) (s r : Noted) (us vs : List ℕ) → length us ≤ totalSize from →
+      length vs ≤ totalSize from →
       ((us ≡ vs) ⊎ (among t (map (λ a. a .number) from) ≡ true)) → 8 * s .tree .nodeCount + 8 ≤ length (s .tree .nodes) →
       s .tree .textCount + totalSize from ≤ length (s .tree .text) → Inner t one two e low p s r →
       Carried (Inner t one two e low) s r (worded e from us p s) (worded e from vs p r)
@@ -307,23 +343,34 @@ module _ (t : ℕ) (one two : List ℕ) where
       attributeCount = o .attributeCount;
       textCount = ap (λ n. n + totalSize from) (o .textCount);
       attributes = o .attributes;
-      nodes = rw (← o .nodeCount, ← o .textCount) (appended-agree TEXT 0 (s .tree .textCount) _ _ p (s .tree .nodeCount) (stable-word t ns p 3 (omega arith)) (stable-word t ns p 4 (omega arith))
+      nodes = rw (← o .nodeCount, ← o .textCount) (appended-agree TEXT 0 (s .tree .textCount) _ _ p (s .tree .nodeCount)
+          (stable-word t ns p 3 (omega arith)) (stable-word t ns p 4 (omega arith))
           (λ f. to f c) (agree-weak (λ q f n h d. f n (inr h) (holds-more t (n .elem) new (s .notes) d)) (o .nodes)));
       text = bytes c;
       safe = o .safe;
-      left = good-text (length one) (s .notes) e p us from (s .tree) room space la (i .past) (i .label) (i .opened .0) (i .opened .1) (o .left);
-      right = rw (o .nodeCount, o .textCount) (good-text (length one) (s .notes) e p vs from (r .tree) (rw (← o .nodeCount, ← o .nodes .long) room)
-          (rw (← o .textCount, ← o .text .long) space) lb (rw (o .nodeCount) at (i .past))
-          (sym (o .nodes .at (8 * e + 0) (stable-word t (s .notes) e 0 (omega arith))) ∙ i .label .0, sym (o .nodes .at (8 * e + 5) (stable-word t (s .notes) e 5 (omega arith))) ∙ i .label .1)
+      left = good-text (length one) (s .notes) e p us from (s .tree) room space la (i .past) (i .label) (i .opened .0) (i .opened .1)
+          (o .left);
+      right = rw (o .nodeCount, o .textCount) (good-text (length one) (s .notes) e p vs from (r .tree)
+          (rw (← o .nodeCount, ← o .nodes .long) room)
+          (rw (← o .textCount, ← o .text .long) space) lb (rw (o .nodeCount) at (i .past)) (
+            sym (o .nodes .at (8 * e + 0) (stable-word t (s .notes) e 0 (omega arith)))
+                ∙ i .label .0,
+            sym (o .nodes .at (8 * e + 5) (stable-word t (s .notes) e 5 (omega arith))) ∙ i .label .1,
+          )
           (rw (o .nodeCount) at (i .opened .0))
-          (under-keep (s .tree .nodes) (r .tree .nodes) e (s .tree .nodeCount) (λ m b. sym (o .nodes .at (8 * m + 1) (stable-word t (s .notes) m 1 (omega arith)))) p (i .opened .0) (i .opened .1))
+          (under-keep (s .tree .nodes) (r .tree .nodes) e (s .tree .nodeCount)
+          (λ m b. sym (o .nodes .at (8 * m + 1) (stable-word t (s .notes) m 1 (omega arith)))) p (i .opened .0) (i .opened .1))
           (o .right));
     };
     base = omega (arith, i .base);
     past = omega (arith, i .past);
     split = λ n h. split n h;
     label = old-element TEXT 0 _ _ (s .tree .nodes) p (s .tree .nodeCount) e EId.Text (i .past) (i .label);
-    opened = (omega (arith, j .opened .0), under-appended TEXT 0 _ _ (s .tree .nodes) p (s .tree .nodeCount) e p′ (j .opened .0) (j .opened .1));
+    opened = (
+      omega (arith, j .opened .0),
+      under-appended TEXT 0 _ _ (s .tree .nodes) p (s .tree .nodeCount) e p′ (j .opened .0)
+          (j .opened .1),
+    );
   }
     where
       o : Outer t one two s r
@@ -338,19 +385,23 @@ module _ (t : ℕ) (one two : List ℕ) where
       notes-same : new ∷ s .notes ≡ noteOf e from (r .tree .nodeCount) (r .tree .textCount) ∷ r .notes
       notes-same = λ x. noteOf e from (o .nodeCount x) (o .textCount x) ∷ o .notes x
 
-      to : Stable t ns (8 * s .tree .nodeCount + 7) → (us ≡ vs) ⊎ (among t (map (λ a. a .number) from) ≡ true) → s .tree .textCount + length us ≡ s .tree .textCount + length vs
+      to : Stable t ns (8 * s .tree .nodeCount + 7) → (us ≡ vs) ⊎ (among t (map (λ a. a .number) from) ≡ true) →
+          s .tree .textCount + length us ≡ s .tree .textCount + length vs
       to f (inl x) = rw x
-      to f (inr x) = absurd (f new (inl refl) (holds-new t new (s .notes) (all-noted e from (s .tree .nodeCount) (s .tree .textCount) x)) .1 refl)
+      to f (inr x) =
+          absurd (f new (inl refl) (holds-new t new (s .notes) (all-noted e from (s .tree .nodeCount) (s .tree .textCount) x)) .1 refl)
 
       weak : Agree (Steady t ns) (s .tree .text) (r .tree .text)
       weak = agree-weak (λ q f n h d. f n (inr h) (holds-more t (n .elem) new (s .notes) d)) (o .text)
 
-      bytes : (us ≡ vs) ⊎ (among t (map (λ a. a .number) from) ≡ true) → Agree (Steady t ns) (sets (s .tree .text) (s .tree .textCount) us) (sets (r .tree .text) (r .tree .textCount) vs)
+      bytes : (us ≡ vs) ⊎ (among t (map (λ a. a .number) from) ≡ true) →
+          Agree (Steady t ns) (sets (s .tree .text) (s .tree .textCount) us) (sets (r .tree .text) (r .tree .textCount) vs)
       bytes (inl x) = rw (x, ← o .textCount) (agree-sets vs (s .tree .textCount) weak)
       bytes (inr x) =
           let w = holds-new t new (s .notes) (all-noted e from (s .tree .nodeCount) (s .tree .textCount) x) in
           agree-trans (agree-outs us (s .tree .text) (s .tree .textCount) (λ j a b f. f new (inl refl) w a (omega arith)))
-          (agree-trans weak (agree-sym (agree-outs vs (r .tree .text) (r .tree .textCount) (λ j a b f. f new (inl refl) w (omega (arith, o .textCount)) (omega (arith, o .textCount))))))
+          (agree-trans weak (agree-sym (agree-outs vs (r .tree .text) (r .tree .textCount)
+          (λ j a b f. f new (inl refl) w (omega (arith, o .textCount)) (omega (arith, o .textCount))))))
 
       split : (n : Note) → In n ns → ((n .elem ≡ e) × (low ≤ n .start)) ⊎ ((n .node ≤ e) × (n .start + size n ≤ low))
       split n (inl h) = inl (ap (λ (m : Note). m .elem) h, rw h (i .base))
@@ -359,7 +410,8 @@ module _ (t : ℕ) (one two : List ℕ) where
   trim-fits : (w : XmlSpace) (prev : ℕ) (bs : List ℕ) → length (trimTextAfter w prev bs) ≤ length bs
   unfolding trimTextAfter
   trim-fits w prev [] = omega arith
-  trim-fits w prev (b ∷ bs) = go (trim-fits w prev bs) (trim-fits w (converted b) bs) (and (isDefault w) (and (eqb (converted b) SPACE) (eqb (converted b) prev)))
+  trim-fits w prev (b ∷ bs) = go (trim-fits w prev bs) (trim-fits w (converted b) bs)
+      (and (isDefault w) (and (eqb (converted b) SPACE) (eqb (converted b) prev)))
     where
       go : length (trimTextAfter w prev bs) ≤ length bs → length (trimTextAfter w (converted b) bs) ≤ length bs → (c : Bool) →
           length (pick c (λ u. trimTextAfter w prev bs) (λ u. converted b ∷ trimTextAfter w (converted b) bs)) ≤ suc (length bs)
@@ -390,19 +442,25 @@ module _ (t : ℕ) (one two : List ℕ) where
       Rel (Carried (Inner t one two e low) s r) (noting (plain one) .text e from p s) (noting (plain two) .text e from p r)
   unfolding appendText
   inner-text e low from h p s r i =
-      pick-both (Carried (Inner t one two e low) s r) _ _ (leb (s .tree .textCount + totalSize from) (textRoom (s .tree))) (leb (r .tree .textCount + totalSize from) (textRoom (r .tree))) _ _ _ _
-      (ap (λ n. leb (n + totalSize from) (textRoom (s .tree))) (i .outer .textCount) ∙ ap (λ n. leb (r .tree .textCount + totalSize from) n) (text-room-same _ _ (i .outer .text .long)))
-      (λ x. pick-both (Carried (Inner t one two e low) s r) _ _ (ltb (s .tree .nodeCount) (nodeRoom (s .tree))) (ltb (r .tree .nodeCount) (nodeRoom (r .tree))) _ _ _ _
-      (ap (λ n. ltb n (nodeRoom (s .tree))) (i .outer .nodeCount) ∙ ap (λ n. ltb (r .tree .nodeCount) n) (node-room-same _ _ (i .outer .nodes .long)))
+      pick-both (Carried (Inner t one two e low) s r) _ _ (leb (s .tree .textCount + totalSize from) (textRoom (s .tree)))
+      (leb (r .tree .textCount + totalSize from) (textRoom (r .tree))) _ _ _ _
+      (ap (λ n. leb (n + totalSize from) (textRoom (s .tree))) (i .outer .textCount)
+      ∙ ap (λ n. leb (r .tree .textCount + totalSize from) n) (text-room-same _ _ (i .outer .text .long)))
+      (λ x. pick-both (Carried (Inner t one two e low) s r) _ _ (ltb (s .tree .nodeCount) (nodeRoom (s .tree)))
+      (ltb (r .tree .nodeCount) (nodeRoom (r .tree))) _ _ _ _
+      (ap (λ n. ltb n (nodeRoom (s .tree))) (i .outer .nodeCount) ∙ ap (λ n. ltb (r .tree .nodeCount) n)
+      (node-room-same _ _ (i .outer .nodes .long)))
       (λ room. same (inner-worded e low p from s r _ _ (text-fits _ one from) (text-fits _ two from)
-      (texts-same _ _ (space-same one two (s .tree) (r .tree) (outer-same s r (i .outer)) p) from h) (room-fits (s .tree) room) (text-room-fits (s .tree) (totalSize from) x) i)) (both 22))
+      (texts-same _ _ (space-same one two (s .tree) (r .tree) (outer-same s r (i .outer)) p) from h) (room-fits (s .tree) room)
+      (text-room-fits (s .tree) (totalSize from) x) i)) (both 22))
       (both 24)
 
   -- THE END OF A TEXT ELEMENT
 
   module _ (e low p : ℕ) (s r : Noted) (i : Inner t one two e low p s r) where
     -- The text nodes behind e are those of e.
-    mine : (j : ℕ) → e < j → j < s .tree .nodeCount → kindOf (s .tree) j ≡ TEXT → (n : Note) × In n (s .notes) × (n .node ≡ j) × (n .elem ≡ e) × (low ≤ n .start)
+    mine : (j : ℕ) → e < j → j < s .tree .nodeCount → kindOf (s .tree) j ≡ TEXT →
+        (n : Note) × In n (s .notes) × (n .node ≡ j) × (n .elem ≡ e) × (low ≤ n .start)
     mine j a b k = let f = i .outer .left .noted j b k in go f (i .split (f .0) (f .1))
       where
         go : (f : (n : Note) × In n (s .notes) × (n .node ≡ j)) →
@@ -436,7 +494,8 @@ module _ (t : ℕ) (one two : List ℕ) where
 
         program : trimming w is ≡ trimming wr (ownTextNodes two (r .tree) wr e (r .tree .nodeCount))
         program =
-            ap (λ l. trimming w l) (own-nodes-same one two (s .tree) (r .tree) h w e (s .tree .nodeCount) ∙ ap (λ n. ownTextNodes two (r .tree) w e n) (o .nodeCount))
+            ap (λ l. trimming w l) (own-nodes-same one two (s .tree) (r .tree) h w e (s .tree .nodeCount)
+            ∙ ap (λ n. ownTextNodes two (r .tree) w e n) (o .nodeCount))
             ∙ ap (λ v. trimming v (ownTextNodes two (r .tree) v e (r .tree .nodeCount))) (space-same one two (s .tree) (r .tree) h e)
 
     within : (Q : ℕ → Type 0) → ((j : ℕ) → e < j → j < s .tree .nodeCount → kindOf (s .tree) j ≡ TEXT → Q j) → Within Q g
@@ -448,13 +507,21 @@ module _ (t : ℕ) (one two : List ℕ) where
 
     -- The element holds the exchanged text: its own from, to and bytes may change, and nothing else.
     held : holds t e (s .notes) ≡ true → Alike (run g (s .tree)) (run g (r .tree))
-    held h = (agree-trans (a .0) (agree-trans (i .outer .nodes) (agree-sym (b .0))), agree-trans (a .1) (agree-trans (i .outer .text) (agree-sym (b .1))))
+    held h = (
+      agree-trans (a .0) (agree-trans (i .outer .nodes) (agree-sym (b .0))),
+      agree-trans (a .1)
+          (agree-trans (i .outer .text) (agree-sym (b .1))),
+    )
       where
         loose : Within (λ j. (Stable t (s .notes) (8 * j + 6) → ⊥) × (Stable t (s .notes) (8 * j + 7) → ⊥)
-            × ((n : Note) × In n (s .notes) × (n .node ≡ j) × ((q : ℕ) → n .start ≤ q → q < n .start + size n → Steady t (s .notes) q → ⊥))) g
+            × ((n : Note) × In n (s .notes) × (n .node ≡ j) × ((q : ℕ) → n .start ≤ q → q < n .start + size n → Steady t (s .notes) q →
+            ⊥))) g
         loose = within _ (λ j x y k. let m = mine j x y k in
-            let d : holds t (m .0 .elem) (s .notes) ≡ true = rw (m .3) h in
-            (λ f. f (m .0) (m .1) d .0 (omega (arith, m .2)), λ f. f (m .0) (m .1) d .1 (omega (arith, m .2)), (m .0, m .1, m .2, λ q u v f. f (m .0) (m .1) d u v)))
+            let d : holds t (m .0 .elem) (s .notes) ≡ true = rw (m .3) h in (
+              λ f. f (m .0) (m .1) d .0 (omega (arith, m .2)),
+              λ f. f (m .0) (m .1) d .1 (omega (arith, m .2)),
+              (m .0, m .1, m .2, λ q u v f. f (m .0) (m .1) d u v),
+            ))
 
         a : Alike (run g (s .tree)) (s .tree)
         a = run-out (length one) (s .notes) g (s .tree) (i .outer .left) loose
@@ -466,7 +533,8 @@ module _ (t : ℕ) (one two : List ℕ) where
     own-stable : holds t e (s .notes) ≡ false → (j k : ℕ) → e < j → 6 ≤ k → k ≤ 7 → Stable t (s .notes) (8 * j + k)
     own-stable h j k a x y n q d = go (i .split n q)
       where
-        go : ((n .elem ≡ e) × (low ≤ n .start)) ⊎ ((n .node ≤ e) × (n .start + size n ≤ low)) → ((8 * j + k ≡ 8 * n .node + 6) → ⊥) × ((8 * j + k ≡ 8 * n .node + 7) → ⊥)
+        go : ((n .elem ≡ e) × (low ≤ n .start)) ⊎ ((n .node ≤ e) × (n .start + size n ≤ low)) →
+            ((8 * j + k ≡ 8 * n .node + 6) → ⊥) × ((8 * j + k ≡ 8 * n .node + 7) → ⊥)
         go (inl z) = absurd-bool (sym d ∙ ap (λ m. holds t m (s .notes)) (z .0) ∙ h)
         go (inr z) = (λ f. omega arith, λ f. omega arith)
 
@@ -508,8 +576,10 @@ module _ (t : ℕ) (one two : List ℕ) where
           text = trimmed-alike .1;
           safe = λ j. entry-safe one two (run g (s .tree)) (s .tree) (u .attributes) (o .safe) j;
           left = good-run (length one) (s .notes) g (s .tree) (within (IsText (s .tree)) (λ j x y k. (y, k))) (o .left);
-          right = good-run (length one) (s .notes) g (r .tree) (within (IsText (r .tree)) (λ j x y k. (rw (o .nodeCount) at y,
-              sym (o .nodes .at (8 * j + 0) (stable-word t (s .notes) j 0 (omega arith))) ∙ k))) (o .right);
+          right = good-run (length one) (s .notes) g (r .tree) (within (IsText (r .tree)) (λ j x y k. (
+            rw (o .nodeCount) at y,
+            sym (o .nodes .at (8 * j + 0) (stable-word t (s .notes) j 0 (omega arith))) ∙ k,
+          ))) (o .right);
         })
 
     -- A node before the text element may still get children.

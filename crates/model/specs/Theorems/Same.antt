@@ -10,8 +10,11 @@ use Rattle.model.specs.Base.{pick, given, folded, Pair}
 use Rattle.model.specs.Names.{fontResets}
 use Rattle.model.specs.AId
 use Rattle.model.specs.Drawing.{Part, Attribute, Declaration, Element, readingOf}
-use Rattle.model.specs.Tables.{Tree, ELEMENT, kindOf, parentOf, firstChildOf, codeOf, fromOf, toOf, isNamed, Entry, entryWord, entryAt, valueOf, findEntry, attributeId, valueAtEntry, attributeOf, holderFrom, hasIdBytes, lastWithId, elementById}
-use Rattle.model.specs.Element.{inheritedFrom, resolveInherit, appendAttribute, addAttribute, fontParts, insertAttribute, resetTo, insertPart, writeDeclaration, entriesOf}
+use Rattle.model.specs.Tables.{Tree, ELEMENT, kindOf, parentOf, firstChildOf, codeOf, fromOf, toOf, isNamed, Entry, entryWord}
+use Rattle.model.specs.Tables.{entryAt, valueOf, findEntry, attributeId, valueAtEntry, attributeOf, holderFrom, hasIdBytes}
+use Rattle.model.specs.Tables.{lastWithId, elementById}
+use Rattle.model.specs.Element.{inheritedFrom, resolveInherit, appendAttribute, addAttribute, fontParts, insertAttribute, resetTo}
+use Rattle.model.specs.Element.{insertPart, writeDeclaration, entriesOf}
 use Rattle.model.specs.Text.{XmlSpace, default, getXmlspace, spaceOf, depthBelow, textNodes, ownTextNodes}
 
 -- Folds by functions that do the same.
@@ -52,7 +55,8 @@ module _ (one two : List ℕ) (s r : Tree) (h : Same one two s r) where
   attribute-id-same i a = rw (← h .kind i) (go (eqb (kindOf s i) ELEMENT) (λ e. h .range i (eqb-true (kindOf s i) ELEMENT e)))
     where
       go : (b : Bool) → (b ≡ true → (fromOf s i ≡ fromOf r i) × (toOf s i ≡ toOf r i)) →
-          pick b (λ u. findEntry s a (fromOf s i) (toOf s i - fromOf s i)) (λ u. 0) ≡ pick b (λ u. findEntry r a (fromOf r i) (toOf r i - fromOf r i)) (λ u. 0)
+          pick b (λ u. findEntry s a (fromOf s i) (toOf s i - fromOf s i)) (λ u. 0)
+          ≡ pick b (λ u. findEntry r a (fromOf r i) (toOf r i - fromOf r i)) (λ u. 0)
       go true f = rw (f refl .0, f refl .1) (find-same a (fromOf r i) (toOf r i - fromOf r i))
       go false f = refl
 
@@ -102,13 +106,15 @@ module _ (one two : List ℕ) (s r : Tree) (h : Same one two s r) where
   unfolding addAttribute
   add-same p tag g es x = rw (append-same p tag (x .name) 0 (x .value .part) (x .value .command))
 
-  insert-same : (p tag : ℕ) (d : Declaration) (es : List Entry) (a : ℕ) (v : Part) → insertAttribute s p tag d es a v ≡ insertAttribute r p tag d es a v
+  insert-same : (p tag : ℕ) (d : Declaration) (es : List Entry) (a : ℕ) (v : Part) →
+      insertAttribute s p tag d es a v ≡ insertAttribute r p tag d es a v
   insert-same p tag d es a v = rw (append-same p tag a (d .important) v (d .value .command))
 
   part-same : (p tag : ℕ) (d : Declaration) (es : List Entry) (k : Pair) → insertPart s p tag d es k ≡ insertPart r p tag d es k
   part-same p tag d es k = go (readingOf (k .key) (d .value .readings))
     where
-      go : (o : Option Part) → given o (λ v. insertAttribute s p tag d es (k .value) v) (λ u. es) ≡ given o (λ v. insertAttribute r p tag d es (k .value) v) (λ u. es)
+      go : (o : Option Part) → given o (λ v. insertAttribute s p tag d es (k .value) v) (λ u. es)
+          ≡ given o (λ v. insertAttribute r p tag d es (k .value) v) (λ u. es)
       go (some v) = insert-same p tag d es (k .value) v
       go none = refl
 
@@ -124,7 +130,8 @@ module _ (one two : List ℕ) (s r : Tree) (h : Same one two s r) where
   pub entries-same : (p tag : ℕ) (g : Bool) (e : Element) → entriesOf s p tag g e ≡ entriesOf r p tag g e
   unfolding entriesOf
   entries-same p tag g e =
-      folded-same (λ es d. writeDeclaration s p tag d es) (λ es d. writeDeclaration r p tag d es) (λ es d. write-same p tag d es) _ (e .declarations)
+      folded-same (λ es d. writeDeclaration s p tag d es) (λ es d. writeDeclaration r p tag d es) (λ es d. write-same p tag d es) _
+      (e .declarations)
       ∙ ap (λ es. folded (λ es d. writeDeclaration r p tag d es) es (e .declarations))
       (folded-same (addAttribute s p tag g) (addAttribute r p tag g) (add-same p tag g) [] (e .attributes))
 

@@ -15,7 +15,10 @@ use Rattle.model.specs.EId
 use Rattle.model.specs.AId
 use Rattle.model.specs.Drawing.{Value, readingOf}
 use Rattle.model.specs.Tables.{Tree, parentOf, Entry, entryAt, valueOf, attributeId, attributeOf, elementById, setNone}
-use Rattle.model.specs.Repair.{upFrom, allNamed, belowFrom, descendants, firstFound, readingsOfAttribute, linkOf, elementId, paintsWith, linkKind, nodeAttribute, firstBelow, recursivePatternAt, findRecursivePattern, recursiveLinkAt, findRecursiveLink, recursiveFeImage, feImageLinks, Cut, cutName, cutAt, applyCut, applied, nextCut, cutsFrom, cutsOf, cutsOfAll, repairs, repaired}
+use Rattle.model.specs.Repair.{upFrom, allNamed, belowFrom, descendants, firstFound, readingsOfAttribute, linkOf, elementId}
+use Rattle.model.specs.Repair.{paintsWith, linkKind, nodeAttribute, firstBelow, recursivePatternAt, findRecursivePattern}
+use Rattle.model.specs.Repair.{recursiveLinkAt, findRecursiveLink, recursiveFeImage, feImageLinks, Cut, cutName, cutAt, applyCut}
+use Rattle.model.specs.Repair.{applied, nextCut, cutsFrom, cutsOf, cutsOfAll, repairs, repaired}
 use Rattle.model.specs.Names.{fixedBytes}
 use Rattle.model.specs.Theorems.Agree.{sets-out}
 use Rattle.model.specs.Theorems.Entries.{entry-by-words}
@@ -39,7 +42,8 @@ module _ (one two : List ℕ) (values : List Value) (s r : Tree) (h : Same one t
   descendants-same : (i : ℕ) → descendants s i ≡ descendants r i
   unfolding descendants
   descendants-same i =
-      ap (λ js. i ∷ js) (below-same i (upFrom (i + 1) (s .nodeCount - (i + 1))) ∙ ap (λ n. belowFrom r i (upFrom (i + 1) (n - (i + 1)))) (h .count))
+      ap (λ js. i ∷ js) (below-same i (upFrom (i + 1) (s .nodeCount - (i + 1))) ∙ ap (λ n. belowFrom r i (upFrom (i + 1) (n - (i + 1))))
+      (h .count))
 
   readings-same : (a i : ℕ) → readingsOfAttribute one values s a i ≡ readingsOfAttribute two values r a i
   unfolding readingsOfAttribute
@@ -65,7 +69,8 @@ module _ (one two : List ℕ) (values : List Value) (s r : Tree) (h : Same one t
   pattern-at-same : (a : ℕ) (id : List ℕ) (i : ℕ) → recursivePatternAt one values s a id i ≡ recursivePatternAt two values r a id i
   unfolding recursivePatternAt
   pattern-at-same a id i =
-      ap (λ l. given (readingOf 3 l) (λ v. pick (sameBytes (v .bytes) id) (λ u. i + 1) (λ u. firstBelow s (paintsWith one values s a id) (elementById one s (v .bytes)))) (λ u. 0)) (readings-same a i)
+      ap (λ l. given (readingOf 3 l) (λ v. pick (sameBytes (v .bytes) id) (λ u. i + 1) (λ u. firstBelow s (paintsWith one values s a id)
+      (elementById one s (v .bytes)))) (λ u. 0)) (readings-same a i)
       ∙ given-same (linkOf two values 3 r a i) _ _ 0 (λ v. rw (
         by-id-same one two s r h (v .bytes),
         below-first-same (paintsWith one values s a id) (paintsWith two values r a id) (paints-same a id) (elementById two r (v .bytes)),
@@ -98,7 +103,12 @@ module _ (one two : List ℕ) (values : List Value) (s r : Tree) (h : Same one t
   fe-image-same : (i : ℕ) → recursiveFeImage one values s i ≡ recursiveFeImage two values r i
   unfolding recursiveFeImage
   fe-image-same i =
-      rw (node-attribute-same AId.Href i, h .parent i, element-id-same (parentOf r i - 1), readings-same AId.Filter (nodeAttribute two values r AId.Href i - 1))
+      rw (
+        node-attribute-same AId.Href i,
+        h .parent i,
+        element-id-same (parentOf r i - 1),
+        readings-same AId.Filter (nodeAttribute two values r AId.Href i - 1),
+      )
 
   fe-links-same : (found is : List ℕ) → feImageLinks one values s found is ≡ feImageLinks two values r found is
   unfolding feImageLinks
@@ -191,7 +201,8 @@ module _ (one two : List ℕ) where
     unfolding cutsOf
     cuts-of-same k s r h = go (leb k 5)
       where
-        links : feImageLinks one values s [] (allNamed s EId.FeImage (upFrom 0 (s .nodeCount))) ≡ feImageLinks two values r [] (allNamed r EId.FeImage (upFrom 0 (r .nodeCount)))
+        links : feImageLinks one values s [] (allNamed s EId.FeImage (upFrom 0 (s .nodeCount))) ≡ feImageLinks two values r []
+            (allNamed r EId.FeImage (upFrom 0 (r .nodeCount)))
         links = fe-links-same one two values s r h [] _ ∙ ap (λ l. feImageLinks two values r [] l)
             (all-named-same one two values s r h EId.FeImage _ ∙ ap (λ n. allNamed r EId.FeImage (upFrom 0 n)) (h .count))
 
@@ -201,7 +212,8 @@ module _ (one two : List ℕ) where
             (λ u. map (cutAt r k) (feImageLinks two values r [] (allNamed r EId.FeImage (upFrom 0 (r .nodeCount)))))
         go true = cuts-from-same k (s .attributeCount) s r h ∙ ap (λ n. cutsFrom two values k n r) (h .attributeCount)
         go false = ap (λ l. map (cutAt s k) l) links
-            ∙ ap (λ f. map f (feImageLinks two values r [] (allNamed r EId.FeImage (upFrom 0 (r .nodeCount))))) (fun-ext (λ i. cut-at-same s r k i h))
+            ∙ ap (λ f. map f (feImageLinks two values r [] (allNamed r EId.FeImage (upFrom 0 (r .nodeCount)))))
+            (fun-ext (λ i. cut-at-same s r k i h))
 
     cuts-of-all-same : (ks : List ℕ) (s r : Tree) → Same one two s r → cutsOfAll one values ks s ≡ cutsOfAll two values ks r
     unfolding cutsOfAll

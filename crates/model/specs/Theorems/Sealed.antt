@@ -11,14 +11,17 @@ use lib.Seq.{slice}
 use Rattle.model.specs.Base.{pick}
 use Rattle.model.specs.Drawing.{Reading, Attribute, Declaration, Element, Source, Event, begin, text, other, close, events, valuesIn}
 use Rattle.model.specs.Check.{check}
-use Rattle.model.specs.Tables.{Tree, Out, refused, done, ELEMENT, TEXT, word, kindOf, parentOf, firstChildOf, fromOf, toOf, entryAt, cleared, textOf}
+use Rattle.model.specs.Tables.{Tree, Out, refused, done, ELEMENT, TEXT, word, kindOf, parentOf, firstChildOf, fromOf, toOf, entryAt}
+use Rattle.model.specs.Tables.{cleared, textOf}
 use Rattle.model.specs.Parse.{plain}
 use Rattle.model.specs.Build.{withRepairs, Result, answered, build, exchanged, exchangeFault, changed, settled, exchange}
-use Rattle.model.specs.Questions.{isSound, questionFault, attributeQuestion, elementFrom, selfOrParent, findAttributeImpl, findAttributeQuestion, elementByIdQuestion, TextPart, emptyPart, textOfNode, textAt, textQuestion}
+use Rattle.model.specs.Questions.{isSound, questionFault, attributeQuestion, elementFrom, selfOrParent, findAttributeImpl}
+use Rattle.model.specs.Questions.{findAttributeQuestion, elementByIdQuestion, TextPart, emptyPart, textOfNode, textAt, textQuestion}
 use Rattle.model.specs.Noted.{Note, Noted, stripped, notesOf, notedTree, notes-forgotten, notes}
 use Rattle.model.specs.Under.{Under, here, up}
 use Rattle.model.specs.Demand3.{Spared, Alike, Exchangeable, Demand3}
-use Rattle.model.specs.Panel.{Request, Valid, AllValid, asked, performed, numbersGiven, changedBy, EveryExchangeAccepted, partBytes, SameAnswers, Passes, BuiltPasses}
+use Rattle.model.specs.Panel.{Request, Valid, AllValid, asked, performed, numbersGiven, changedBy, EveryExchangeAccepted, partBytes}
+use Rattle.model.specs.Panel.{SameAnswers, Passes, BuiltPasses}
 use Rattle.model.specs.Theorems.Sim.{Rel, both, same, Every, Events}
 use Rattle.model.specs.Theorems.Unused.{SameLengths}
 use Rattle.model.specs.Theorems.Kept.{Coherent}
@@ -38,17 +41,22 @@ spelled-self : (chars : List ℕ) (x : Element) → SpelledElement chars chars x
 spelled-self chars x = (attributes (x .attributes), declarations (x .declarations))
   where
     attributes : (xs : List Attribute) → Every (λ (a : Attribute).
-        slice (a .value .part .start) (a .value .part .start + a .value .part .size) chars ≡ slice (a .value .part .start) (a .value .part .start + a .value .part .size) chars) xs
+        slice (a .value .part .start) (a .value .part .start + a .value .part .size) chars ≡ slice (a .value .part .start)
+        (a .value .part .start + a .value .part .size) chars) xs
     attributes [] = tt
     attributes (x ∷ xs) = (refl, attributes xs)
 
-    readings : (xs : List Reading) → Every (λ (r : Reading). slice (r .part .start) (r .part .start + r .part .size) chars ≡ slice (r .part .start) (r .part .start + r .part .size) chars) xs
+    readings : (xs : List Reading) →
+        Every (λ (r : Reading). slice (r .part .start) (r .part .start + r .part .size) chars ≡ slice (r .part .start)
+        (r .part .start + r .part .size) chars) xs
     readings [] = tt
     readings (x ∷ xs) = (refl, readings xs)
 
     declarations : (xs : List Declaration) → Every (λ (d : Declaration).
-        (slice (d .value .part .start) (d .value .part .start + d .value .part .size) chars ≡ slice (d .value .part .start) (d .value .part .start + d .value .part .size) chars)
-        × Every (λ (r : Reading). slice (r .part .start) (r .part .start + r .part .size) chars ≡ slice (r .part .start) (r .part .start + r .part .size) chars) (d .value .readings)) xs
+        (slice (d .value .part .start) (d .value .part .start + d .value .part .size) chars ≡ slice (d .value .part .start)
+        (d .value .part .start + d .value .part .size) chars)
+        × Every (λ (r : Reading). slice (r .part .start) (r .part .start + r .part .size) chars ≡ slice (r .part .start)
+        (r .part .start + r .part .size) chars) (d .value .readings)) xs
     declarations [] = tt
     declarations (x ∷ xs) = ((refl, readings (x .value .readings)), declarations xs)
 
@@ -79,7 +87,8 @@ module _ (script chars : List ℕ) (n m b : ℕ) where
   lengths-of (refused k) h = record { nodes = refl; attributes = refl; text = refl }
   lengths-of (done t) h = h
 
-  good-of : (x y : Out Noted) → Rel (Outer 0 chars chars) x y → answered chars empty (parts x) .number ≡ 0 → Always (λ t. SameLengths t empty) (parts x) →
+  good-of : (x y : Out Noted) → Rel (Outer 0 chars chars) x y → answered chars empty (parts x) .number ≡ 0 →
+      Always (λ t. SameLengths t empty) (parts x) →
       Good (length chars) (notesOf x) (answered chars empty (parts x) .tree)
   unfolding stripped notesOf
   good-of x y (both k) z h = absurd (h z)
@@ -124,7 +133,18 @@ exchange-built script chars t new ns ats ts h = go (eqb (exchangeFault script ch
     r = build script (changed script chars t new) (length ns) (length ats) (length ts)
 
     kept : Result
-    kept = record { number = exchangeFault script chars t new; characters = chars; tree = record { nodes = ns; attributes = ats; text = ts; nodeCount = 0; attributeCount = 0; textCount = 0 } }
+    kept = record {
+      number = exchangeFault script chars t new;
+      characters = chars;
+      tree = record {
+        nodes = ns;
+        attributes = ats;
+        text = ts;
+        nodeCount = 0;
+        attributeCount = 0;
+        textCount = 0;
+      };
+    }
 
     settle : (c : Bool) → eqb (r .number) 0 ≡ c →
         pick c (λ u. r) (λ u. record { number = r .number; characters = chars; tree = r .tree }) .number ≡ 0 →
@@ -162,16 +182,24 @@ valid-again script one two e q v = record {
   utf8 = v .utf8;
 }
 
-all-valid-again : (script one two : List ℕ) → events script two ≡ events script one → (qs : List Request) → AllValid script one qs → AllValid script two qs
+all-valid-again : (script one two : List ℕ) → events script two ≡ events script one → (qs : List Request) → AllValid script one qs →
+    AllValid script two qs
 all-valid-again script one two e [] h = tt
 all-valid-again script one two e (q ∷ qs) h = (valid-again script one two e q (h .0), all-valid-again script one two e qs (h .1))
 
 -- The changed drawing is exchangeable again, for every text.
 pub exchangeable-again : (script chars : List ℕ) (n m b t : ℕ) (a : Source) (new : List ℕ) → Exchangeable script chars n m b t a new →
-    (u : ℕ) (c : Source) (more : List ℕ) → Exchangeable script chars n m b u c more → Exchangeable script (exchanged a new chars) n m b u c more
+    (u : ℕ) (c : Source) (more : List ℕ) → Exchangeable script chars n m b u c more →
+    Exchangeable script (exchanged a new chars) n m b u c more
 exchangeable-again script chars n m b t a new h u c more k =
     let d = demand3 script chars n m b t a new h in
-    record { built = d .number; text = rw (d .sameEvents) (k .text); outside = rw (d .sameEvents) (k .outside); size = k .size; utf8 = k .utf8 }
+    record {
+      built = d .number;
+      text = rw (d .sameEvents) (k .text);
+      outside = rw (d .sameEvents) (k .outside);
+      size = k .size;
+      utf8 = k .utf8;
+    }
 
 module _ (script chars : List ℕ) (n m b : ℕ) (h : build script chars n m b .number ≡ 0) (q : Request) (v : Valid script chars q) where
   abbrev two : List ℕ
@@ -188,7 +216,8 @@ module _ (script chars : List ℕ) (n m b : ℕ) (h : build script chars n m b .
   unfolding cleared
   asked-is =
       let l = built-as-lent script chars n m b h in
-      rw (built-characters script chars n m b h) (demand .accepted _ _ _ (l .nodes ∙ length-replicate {A = ℕ} n 0) (l .attributes ∙ length-replicate {A = ℕ} m 0)
+      rw (built-characters script chars n m b h) (demand .accepted _ _ _ (l .nodes ∙ length-replicate {A = ℕ} n 0) (l .attributes
+      ∙ length-replicate {A = ℕ} m 0)
       (l .text ∙ length-replicate {A = ℕ} b 0))
 
 -- One number more.
@@ -262,7 +291,8 @@ module _ (one two : List ℕ) (s r : Tree) (h : Same one two s r) where
     by-id-question-same id = rw (sound, by-id-same one two s r h id) refl
 
 -- A node whose text is asked: the first child of a spared element is spared.
-spared-child : (ns : List Note) (s : Tree) (t i : ℕ) → Coherent s → i < s .nodeCount → (firstChildOf s i ≡ 0 → ⊥) → kindOf s (firstChildOf s i - 1) ≡ TEXT →
+spared-child : (ns : List Note) (s : Tree) (t i : ℕ) → Coherent s → i < s .nodeCount → (firstChildOf s i ≡ 0 → ⊥) →
+    kindOf s (firstChildOf s i - 1) ≡ TEXT →
     Spared ns s t i → Spared ns s t (firstChildOf s i - 1)
 spared-child ns s t i c l z k h e b x u d = go u
   where
@@ -326,8 +356,8 @@ module _ (script chars : List ℕ) (n m b t : ℕ) (a : Source) (new : List ℕ)
   any-text : (i : ℕ) → i < s .nodeCount → Spared (notes script chars n m b) s t i →
       (textAt s i ≡ textAt r i) × (partBytes s (textAt s i) ≡ partBytes r (textAt r i))
   any-text i l f =
-      let e : textAt r i ≡ shaped r (kindOf s i) (firstChildOf s i) = 
-          λ x. shaped r (sym (trees-same .kind i) x) (sym (trees-same .child i) x) in
+      let e : textAt r i ≡ shaped r (kindOf s i) (firstChildOf s i) =
+      λ x. shaped r (sym (trees-same .kind i) x) (sym (trees-same .child i) x) in
       let p = go (eqb (kindOf s i) ELEMENT) (eqb (firstChildOf s i) 0) refl in
       (p .0 ∙ sym e, p .1 ∙ ap (partBytes r) (sym e))
     where

@@ -9,7 +9,8 @@ use native.Mathlib.Omega.{arith}
 use Rattle.model.specs.Base.{pick, and, among}
 use Rattle.model.specs.Names.{isElement}
 use Rattle.model.specs.EId
-use Rattle.model.specs.Drawing.{Part, Element, Source, Event, begin, text, other, close, childrenFrom, textsIn, hasId, firstWithId, linkedBy, trefHref, hasTagName, quotedFrom, quoted, useHref, mayCopy, copied, useTarget}
+use Rattle.model.specs.Drawing.{Part, Element, Source, Event, begin, text, other, close, childrenFrom, textsIn, hasId, firstWithId}
+use Rattle.model.specs.Drawing.{linkedBy, trefHref, hasTagName, quotedFrom, quoted, useHref, mayCopy, copied, useTarget}
 use Rattle.model.specs.Tables.{Out, refused, done, then}
 use Rattle.model.specs.Text.{totalSize}
 use Rattle.model.specs.Parse.{Ops, Builder, each, refuse, tagOf, textTagOf, isTextContent, quote, inside, label, copy, level, node}
@@ -156,7 +157,8 @@ module _ {S T : Type 0} (R : ℕ → S → T → Type 0) (F : S → T → Type 0
     (all : List Event) (ok : Events G H all) (e : ℕ)
     (el : (x : Element) → G x → (c : ℕ) → IsCode c → (p : ℕ) (s : S) (t : T) → R p s t →
     Rel (Grown R (q .count t) s t) (o .element x c false p s) (q .element x c false p t))
-    (tx : (from : List Source) → Every H from → (p : ℕ) (s : S) (t : T) → R p s t → Rel (Carried R s t) (o .text e from p s) (q .text e from p t))
+    (tx : (from : List Source) → Every H from → (p : ℕ) (s : S) (t : T) → R p s t →
+    Rel (Carried R s t) (o .text e from p s) (q .text e from p t))
     (cn : (p : ℕ) (s : S) (t : T) → R p s t → o .count s ≡ q .count t)
     (pa : (p : ℕ) (s : S) (t : T) → R p s t → o .parent p s ≡ q .parent p t)
     (pop : (p : ℕ) (s : S) (t : T) → eqb p e ≡ false → R p s t → R (q .parent p t) s t)
@@ -192,20 +194,23 @@ module _ {S T : Type 0} (R : ℕ → S → T → Type 0) (F : S → T → Type 0
 -- THE WHOLE RECURSION
 
 -- A step from states that are so far related.
-kept-on : {S T : Type 0} (R : ℕ → S → T → Type 0) {s s′ : S} {t t′ : T} {a : Out S} {b : Out T} → Carried R s t s′ t′ → Rel (Carried R s′ t′) a b →
+kept-on : {S T : Type 0} (R : ℕ → S → T → Type 0) {s s′ : S} {t t′ : T} {a : Out S} {b : Out T} → Carried R s t s′ t′ →
+    Rel (Carried R s′ t′) a b →
     Rel (Carried R s t) a b
 kept-on R r (both k) = both k
 kept-on R r (same u) = same (λ p x. u p (r p x))
 
 -- One step after another.
 then-kept : {S T : Type 0} (R : ℕ → S → T → Type 0) {s : S} {t : T} {a : Out S} {b : Out T} (f : S → Out S) (g : T → Out T) →
-    Rel (Carried R s t) a b → ((s′ : S) (t′ : T) → Carried R s t s′ t′ → Rel (Carried R s′ t′) (f s′) (g t′)) → Rel (Carried R s t) (then a f) (then b g)
+    Rel (Carried R s t) a b → ((s′ : S) (t′ : T) → Carried R s t s′ t′ → Rel (Carried R s′ t′) (f s′) (g t′)) →
+    Rel (Carried R s t) (then a f) (then b g)
 then-kept R f g (both k) h = both k
 then-kept R f g (same {s = s′} {t = t′} r) h = kept-on R r (h s′ t′ r)
 
 -- A new node, and what is built below it.
 grown-then : {S T : Type 0} (R : ℕ → S → T → Type 0) (n : ℕ) {s : S} {t : T} {a : Out S} {b : Out T} (f : S → Out S) (g : T → Out T) →
-    Rel (Grown R n s t) a b → ((s′ : S) (t′ : T) → R n s′ t′ → Rel (Carried R s′ t′) (f s′) (g t′)) → Rel (Carried R s t) (then a f) (then b g)
+    Rel (Grown R n s t) a b → ((s′ : S) (t′ : T) → R n s′ t′ → Rel (Carried R s′ t′) (f s′) (g t′)) →
+    Rel (Carried R s t) (then a f) (then b g)
 grown-then R n f g (both k) h = both k
 grown-then R n f g (same {s = s′} {t = t′} r) h = kept-on R (r .1) (h s′ t′ (r .0))
 
@@ -218,7 +223,8 @@ module _ {S T : Type 0} (R : ℕ → S → T → Type 0) (G : Element → Type 0
     (cn : (p : ℕ) (s : S) (t : T) → R p s t → o .count s ≡ q .count t) where
   -- Two ways to build a node that keep the relation.
   abbrev pub Alike : Builder S → Builder T → Type 0
-  Alike f g = (x : List Event) → Events G H x → (n : ℕ) (i : Bool) (p : ℕ) (s : S) (t : T) → R p s t → Rel (Carried R s t) (f x n i p s) (g x n i p t)
+  Alike f g = (x : List Event) → Events G H x → (n : ℕ) (i : Bool) (p : ℕ) (s : S) (t : T) → R p s t →
+      Rel (Carried R s t) (f x n i p s) (g x n i p t)
 
   pub each-sim : (f : Builder S) (g : Builder T) → Alike f g → (xs : List (List Event)) → Every (Events G H) xs →
       (n : ℕ) (i : Bool) (p : ℕ) (s : S) (t : T) → R p s t → Rel (Carried R s t) (each f xs n i p s) (each g xs n i p t)

@@ -11,7 +11,8 @@ use lib.Dec.{eqb, leb}
 use lib.ListN.{length}
 use Rattle.model.specs.Base.{pick, and, or}
 use Rattle.model.specs.Names.{isElement, isAttribute}
-use Rattle.model.specs.Tables.{Tree, ROOT, ELEMENT, TEXT, kindOf, parentOf, nextSiblingOf, firstChildOf, lastChildOf, codeOf, fromOf, toOf, Entry, entryAt}
+use Rattle.model.specs.Tables.{Tree, ROOT, ELEMENT, TEXT, kindOf, parentOf, nextSiblingOf, firstChildOf, lastChildOf, codeOf, fromOf}
+use Rattle.model.specs.Tables.{toOf, Entry, entryAt}
 use Rattle.model.specs.Questions.{countsFit, isPlaced, isLater, isLinked, isRange, isFilled, isNode, isEntry, allBelow, isSound}
 use Rattle.model.specs.Theorems.Sim.{and-left, and-right}
 use Rattle.model.specs.Theorems.Kept.{Fitting, Later, InOrder, KeptNode, KeptEntry, Kept}
@@ -95,7 +96,8 @@ module _ (t : Tree) (i : ℕ) where
 
       go : Dec (i ≡ 0) → isPlaced t i ≡ true
       go (yes z) = then-of (eqb i 0) _ _ (eq-eqb i 0 z) ∙ all-of _ _ (eq-eqb _ _ (k .root z .0)) (eq-eqb _ _ (k .root z .1))
-      go (no z) = else-of (eqb i 0) _ _ (ne-eqb i 0 z) ∙ all-of _ _ (kinds (k .kind z)) (all-of _ _ (le-leb _ _ (k .below z)) (le-leb _ _ (k .falls)))
+      go (no z) = else-of (eqb i 0) _ _ (ne-eqb i 0 z) ∙ all-of _ _ (kinds (k .kind z)) (all-of _ _ (le-leb _ _ (k .below z))
+          (le-leb _ _ (k .falls)))
 
   later : (w : ℕ) → isLater t i w ≡ true → Later (t .nodeCount) i w
   later w h z = go (or-either (eqb w 0) _ h)
@@ -137,7 +139,8 @@ module _ (t : Tree) (i : ℕ) where
   is-range : (n : ℕ) → InOrder (fromOf t i) (toOf t i) n → isRange t n i ≡ true
   is-range n h = all-of _ _ (le-leb _ _ (h .0)) (le-leb _ _ (h .1))
 
-  filled-element : isFilled t i ≡ true → kindOf t i ≡ ELEMENT → (isElement (codeOf t i) ≡ true) × InOrder (fromOf t i) (toOf t i) (t .attributeCount)
+  filled-element : isFilled t i ≡ true → kindOf t i ≡ ELEMENT →
+      (isElement (codeOf t i) ≡ true) × InOrder (fromOf t i) (toOf t i) (t .attributeCount)
   filled-element h k =
       let p = both (isElement (codeOf t i)) _ (sym (then-of (eqb (kindOf t i) ELEMENT) _ _ (eq-eqb _ _ k)) ∙ h) in
       (p .0, in-order (t .attributeCount) (p .1))
@@ -156,8 +159,10 @@ module _ (t : Tree) (i : ℕ) where
   is-filled k = go (ℕ-discrete (kindOf t i) ELEMENT) (ℕ-discrete (kindOf t i) TEXT)
     where
       go : Dec (kindOf t i ≡ ELEMENT) → Dec (kindOf t i ≡ TEXT) → isFilled t i ≡ true
-      go (yes e) d = then-of (eqb (kindOf t i) ELEMENT) _ _ (eq-eqb _ _ e) ∙ all-of _ _ (k .code e) (is-range (t .attributeCount) (k .range e))
-      go (no e) (yes d) = else-of (eqb (kindOf t i) ELEMENT) _ _ (ne-eqb _ _ e) ∙ or-right (not (eqb (kindOf t i) TEXT)) _ (is-range (t .textCount) (k .bytes d))
+      go (yes e) d = then-of (eqb (kindOf t i) ELEMENT) _ _ (eq-eqb _ _ e)
+          ∙ all-of _ _ (k .code e) (is-range (t .attributeCount) (k .range e))
+      go (no e) (yes d) = else-of (eqb (kindOf t i) ELEMENT) _ _ (ne-eqb _ _ e) ∙ or-right (not (eqb (kindOf t i) TEXT)) _
+          (is-range (t .textCount) (k .bytes d))
       go (no e) (no d) = else-of (eqb (kindOf t i) ELEMENT) _ _ (ne-eqb _ _ e) ∙ or-left _ _ (ap not (ne-eqb _ _ d))
 
   node-kept : isNode t i ≡ true → KeptNode t i
@@ -165,7 +170,8 @@ module _ (t : Tree) (i : ℕ) where
   node-kept h =
       let p = both (isPlaced t i) _ h in
       let q = both (isLinked t i) (isFilled t i) (p .1) in
-      let l = both (and (isLater t i (nextSiblingOf t i)) (and (isLater t i (firstChildOf t i)) (isLater t i (lastChildOf t i)))) _ (q .0) in
+      let l = both (and (isLater t i (nextSiblingOf t i)) (and (isLater t i (firstChildOf t i)) (isLater t i (lastChildOf t i)))) _ (q .0)
+      in
       let a = both (isLater t i (nextSiblingOf t i)) _ (l .0) in
       let b = both (isLater t i (firstChildOf t i)) (isLater t i (lastChildOf t i)) (a .1) in
       let c = both-or-none (firstChildOf t i) (lastChildOf t i) (l .1) in
@@ -219,10 +225,12 @@ kept-entry : (size : ℕ) (e : Entry) → KeptEntry size e → isEntry size e �
 kept-entry size e k = all-of _ _ (k .name) (go (ℕ-discrete (e .command) 0))
   where
     go : Dec (e .command ≡ 0) →
-        pick (eqb (e .command) 0) (λ u. and (and (leb 1 (e .start)) (leb (e .start) 18)) (eqb (e .size) 0)) (λ u. leb (e .start + e .size) size) ≡ true
+        pick (eqb (e .command) 0) (λ u. and (and (leb 1 (e .start)) (leb (e .start) 18)) (eqb (e .size) 0))
+        (λ u. leb (e .start + e .size) size) ≡ true
     go (yes z) =
         let f = k .fixed z in
-        then-of (eqb (e .command) 0) _ _ (eq-eqb _ 0 z) ∙ all-of _ _ (all-of _ _ (le-leb _ _ (f .0)) (le-leb _ _ (f .1))) (eq-eqb _ _ (f .2))
+        then-of (eqb (e .command) 0) _ _ (eq-eqb _ 0 z) ∙ all-of _ _ (all-of _ _ (le-leb _ _ (f .0)) (le-leb _ _ (f .1)))
+        (eq-eqb _ _ (f .2))
     go (no z) = else-of (eqb (e .command) 0) _ _ (ne-eqb _ 0 z) ∙ le-leb _ _ (k .inside z)
 
 -- THE WHOLE TEST
@@ -240,14 +248,16 @@ unfolding isSound
 sound-kept chars t h = go (countsFit t) refl h
   where
     go : (b : Bool) → countsFit t ≡ b →
-        pick b (λ u. and (allBelow (isNode t) (t .nodeCount)) (allBelow (λ j. isEntry (length chars) (entryAt t j)) (t .attributeCount))) (λ u. false) ≡ true →
+        pick b (λ u. and (allBelow (isNode t) (t .nodeCount)) (allBelow (λ j. isEntry (length chars) (entryAt t j)) (t .attributeCount)))
+        (λ u. false) ≡ true →
         Kept (length chars) t
     go true e g =
         let p = both (allBelow (isNode t) (t .nodeCount)) _ g in
         record {
           fits = fitting t e;
           nodes = λ i l. node-kept t i (below-each (isNode t) (t .nodeCount) (p .0) i l);
-          entries = λ j l. entry-kept (length chars) (entryAt t j) (below-each (λ j. isEntry (length chars) (entryAt t j)) (t .attributeCount) (p .1) j l);
+          entries = λ j l. entry-kept (length chars) (entryAt t j) (below-each (λ j. isEntry (length chars) (entryAt t j))
+              (t .attributeCount) (p .1) j l);
         }
     go false e g = absurd (false≢true g)
 
@@ -255,6 +265,8 @@ sound-kept chars t h = go (countsFit t) refl h
 pub kept-sound : (chars : List ℕ) (t : Tree) → Kept (length chars) t → isSound chars t ≡ true
 unfolding isSound
 kept-sound chars t k =
-    then-of (countsFit t) _ _ (all-of _ _ (le-leb _ _ (k .fits .one)) (all-of _ _ (le-leb _ _ (k .fits .nodes)) (all-of _ _ (le-leb _ _ (k .fits .entries)) (le-leb _ _ (k .fits .bytes)))))
+    then-of (countsFit t) _ _ (all-of _ _ (le-leb _ _ (k .fits .one)) (all-of _ _ (le-leb _ _ (k .fits .nodes))
+    (all-of _ _ (le-leb _ _ (k .fits .entries)) (le-leb _ _ (k .fits .bytes)))))
     ∙ all-of _ _ (each-below (isNode t) (t .nodeCount) (λ i l. kept-node t i (k .nodes i l)))
-    (each-below (λ j. isEntry (length chars) (entryAt t j)) (t .attributeCount) (λ j l. kept-entry (length chars) (entryAt t j) (k .entries j l)))
+    (each-below (λ j. isEntry (length chars) (entryAt t j)) (t .attributeCount) (λ j l. kept-entry (length chars) (entryAt t j)
+    (k .entries j l)))

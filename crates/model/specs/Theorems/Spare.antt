@@ -51,7 +51,8 @@ above ns e i (suc n) l (up j p w b u) =
     go true h = refl
     go false h = h
 
-held : (ns : List Note) (s : Tree) (t e : ℕ) (x : Note) → In x ns → among t (sources x) ≡ true → Under (s .nodes) e (x .node) → isHeld ns s t e ≡ true
+held : (ns : List Note) (s : Tree) (t e : ℕ) (x : Note) → In x ns → among t (sources x) ≡ true → Under (s .nodes) e (x .node) →
+    isHeld ns s t e ≡ true
 unfolding isHeld
 held [] s t e x h a u = absurd h
 held (y ∷ ys) s t e x (inl h) a u =
@@ -62,7 +63,8 @@ held (y ∷ ys) s t e x (inr h) a u = go (and (among t (sources y)) (among e (up
     go true h = refl
     go false h = h
 
-none-of : (ns : List Note) (s : Tree) (t e : ℕ) (es : List ℕ) → noneHolds ns s t es ≡ true → among e es ≡ true → kindOf s e ≡ ELEMENT → codeOf s e ≡ EId.Text →
+none-of : (ns : List Note) (s : Tree) (t e : ℕ) (es : List ℕ) → noneHolds ns s t es ≡ true → among e es ≡ true → kindOf s e ≡ ELEMENT →
+    codeOf s e ≡ EId.Text →
     isHeld ns s t e ≡ true → ⊥
 unfolding noneHolds among
 none-of ns s t e [] h a k c d = absurd-bool (sym a)

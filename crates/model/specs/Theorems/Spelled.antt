@@ -30,7 +30,8 @@ module _ (one two : List ℕ) where
   abbrev pub SpelledElement : Element → Type 0
   SpelledElement e = ReadFrom (λ v c. Spelled v) e
 
-  part-safe : (a i : ℕ) (v : Part) (c : ℕ) → Spelled v → Safe (record { name = a; important = i; start = v .start; size = v .size; command = c })
+  part-safe : (a i : ℕ) (v : Part) (c : ℕ) → Spelled v →
+      Safe (record { name = a; important = i; start = v .start; size = v .size; command = c })
   unfolding valueOf
   part-safe a i v c h = go (eqb c 0)
     where
@@ -46,12 +47,14 @@ module _ (one two : List ℕ) where
     over = λ v e h s. part-safe (e .name) (e .important) (v .part) (v .command) h;
   }
 
-  pub safe-entries : (t : Tree) (p tag : ℕ) → ((i : ℕ) → i ≤ p → parentOf t i ≤ i) → ((j : ℕ) → Safe (entryAt t j)) → (g : Bool) (e : Element) →
+  pub safe-entries : (t : Tree) (p tag : ℕ) → ((i : ℕ) → i ≤ p → parentOf t i ≤ i) → ((j : ℕ) → Safe (entryAt t j)) →
+      (g : Bool) (e : Element) →
       SpelledElement e → Every Safe (entriesOf t p tag g e)
   safe-entries t p tag falls safe g e h = every-entry Safe (λ v c. Spelled v) closed t p tag falls (λ i a l f. safe _) g e h
 
   -- All entries are safe after an element was added with safe ones.
-  pub add-safe : (c : ℕ) (es : List Entry) (p : ℕ) (t : Tree) → 5 * (t .attributeCount + length es) ≤ length (t .attributes) → Every Safe es →
+  pub add-safe : (c : ℕ) (es : List Entry) (p : ℕ) (t : Tree) → 5 * (t .attributeCount + length es) ≤ length (t .attributes) →
+      Every Safe es →
       ((j : ℕ) → Safe (entryAt t j)) → (j : ℕ) → Safe (entryAt (addElement c es p t) j)
   add-safe c es p t room h safe j = go (decLt j (t .attributeCount)) (decLt j (t .attributeCount + length es))
     where

@@ -9,7 +9,8 @@ use lib.Dec.{eqb}
 use lib.ListN.{length, getD, set, replicate, length-set}
 use lib.Seq.{sets, getD-set-other, length-sets}
 use Rattle.model.specs.Base.{pick}
-use Rattle.model.specs.Tables.{Tree, word, setWord, nextLinked, firstLinked, linked, appended, Entry, entriesWords, addElement, addText, setText, setNone, rooted, cleared}
+use Rattle.model.specs.Tables.{Tree, word, setWord, nextLinked, firstLinked, linked, appended, Entry, entriesWords, addElement}
+use Rattle.model.specs.Tables.{addText, setText, setNone, rooted, cleared}
 use Rattle.model.specs.Theorems.Agree.{set-cases, sets-out}
 use Rattle.model.specs.Theorems.Entries.{entries-long}
 
@@ -49,8 +50,11 @@ pub record SameLengths (s t : Tree) : Type 0 where
 
 pub element-lengths : (c : ℕ) (es : List Entry) (p : ℕ) (t : Tree) → SameLengths (addElement c es p t) t
 unfolding addElement
-element-lengths c es p t = record
-    { nodes = appended-long 2 c _ _ (t .nodes) p (t .nodeCount); attributes = length-sets (t .attributes) (5 * t .attributeCount) (entriesWords es); text = refl }
+element-lengths c es p t = record {
+  nodes = appended-long 2 c _ _ (t .nodes) p (t .nodeCount);
+  attributes = length-sets (t .attributes) (5 * t .attributeCount) (entriesWords es);
+  text = refl;
+}
 
 pub text-lengths : (bs : List ℕ) (size p : ℕ) (t : Tree) → SameLengths (addText bs size p t) t
 unfolding addText
@@ -62,7 +66,8 @@ unfolding setText
 bounds-lengths i from to t = record {
   nodes = length-set (setWord (t .nodes) i 6 from) (8 * i + 7) to ∙ length-set (t .nodes) (8 * i + 6) from;
   attributes = refl;
-  text = length-sets (sets (t .text) (word (t .nodes) i 6) (replicate (from - word (t .nodes) i 6) 0)) to (replicate (word (t .nodes) i 7 - to) 0)
+  text = length-sets (sets (t .text) (word (t .nodes) i 6) (replicate (from - word (t .nodes) i 6) 0))
+      to (replicate (word (t .nodes) i 7 - to) 0)
       ∙ length-sets (t .text) (word (t .nodes) i 6) (replicate (from - word (t .nodes) i 6) 0);
 }
 
@@ -83,7 +88,8 @@ pub appended-behind : (kind code from to : ℕ) (ns : List ℕ) (p i q : ℕ) �
     getD (appended kind code from to ns p i) q 0 ≡ getD ns q 0
 unfolding appended linked nextLinked firstLinked
 appended-behind kind code from to ns p i q l w b =
-    getD-set-other (pick (eqb (word (next (eqb (word mid p 4) 0)) p 3) 0) (λ u. setWord (next (eqb (word mid p 4) 0)) p 3 (i + 1)) (λ u. next (eqb (word mid p 4) 0)))
+    getD-set-other (pick (eqb (word (next (eqb (word mid p 4) 0)) p 3) 0) (λ u. setWord (next (eqb (word mid p 4) 0)) p 3 (i + 1))
+    (λ u. next (eqb (word mid p 4) 0)))
     (8 * p + 4) q (i + 1) 0 (omega arith)
     ∙ first (eqb (word (next (eqb (word mid p 4) 0)) p 3) 0)
     ∙ later (eqb (word mid p 4) 0) refl ∙ sets-out vs ns (8 * i) q (λ x y. omega arith)
@@ -100,7 +106,8 @@ appended-behind kind code from to ns p i q l w b =
     next : Bool → List ℕ
     next c = pick c (λ u. mid) (λ u. setWord mid (word mid p 4 - 1) 2 (i + 1))
 
-    first : (c : Bool) → getD (pick c (λ u. setWord (next (eqb (word mid p 4) 0)) p 3 (i + 1)) (λ u. next (eqb (word mid p 4) 0))) q 0 ≡ getD (next (eqb (word mid p 4) 0)) q 0
+    first : (c : Bool) → getD (pick c (λ u. setWord (next (eqb (word mid p 4) 0)) p 3 (i + 1)) (λ u. next (eqb (word mid p 4) 0))) q 0
+        ≡ getD (next (eqb (word mid p 4) 0)) q 0
     first true = getD-set-other (next (eqb (word mid p 4) 0)) (8 * p + 3) q (i + 1) 0 (omega arith)
     first false = refl
 
@@ -130,17 +137,20 @@ unused-root n m b = record {
   text = λ q h. replicate-zero b q;
 }
 
-pub unused-element : (c : ℕ) (es : List Entry) (p : ℕ) (t : Tree) → p < t .nodeCount → word (t .nodes) p 4 ≤ t .nodeCount → Unused t → Unused (addElement c es p t)
+pub unused-element : (c : ℕ) (es : List Entry) (p : ℕ) (t : Tree) → p < t .nodeCount → word (t .nodes) p 4 ≤ t .nodeCount → Unused t →
+    Unused (addElement c es p t)
 unfolding addElement
 unused-element c es p t l w u =
     let long : length (entriesWords es) ≡ 5 * length es = entries-long es in
     record {
       nodes = λ q h. appended-behind 2 c _ _ (t .nodes) p (t .nodeCount) q l w (omega arith) ∙ u .nodes q (omega arith);
-      attributes = λ q h. sets-out (entriesWords es) (t .attributes) (5 * t .attributeCount) q (λ x y. omega (arith, long)) ∙ u .attributes q (omega arith);
+      attributes = λ q h. sets-out (entriesWords es) (t .attributes) (5 * t .attributeCount) q (λ x y. omega (arith, long))
+          ∙ u .attributes q (omega arith);
       text = u .text;
     }
 
-pub unused-text : (bs : List ℕ) (size p : ℕ) (t : Tree) → length bs ≤ size → p < t .nodeCount → word (t .nodes) p 4 ≤ t .nodeCount → Unused t → Unused (addText bs size p t)
+pub unused-text : (bs : List ℕ) (size p : ℕ) (t : Tree) → length bs ≤ size → p < t .nodeCount → word (t .nodes) p 4 ≤ t .nodeCount →
+    Unused t → Unused (addText bs size p t)
 unfolding addText
 unused-text bs size p t f l w u = record {
   nodes = λ q h. appended-behind 3 0 _ _ (t .nodes) p (t .nodeCount) q l w (omega arith) ∙ u .nodes q (omega arith);
@@ -151,12 +161,17 @@ unused-text bs size p t f l w u = record {
 pub unused-bounds : (i from to : ℕ) (t : Tree) → i < t .nodeCount → Unused t → Unused (setText i from to t)
 unfolding setText
 unused-bounds i from to t l u = record {
-  nodes = λ q h. getD-set-other (setWord (t .nodes) i 6 from) (8 * i + 7) q to 0 (omega arith) ∙ getD-set-other (t .nodes) (8 * i + 6) q from 0 (omega arith) ∙ u .nodes q h;
+  nodes = λ q h. getD-set-other (setWord (t .nodes) i 6 from) (8 * i + 7) q to 0 (omega arith) ∙ getD-set-other (t .nodes) (8 * i + 6)
+      q from 0 (omega arith) ∙ u .nodes q h;
   attributes = u .attributes;
-  text = λ q h. zeros-over (word (t .nodes) i 7 - to) _ to q (zeros-over (from - word (t .nodes) i 6) (t .text) (word (t .nodes) i 6) q (u .text q h));
+  text = λ q h. zeros-over (word (t .nodes) i 7 - to) _ to q (zeros-over (from - word (t .nodes) i 6) (t .text) (word (t .nodes) i 6)
+      q (u .text q h));
 }
 
 pub unused-none : (j : ℕ) (t : Tree) → j < t .attributeCount → Unused t → Unused (setNone j t)
 unfolding setNone
-unused-none j t l u = record
-    { nodes = u .nodes; attributes = λ q h. sets-out (1 ∷ 0 ∷ 0 ∷ []) (t .attributes) (5 * j + 2) q (λ x y. omega arith) ∙ u .attributes q h; text = u .text }
+unused-none j t l u = record {
+  nodes = u .nodes;
+  attributes = λ q h. sets-out (1 ∷ 0 ∷ 0 ∷ []) (t .attributes) (5 * j + 2) q (λ x y. omega arith) ∙ u .attributes q h;
+  text = u .text;
+}

@@ -14,12 +14,15 @@ use Rattle.model.specs.Base.{pick, and, or, among}
 use Rattle.model.specs.Utf8.{isUtf8}
 use Rattle.model.specs.Drawing.{Element, Source, Event, begin, text, other, close, Value, Mark, commands, events, valuesIn}
 use Rattle.model.specs.Check.{firstOf, starting, checkFrom, mostBytes, check}
-use Rattle.model.specs.Tables.{Tree, Out, refused, done, then, ROOT, TEXT, kindOf, fromOf, toOf, entryAt, valueOf, textOf, nodeRoom, cleared, rooted, setNone}
+use Rattle.model.specs.Tables.{Tree, Out, refused, done, then, ROOT, TEXT, kindOf, fromOf, toOf, entryAt, valueOf, textOf, nodeRoom}
+use Rattle.model.specs.Tables.{cleared, rooted, setNone}
 use Rattle.model.specs.Parse.{plain}
 use Rattle.model.specs.Repair.{Cut, cutName, cutEntry, applyCut, applied, repairs, repaired}
-use Rattle.model.specs.Build.{withRoot, firstIsSvg, tested, parseTree, withRepairs, Result, answered, build, exchanged, exchangeFault, changed, settled, exchange}
+use Rattle.model.specs.Build.{withRoot, firstIsSvg, tested, parseTree, withRepairs, Result, answered, build, exchanged, exchangeFault}
+use Rattle.model.specs.Build.{changed, settled, exchange}
 use Rattle.model.specs.Theorems.Sim.{Rel, both, same, Events, then-rel, Carried}
-use Rattle.model.specs.Noted.{Note, size, sources, Noted, withNotes, notedParsed, stripped, notesOf, notes-forgotten, notedTree, In, notes}
+use Rattle.model.specs.Noted.{Note, size, sources, Noted, withNotes, notedParsed, stripped, notesOf, notes-forgotten, notedTree, In}
+use Rattle.model.specs.Noted.{notes}
 use Rattle.model.specs.Theorems.Agree.{Agree, agree-refl, agree-sym, agree-outs, agree-slice, set-cases, sets-in}
 use Rattle.model.specs.Theorems.Same.{Same}
 use Rattle.model.specs.Theorems.SameRepair.{fixed-safe, repaired-same}
@@ -32,6 +35,7 @@ use Rattle.model.specs.Theorems.Inside.{LiesElement, LiesText, bounded, 
 use Rattle.model.specs.Theorems.Good.{Apart, Good, text-nodes-keep}
 use Rattle.model.specs.Theorems.Spelled.{Safe, SpelledElement}
 use Rattle.model.specs.Theorems.Related.{holds, Stable, Steady, Outer, Open, outer-same, Fine, Harmless, top-related}
+use Rattle.model.specs.Theorems.Real.{notes-real}
 use Rattle.model.specs.Theorems.Places.{Outside, Ahead, ahead, within, events-same, check-same}
 use Rattle.model.specs.Demand3.{textNodesDown, Pinned, Spared, Alike, Exchangeable, Demand3}
 
@@ -48,7 +52,8 @@ holds-out t e (n ∷ ns) h = go (λ g. holds-out t e ns g) (eqb (n .elem) e) ref
     go f false x b y g = let r = f g in (r .0, inr (r .1), r .2, r .3)
 
 -- Two notes with a byte in common are one note.
-apart-same : (ns : List Note) → Apart ns → (m n : Note) → In m ns → In n ns → (q : ℕ) → m .start ≤ q → q < m .start + size m → n .start ≤ q → q < n .start + size n →
+apart-same : (ns : List Note) → Apart ns → (m n : Note) → In m ns → In n ns → (q : ℕ) → m .start ≤ q → q < m .start + size m →
+    n .start ≤ q → q < n .start + size n →
     m .elem ≡ n .elem
 apart-same [] a m n x y q b c d e = absurd x
 apart-same (k ∷ ns) a m n (inl x) (inl y) q b c d e = ap (λ (o : Note). o .elem) (x ∙ sym y)
@@ -89,7 +94,8 @@ module _ (t : ℕ) (one two : List ℕ) (s r : Noted) (o : Outer t one two s r) 
       let f = o .left .fits (n .0) (n .1) in
       let e6 : fromOf (s .tree) (n .0 .node) ≡ fromOf (s .tree) i = ap (λ j. fromOf (s .tree) j) (n .2) in
       let e7 : toOf (s .tree) (n .0 .node) ≡ toOf (s .tree) i = ap (λ j. toOf (s .tree) j) (n .2) in
-      let g : m .elem ≡ n .0 .elem = apart-same (s .notes) (o .left .apart) m (n .0) x (n .1) q y z (omega (arith, f .low)) (omega (arith, f .high)) in
+      let g : m .elem ≡ n .0 .elem = apart-same (s .notes) (o .left .apart) m (n .0) x (n .1) q y z (omega (arith, f .low))
+      (omega (arith, f .high)) in
       spared (n .0) (n .1) (rw (n .2) h) (rw (← g) d)
 
   alike : Alike t (s .notes) one two (s .tree) (r .tree)
@@ -100,9 +106,20 @@ module _ (t : ℕ) (one two : List ℕ) (s r : Noted) (o : Outer t one two s r) 
     textCount = o .textCount;
     nodesLength = o .nodes .long;
     textLength = o .text .long;
-    words = λ i k b f. o .nodes .at (8 * i + k) (λ n x d. (λ e. bound i k f n x (omega arith) (omega arith), λ e. bound i k f n x (omega arith) (omega arith)));
+    words = λ i k b f. o .nodes .at (8 * i + k) (λ n x d. (
+      λ e. bound i k f n x (omega arith) (omega arith),
+      λ e. bound i k f n x (omega arith) (omega arith),
+    ));
     attributes = o .attributes;
-    values = λ j. o .safe j ∙ ap (λ (l : List ℕ). valueOf two (entryAt (record { nodes = []; attributes = l; text = []; nodeCount = 0; attributeCount = 0; textCount = 0 }) j)) (o .attributes);
+    values = λ j. o .safe j
+        ∙ ap (λ (l : List ℕ). valueOf two (entryAt (record {
+          nodes = [];
+          attributes = l;
+          text = [];
+          nodeCount = 0;
+          attributeCount = 0;
+          textCount = 0;
+        }) j)) (o .attributes);
     texts = λ i l k h.
         let e6 = o .nodes .at (8 * i + 6) (stable-bound i 6 h (omega arith) (omega arith)) in
         let e7 = o .nodes .at (8 * i + 7) (stable-bound i 7 h (omega arith) (omega arith)) in
@@ -128,7 +145,8 @@ unfolding applied
 cuts-form t [] = refl
 cuts-form t (c ∷ cs) = cuts-form (applyCut t c) cs ∙ cut-form t c _
 
-repaired-form : (chars : List ℕ) (values : List Value) (t : Tree) → repaired chars values t ≡ withAttributes (repaired chars values t .attributes) t
+repaired-form : (chars : List ℕ) (values : List Value) (t : Tree) →
+    repaired chars values t ≡ withAttributes (repaired chars values t .attributes) t
 unfolding repaired
 repaired-form chars values t = cuts-form t (repairs chars values t)
 
@@ -155,7 +173,8 @@ pub repaired-tidy : (size : ℕ) (chars : List ℕ) (values : List Value) (t : T
 unfolding repaired
 repaired-tidy size chars values t k = cuts-tidy size t (repairs chars values t) k
 
-good-with : (n : ℕ) (ns : List Note) (t : Tree) (ats : List ℕ) → Tidy n (withAttributes ats t) → Good n ns t → Good n ns (withAttributes ats t)
+good-with : (n : ℕ) (ns : List Note) (t : Tree) (ats : List ℕ) → Tidy n (withAttributes ats t) → Good n ns t →
+    Good n ns (withAttributes ats t)
 good-with n ns t ats k g = record {
   tidy = k;
   tiles = g .tiles;
@@ -191,7 +210,8 @@ mended chars values s = record { tree = repaired chars values (s .tree); notes =
 module _ (t : ℕ) (one two : List ℕ) where
   outer-with : (s r : Noted) (ats : List ℕ) → Outer t one two s r → ((j : ℕ) → Safe one two (entryAt (withAttributes ats (s .tree)) j)) →
       Good (length one) (s .notes) (withAttributes ats (s .tree)) → Good (length one) (s .notes) (withAttributes ats (r .tree)) →
-      Outer t one two (record { tree = withAttributes ats (s .tree); notes = s .notes }) (record { tree = withAttributes ats (r .tree); notes = r .notes })
+      Outer t one two (record { tree = withAttributes ats (s .tree); notes = s .notes })
+      (record { tree = withAttributes ats (r .tree); notes = r .notes })
   outer-with s r ats o f left right = record {
     notes = o .notes;
     nodeCount = o .nodeCount;
@@ -205,7 +225,8 @@ module _ (t : ℕ) (one two : List ℕ) where
     right = right;
   }
 
-  pub outer-repaired : (values : List Value) (s r : Noted) → Outer t one two s r → Outer t one two (mended one values s) (mended two values r)
+  pub outer-repaired : (values : List Value) (s r : Noted) → Outer t one two s r →
+      Outer t one two (mended one values s) (mended two values r)
   unfolding entryAt
   outer-repaired values s r o =
       let h = repaired-same one two values (s .tree) (r .tree) (outer-same t one two s r o) in
@@ -213,7 +234,8 @@ module _ (t : ℕ) (one two : List ℕ) where
       (ap (λ (x : Tree). record { tree = x; notes = s .notes }) (repaired-form one values (s .tree)))
       (ap (λ (x : Tree). record { tree = x; notes = r .notes })
       (repaired-form two values (r .tree) ∙ ap (λ (l : List ℕ). withAttributes l (r .tree)) (sym (h .attributes))))
-      (outer-with s r (repaired one values (s .tree) .attributes) o (h .safe) (good-repaired (length one) (s .notes) one values (s .tree) (o .left))
+      (outer-with s r (repaired one values (s .tree) .attributes) o (h .safe) (good-repaired (length one) (s .notes) one values (s .tree)
+      (o .left))
       (subst (λ (l : List ℕ). Good (length one) (s .notes) (withAttributes l (r .tree))) (sym (h .attributes))
       (good-repaired (length one) (s .notes) two values (r .tree) (o .right))))
 
@@ -223,20 +245,24 @@ module _ (t : ℕ) (one two : List ℕ) where
   unfolding cleared entryAt
   cleared-safe n m b j = fixed-safe one two (entryAt (cleared n m b) j) (replicate-zero m (5 * j + 4))
 
-  start : (n m b : ℕ) → 8 ≤ n → Open t one two 0 (record { tree = rooted (cleared n m b); notes = [] }) (record { tree = rooted (cleared n m b); notes = [] })
+  start : (n m b : ℕ) → 8 ≤ n →
+      Open t one two 0 (record { tree = rooted (cleared n m b); notes = [] }) (record { tree = rooted (cleared n m b); notes = [] })
   unfolding rooted cleared entryAt
-  start n m b room = record { outer = record {
-    notes = refl;
-    nodeCount = refl;
-    attributeCount = refl;
-    textCount = refl;
-    attributes = refl;
-    nodes = agree-refl _ _;
-    text = agree-refl _ _;
-    safe = λ j. cleared-safe n m b j;
-    left = good;
-    right = good;
-  }; opened = omega arith }
+  start n m b room = record {
+    outer = record {
+      notes = refl;
+      nodeCount = refl;
+      attributeCount = refl;
+      textCount = refl;
+      attributes = refl;
+      nodes = agree-refl _ _;
+      text = agree-refl _ _;
+      safe = λ j. cleared-safe n m b j;
+      left = good;
+      right = good;
+    };
+    opened = omega arith;
+  }
     where
       root : (j : ℕ) → getD {A = ℕ} (set (replicate n 0) (8 * 0 + 0) ROOT) j 0 ≡ TEXT → ⊥
       root j k = go (set-cases (replicate n 0) (8 * 0 + 0) ROOT j)
@@ -264,14 +290,19 @@ module _ (t : ℕ) (one two : List ℕ) where
 
   svg-same : (s r : Tree) → Same one two s r → firstIsSvg s ≡ firstIsSvg r
   unfolding firstIsSvg
-  svg-same s r h = rw (h .child 0, h .kind (Rattle.model.specs.Tables.firstChildOf r 0 - 1), h .code (Rattle.model.specs.Tables.firstChildOf r 0 - 1))
+  svg-same s r h = rw (
+    h .child 0,
+    h .kind (Rattle.model.specs.Tables.firstChildOf r 0 - 1),
+    h .code (Rattle.model.specs.Tables.firstChildOf r 0 - 1),
+  )
 
   pub trees-related : (all : List Event) → Events (Fine t one two) (Harmless t one two) all → (n m b : ℕ) →
       Rel (Outer t one two) (notedTree (plain one) all (cleared n m b)) (notedTree (plain two) all (cleared n m b))
   unfolding notedTree withRoot notedParsed tested
   trees-related all ok n m b = pick-root (ltb 0 (nodeRoom (cleared n m b))) refl
     where
-      end : (s r : Noted) → Outer t one two s r → Rel (Outer t one two) (withNotes (s .notes) (tested (s .tree))) (withNotes (r .notes) (tested (r .tree)))
+      end : (s r : Noted) → Outer t one two s r →
+          Rel (Outer t one two) (withNotes (s .notes) (tested (s .tree))) (withNotes (r .notes) (tested (r .tree)))
       end s r o = rw (← svg-same (s .tree) (r .tree) (outer-same t one two s r o)) (go (firstIsSvg (s .tree)))
         where
           go : (c : Bool) → Rel (Outer t one two) (withNotes (s .notes) (pick c (λ u. done (s .tree)) (λ u. refused 21)))
@@ -280,17 +311,21 @@ module _ (t : ℕ) (one two : List ℕ) where
           go false = both 21
 
       pick-root : (c : Bool) → ltb 0 (nodeRoom (cleared n m b)) ≡ c → Rel (Outer t one two)
-          (then (pick c (λ u. done (rooted (cleared n m b))) (λ u. refused 22)) (λ r. then (notedParsed (plain one) all r) (λ s. withNotes (s .notes) (tested (s .tree)))))
-          (then (pick c (λ u. done (rooted (cleared n m b))) (λ u. refused 22)) (λ r. then (notedParsed (plain two) all r) (λ s. withNotes (s .notes) (tested (s .tree)))))
+          (then (pick c (λ u. done (rooted (cleared n m b))) (λ u. refused 22)) (λ r. then (notedParsed (plain one) all r)
+          (λ s. withNotes (s .notes) (tested (s .tree)))))
+          (then (pick c (λ u. done (rooted (cleared n m b))) (λ u. refused 22)) (λ r. then (notedParsed (plain two) all r)
+          (λ s. withNotes (s .notes) (tested (s .tree)))))
       pick-root true e =
           let o = start n m b (root-room n m b e) in
-          then-rel (Carried (Open t one two) (record { tree = rooted (cleared n m b); notes = [] }) (record { tree = rooted (cleared n m b); notes = [] })) (Outer t one two) _ _
+          then-rel (Carried (Open t one two) (record { tree = rooted (cleared n m b); notes = [] })
+          (record { tree = rooted (cleared n m b); notes = [] })) (Outer t one two) _ _
           (top-related t one two all ok _ _ o) (λ s r k. end s r (k 0 o .outer))
       pick-root false e = both 22
 
   -- What two related builds answer.
   pub record Answers (all : List Event) (x y : Out Noted) (empty : Tree) : Type 0 where
-    pub number : answered one empty (withRepairs one all (stripped x)) .number ≡ answered two empty (withRepairs two all (stripped y)) .number
+    pub number : answered one empty (withRepairs one all (stripped x)) .number
+        ≡ answered two empty (withRepairs two all (stripped y)) .number
     pub notes : notesOf x ≡ notesOf y
     pub trees : Alike t (notesOf x) one two (answered one empty (withRepairs one all (stripped x)) .tree)
         (answered two empty (withRepairs two all (stripped y)) .tree)
@@ -319,13 +354,13 @@ module _ (t : ℕ) (one two : List ℕ) where
 -- THE EXCHANGE
 
 -- Two things that hold of all elements.
-both-events : (G G′ : Element → Type 0) (H H′ : Source → Type 0) (xs : List Event) → Events G H xs → Events G′ H′ xs → Events (λ x. G x × G′ x) H xs
+both-events : (G G′ : Element → Type 0) (H H′ : Source → Type 0) (xs : List Event) → Events G H xs → Events G′ H′ xs →
+    Events (λ x. G x × G′ x) H xs
 both-events G G′ H H′ [] h k = tt
 both-events G G′ H H′ (begin e ∷ xs) h k = ((h .0, k .0), both-events G G′ H H′ xs (h .1) (k .1))
 both-events G G′ H H′ (text a ∷ xs) h k = (h .0, both-events G G′ H H′ xs (h .1) (k .1))
 both-events G G′ H H′ (other ∷ xs) h k = both-events G G′ H H′ xs h k
 both-events G G′ H H′ (close ∷ xs) h k = both-events G G′ H H′ xs h k
-
 
 -- A build that gives 0 was checked; check's number is build's.
 pub build-checked : (script chars : List ℕ) (n m b : ℕ) → build script chars n m b .number ≡ 0 → check script chars ≡ 0
@@ -333,7 +368,8 @@ unfolding build
 build-checked script chars n m b h = go (eqb (check script chars) 0) refl h
   where
     go : (c : Bool) → eqb (check script chars) 0 ≡ c →
-        answered chars (cleared n m b) (pick c (λ u. withRepairs chars (events script chars) (parseTree (plain chars) (events script chars) (cleared n m b)))
+        answered chars (cleared n m b)
+        (pick c (λ u. withRepairs chars (events script chars) (parseTree (plain chars) (events script chars) (cleared n m b)))
         (λ u. refused (check script chars))) .number ≡ 0 → check script chars ≡ 0
     go true e g = eqb-true _ _ e
     go false e g = g
@@ -361,23 +397,29 @@ answered-chars chars t (done u) = refl
 slice-sets : (vs xs : List ℕ) (p : ℕ) → p + length vs ≤ length xs → slice p (p + length vs) (sets xs p vs) ≡ vs
 slice-sets vs xs p h =
     let long : length (slice p (p + length vs) (sets xs p vs)) ≡ length vs =
-    length-slice p (p + length vs) (sets xs p vs) (rw (length-sets xs p vs) h) ∙ (let z : p + length vs - p ≡ length vs = omega arith in z) in
+    length-slice p (p + length vs) (sets xs p vs) (rw (length-sets xs p vs) h) ∙ (let z : p + length vs - p ≡ length vs = omega arith in
+    z) in
     ext-getD 0 _ _ long (λ i l.
     let b : i < length vs = rw long at l in
-    rw (getD-drop p (take (p + length vs) (sets xs p vs)) i 0, getD-take (p + length vs) (sets xs p vs) (p + i) 0 (omega arith)) (sets-in vs xs p i h b))
+    rw (getD-drop p (take (p + length vs) (sets xs p vs)) i 0, getD-take (p + length vs) (sets xs p vs) (p + i) 0 (omega arith))
+    (sets-in vs xs p i h b))
 
 -- check of other characters as long.
-check-other : (script one two : List ℕ) → check script one ≡ 0 → length two ≡ length one → checkFrom two (length one) starting (commands script) ≡ 0 → check script two ≡ 0
+check-other : (script one two : List ℕ) → check script one ≡ 0 → length two ≡ length one →
+    checkFrom two (length one) starting (commands script) ≡ 0 → check script two ≡ 0
 unfolding check
 check-other script one two h e k = rw e (go (or (ltb mostBytes (length script)) (ltb mostBytes (length one))) h)
   where
-    go : (c : Bool) → pick c (λ u. 1) (λ u. checkFrom one (length one) starting (commands script)) ≡ 0 → pick c (λ u. 1) (λ u. checkFrom two (length one) starting (commands script)) ≡ 0
+    go : (c : Bool) → pick c (λ u. 1) (λ u. checkFrom one (length one) starting (commands script)) ≡ 0 →
+        pick c (λ u. 1) (λ u. checkFrom two (length one) starting (commands script)) ≡ 0
     go true g = absurd (omega arith)
     go false g = k
 
 -- An exchange with no fault gives what the build of the changed drawing gives, if that is 0.
-exchange-done : (script chars : List ℕ) (t : ℕ) (new two ns ats ts : List ℕ) → exchangeFault script chars t new ≡ 0 → changed script chars t new ≡ two →
-    build script two (length ns) (length ats) (length ts) .number ≡ 0 → exchange script chars t new ns ats ts ≡ build script two (length ns) (length ats) (length ts)
+exchange-done : (script chars : List ℕ) (t : ℕ) (new two ns ats ts : List ℕ) → exchangeFault script chars t new ≡ 0 →
+    changed script chars t new ≡ two →
+    build script two (length ns) (length ats) (length ts) .number ≡ 0 →
+    exchange script chars t new ns ats ts ≡ build script two (length ns) (length ats) (length ts)
 unfolding exchange
 exchange-done script chars t new two ns ats ts e f g = rw (e, f) (settle (build script two (length ns) (length ats) (length ts)) g)
   where
@@ -435,7 +477,8 @@ module _ (script chars : List ℕ) (n m b t : ℕ) (a : Source) (new : List ℕ)
 
   same-events : (all ≡ events script two) × Events (SpelledElement chars two) (Harmless t chars two) all
   unfolding events starting
-  same-events = events-same t a chars two agree first 0 (commands script) (text-ahead .clear) (bounded chars (length chars) starting (commands script) walk-one)
+  same-events = events-same t a chars two agree first 0 (commands script) (text-ahead .clear)
+      (bounded chars (length chars) starting (commands script) walk-one)
 
   fine-events : Events (Fine t chars two) (Harmless t chars two) all
   fine-events = both-events (SpelledElement chars two) (LiesElement (length chars)) (Harmless t chars two) (LiesText (length chars)) all
@@ -447,12 +490,15 @@ module _ (script chars : List ℕ) (n m b t : ℕ) (a : Source) (new : List ℕ)
   ends : Answers t chars two all (notedTree (plain chars) all (cleared n m b)) (notedTree (plain two) all (cleared n m b)) (cleared n m b)
   ends = answers t chars two all n m b _ _ related
 
-  build-one : build script chars n m b ≡ answered chars (cleared n m b) (withRepairs chars all (stripped (notedTree (plain chars) all (cleared n m b))))
+  build-one : build script chars n m b ≡ answered chars (cleared n m b)
+      (withRepairs chars all (stripped (notedTree (plain chars) all (cleared n m b))))
   build-one = build-noted script chars n m b checked-one
 
-  build-two : build script two n m b ≡ answered two (cleared n m b) (withRepairs two all (stripped (notedTree (plain two) all (cleared n m b))))
+  build-two : build script two n m b ≡ answered two (cleared n m b)
+      (withRepairs two all (stripped (notedTree (plain two) all (cleared n m b))))
   build-two = build-noted script two n m b checked-two
-      ∙ ap (λ (xs : List Event). answered two (cleared n m b) (withRepairs two xs (stripped (notedTree (plain two) xs (cleared n m b))))) (sym (same-events .0))
+      ∙ ap (λ (xs : List Event). answered two (cleared n m b) (withRepairs two xs (stripped (notedTree (plain two) xs (cleared n m b)))))
+      (sym (same-events .0))
 
   number-two : build script two n m b .number ≡ 0
   number-two = ap (λ (r : Result). r .number) build-two ∙ sym (ends .number) ∙ sym (ap (λ (r : Result). r .number) build-one) ∙ h .built
@@ -486,5 +532,6 @@ module _ (script chars : List ℕ) (n m b t : ℕ) (a : Source) (new : List ℕ)
     checked = checked-two;
     sameEvents = sym (same-events .0);
     sameNotes = same-notes;
+    real = notes-real script chars n m b;
     alike = alike-two;
   }
