@@ -26,8 +26,8 @@ returns-2 c = rw (passes (c .before .before .before .is-sound .ensures) (c .befo
 text-at-requires : tie.Need-text-at-requires
 text-at-requires c κs =
     let args = c .before .before .before .before .before .before .before .before .args in
-    let kept =
-        sound-kept (args .characters .now) _ (passes (c .before .before .before .is-sound .ensures) (c .before .before .if1 .left)) in (
+    let sound = passes (c .before .before .before .is-sound .ensures) (c .before .before .if1 .left) in
+    let kept = sound-kept (args .characters .now) _ sound in (
       text-readable _ _ kept _ (c .if2 .left),
       λ z. let later = (kept .nodes _ (c .if2 .left)) .first z in text-readable _ _ kept _ (omega (arith, later .0, later .1)),
     )
