@@ -1,7 +1,7 @@
 // check (document 01, section 7): one number for a script and its characters, 0 if they are accepted.
 use super::cursor::Cursor;
 use super::cursor::Step;
-use super::utf8::is_utf8;
+use utf8::is_utf8;
 ghost use mathlib.Core.Path.{_≡_};
 ghost use mathlib.Core.Bool.{not, false};
 ghost use mathlib.Core.List.{List, [], _∷_};

@@ -1,0 +1,4 @@
+pub mod Walks
+pub mod Along
+pub mod Finding
+pub mod Search
