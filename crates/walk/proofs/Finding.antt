@@ -1,7 +1,7 @@
 -- Searches: parts of the characters, attributes by name, readings by kind. Assumes nothing.
 use mathlib.Core.Path.{_≡_, refl, sym, ap, _∙_, subst}
 use mathlib.Core.List.{List, []}
-use mathlib.Core.Bool.{Bool, false}
+use mathlib.Core.Bool.{Bool, true, false}
 use mathlib.Core.Option.{Option, some}
 use Prim.Native.Nat.{ℕ, _+_, _-_, _<_, _≤_}
 use native.Mathlib.Omega.{arith}
@@ -9,24 +9,21 @@ use borrow.Author.Tests.{eq-eqb, ne-eqb}
 use lib.Dec.{eqb}
 use lib.ListN.{length, take, drop, length-take, length-drop, drop-of-length-le}
 use lib.Seq.{slice, take-all}
-use Rattle.model.specs.Base.{pick, and, given, orElse, sameBytes}
-use Rattle.model.specs.AId
-use Rattle.model.specs.Drawing as model
-use Rattle.model.specs.Drawing.{opening, elementAt, valueAt, attributesAt, attributeIn, readingsAt, readingOf, iriOf, useHref, trefHref, hasId}
+use Rattle.model.specs.Base.{pick, and, sameBytes}
+use Rattle.model.specs.Drawing.{attributeIn, readingOf, partAt}
+use Rattle.model.specs.Repair.{anyReading}
 use Rattle.script.specs.declared.cursor.Cursor.{Cursor}
-use Rattle.walk.specs.declared.walk.Attr.{Attr}
-use Rattle.walk.specs.declared.walk.Attr.the-variants as attr
-use Rattle.walk.specs.declared.walk.Read.{Read}
-use Rattle.walk.specs.declared.walk.Read.the-variants as read
-use Rattle.walk.specs.declared.find.Found.{Found}
-use Rattle.walk.specs.declared.find.Found.the-variants as found
-use Rattle.walk.specs.declared.find.Part.{Part}
-use Rattle.walk.specs.declared.find.Part.the-variants as part
-use Rattle.script.specs.Step.{Fit, commandsAt, markOf, moved}
-use Rattle.walk.specs.Walk.{attributesIn, attributesOf, AttrFit, readingsOf, ReadFit}
-use Rattle.walk.specs.Find.{valueOf, ValueFit, partOf}
+use Rattle.script.specs.Step.{Fit, mostPlace}
 use Rattle.script.proofs.Parts.{part-is}
-use Rattle.walk.proofs.Walks.{AttrIs}
+use Rattle.walk.specs.declared.value.ValueAt.{ValueAt}
+use Rattle.walk.specs.declared.value.NextValue.{NextValue}
+use Rattle.walk.specs.declared.value.NextValue.the-variants as next
+use Rattle.walk.specs.declared.value.NextReading.{NextReading}
+use Rattle.walk.specs.declared.value.NextReading.the-variants as read
+use Rattle.walk.specs.declared.value.FoundValue.the-variants as found
+use Rattle.walk.specs.declared.value.FoundPart.the-variants as part
+use Rattle.walk.specs.Values.{attributesIn, readingsIn, SameNodes, SameRest, valueOf, valueIn, ValueFit, Attributed, partOf}
+use Rattle.walk.proofs.Walks.{AttributeIs, attribute-told, ReadingIs, reading-told}
 
 -- A PART OF THE CHARACTERS
 
@@ -42,116 +39,108 @@ module _ (l : List ℕ) (a n : ℕ) where
   pub part-whole : (e : ℕ) → e ≡ a + n → take (e - a) (drop a l) ≡ slice a (a + n) l
   part-whole e h = ap (λ m. take m (drop a l)) (let z : e - a ≡ n = omega arith in z) ∙ part-is a n l
 
--- ATTRIBUTES BY NAME
-
-pub attr-told : (s : List ℕ) (c : Cursor) (r x : Attr) → r ≡ x → ((chars : List ℕ) → attributesOf s chars r ≡ attributesIn s chars c) × (AttrFit s c r) → AttrIs s c x
-attr-told s c r x e h = subst (AttrIs s c) e (record { same = h .0; fit = h .1 })
-
-pub record Seeking (s : List ℕ) (p a : ℕ) (from c : Cursor) : Type 0 where
-  pub fit : Fit s c
-  pub same : (chars : List ℕ) → attributeIn p a (attributesIn s chars c) ≡ attributeIn p a (attributesIn s chars from)
-
-pub seeking : (s : List ℕ) (p a : ℕ) (c : Cursor) → Fit s c → Seeking s p a c c
-seeking s p a c f = record { fit = f; same = λ chars. refl }
-
-module _ (s : List ℕ) (p a : ℕ) (from c : Cursor) (w : Seeking s p a from c) where
-  module _ (b q : ℕ) (o : Cursor) (l : ℕ) (n : Cursor) (i : AttrIs s c (attr.At b q o l n)) where
-    looked : (chars : List ℕ) → pick (and (eqb q p) (eqb b a)) (λ u. some (valueAt chars (markOf o) l (commandsAt s n))) (λ u. attributeIn p a (attributesIn s chars n)) ≡ attributeIn p a (attributesIn s chars from)
-    unfolding attributeIn
-    looked chars = ap (attributeIn p a) (i .same chars) ∙ w .same chars
-
-    pub named : q ≡ p → b ≡ a → (chars : List ℕ) → valueOf s chars (found.Value o l n) ≡ attributeIn p a (attributesIn s chars from)
-    named e f chars = sym (rw (eq-eqb q p e, eq-eqb b a f)) ∙ looked chars
-
-    pub other-space : (q ≡ p → ⊥) → Seeking s p a from n
-    other-space e = record { fit = i .fit .1 .fit; same = λ chars. sym (rw (ne-eqb q p e)) ∙ looked chars }
-
-    pub other-name : q ≡ p → (b ≡ a → ⊥) → Seeking s p a from n
-    other-name f e = record { fit = i .fit .1 .fit; same = λ chars. sym (rw (eq-eqb q p f, ne-eqb b a e)) ∙ looked chars }
-
-  pub unnamed : AttrIs s c attr.End → (chars : List ℕ) → valueOf s chars found.Nothing ≡ attributeIn p a (attributesIn s chars from)
-  unfolding attributeIn
-  unnamed i chars = ap (attributeIn p a) (i .same chars) ∙ w .same chars
-
--- READINGS BY KIND
-
-pub record ReadIs (s : List ℕ) (c : Cursor) (a : ℕ) (r : Read) : Type 0 where
-  pub same : (chars : List ℕ) → readingsOf s chars a r ≡ readingsAt chars a (commandsAt s c)
-  pub fit : ReadFit s c a r
-
-pub read-told : (s : List ℕ) (c : Cursor) (a : ℕ) (r x : Read) → r ≡ x → ((chars : List ℕ) → readingsOf s chars a r ≡ readingsAt chars a (commandsAt s c)) × (ReadFit s c a r) → ReadIs s c a x
-read-told s c a r x e h = subst (ReadIs s c a) e (record { same = h .0; fit = h .1 })
-
-pub record Reading (s : List ℕ) (a k : ℕ) (from c : Cursor) : Type 0 where
-  pub fit : Fit s c
-  pub same : (chars : List ℕ) → readingOf k (readingsAt chars a (commandsAt s c)) ≡ readingOf k (readingsAt chars a (commandsAt s from))
-
-pub reading-first : (s : List ℕ) (a k : ℕ) (c : Cursor) → Fit s c → Reading s a k c c
-reading-first s a k c f = record { fit = f; same = λ chars. refl }
-
-module _ (s : List ℕ) (a k : ℕ) (from c : Cursor) (w : Reading s a k from c) where
-  module _ (j o l : ℕ) (n : Cursor) (i : ReadIs s c a (read.At j o l n)) where
-    pub of-kind : j ≡ k → (chars : List ℕ) → partOf chars (part.At o l) ≡ readingOf k (readingsAt chars a (commandsAt s from))
-    unfolding readingOf
-    of-kind e chars = sym (rw (eq-eqb j k e)) ∙ ap (readingOf k) (i .same chars) ∙ w .same chars
-
-    pub other-kind : (j ≡ k → ⊥) → Reading s a k from n
-    unfolding readingOf
-    other-kind e = record { fit = i .fit .fit; same = λ chars. sym (rw (ne-eqb j k e)) ∙ ap (readingOf k) (i .same chars) ∙ w .same chars }
-
-  pub of-no-kind : ReadIs s c a read.End → (chars : List ℕ) → partOf chars part.Nothing ≡ readingOf k (readingsAt chars a (commandsAt s from))
-  unfolding readingOf
-  of-no-kind i chars = ap (readingOf k) (i .same chars) ∙ w .same chars
-
--- LINKS
-
-pub fit-chars : (s : List ℕ) (c : Cursor) → Fit s c → c .chars ≤ 4503599627370496
+-- A place in the characters is small.
+pub fit-chars : (s : List ℕ) (c : Cursor) → Fit s c → c .chars ≤ mostPlace
 fit-chars s c f = omega (arith, f .chars, f .at, f .size)
 
-module _ (s : List ℕ) (v : Found) where
-  pub iri-value : (o : Cursor) (l : ℕ) (n : Cursor) → v ≡ found.Value o l n → (r : Part) → ((chars : List ℕ) → partOf chars r ≡ readingOf 1 (readingsAt chars (o .chars) (commandsAt s n)))
-      → (chars : List ℕ) → partOf chars r ≡ iriOf (valueOf s chars v)
-  unfolding valueAt
-  iri-value o l n e r h chars = h chars ∙ ap (λ w. iriOf (valueOf s chars w)) (sym e)
+-- ATTRIBUTES BY NAME
 
-  pub iri-nothing : v ≡ found.Nothing → (chars : List ℕ) → partOf chars part.Nothing ≡ iriOf (valueOf s chars v)
-  iri-nothing e chars = ap (λ w. iriOf (valueOf s chars w)) (sym e)
+rest-on : (s chars : List ℕ) (a b c : Cursor) → SameRest s chars a b → SameRest s chars b c → SameRest s chars a c
+rest-on s chars a b c r q = record {
+  nodes = record {
+    fit = q .nodes .fit;
+    later = omega (arith, r .nodes .later, q .nodes .later);
+    events = q .nodes .events ∙ r .nodes .events;
+  };
+  declarations = q .declarations ∙ r .declarations;
+}
 
-  pub value-fit : (o : Cursor) (l : ℕ) (n : Cursor) → v ≡ found.Value o l n → ValueFit s v → (Fit s o) × (Fit s n)
-  value-fit o l n e f = subst (ValueFit s) e f
+-- From `from` to c there is no attribute a of the namespace p.
+pub record Looking (s chars : List ℕ) (p a : ℕ) (from c : Cursor) : Type 0 where
+  pub rest : SameRest s chars from c
+  pub same : attributeIn p a (attributesIn s chars c) ≡ attributeIn p a (attributesIn s chars from)
 
-  pub href-first : (o : Cursor) (l : ℕ) (n : Cursor) → v ≡ found.Value o l n → (r : Part) (a b : List ℕ → Option model.Value) → ((chars : List ℕ) → valueOf s chars v ≡ a chars)
-      → ((chars : List ℕ) → partOf chars r ≡ iriOf (valueOf s chars v)) → (chars : List ℕ) → partOf chars r ≡ iriOf (orElse (a chars) (b chars))
-  href-first o l n e r a b f h chars =
-      h chars ∙ ap (λ w. iriOf (valueOf s chars w)) e ∙ ap (λ w. iriOf (orElse (valueOf s chars w) (b chars))) (sym e) ∙ ap (λ w. iriOf (orElse w (b chars))) (f chars)
+pub looking : (s chars : List ℕ) (p a : ℕ) (c : Cursor) → Fit s c → Looking s chars p a c c
+looking s chars p a c f = record { rest = record { nodes = record { fit = f; later = omega arith; events = refl }; declarations = refl }; same = refl }
 
-  pub href-second : v ≡ found.Nothing → (w : Found) (r : Part) (a b : List ℕ → Option model.Value) → ((chars : List ℕ) → valueOf s chars v ≡ a chars) → ((chars : List ℕ) → valueOf s chars w ≡ b chars)
-      → ((chars : List ℕ) → partOf chars r ≡ iriOf (valueOf s chars w)) → (chars : List ℕ) → partOf chars r ≡ iriOf (orElse (a chars) (b chars))
-  href-second e w r a b f g h chars =
-      h chars ∙ ap iriOf (g chars) ∙ ap (λ u. iriOf (orElse (valueOf s chars u) (b chars))) (sym e) ∙ ap (λ u. iriOf (orElse u (b chars))) (f chars)
+module _ (s chars : List ℕ) (p a : ℕ) (from c : Cursor) (w : Looking s chars p a from c) (r : NextValue) where
+  module _ (b q : ℕ) (v : ValueAt) (t : r ≡ next.At b q v) (i : AttributeIs s chars c r) where
+    fitting : Attributed s chars c v
+    fitting = attribute-told s chars c r (next.At b q v) t i .1
 
-pub use-link : (xs : List model.Attribute) (e : model.Element) (p : Option model.Part) → e .attributes ≡ xs → p ≡ iriOf (orElse (attributeIn 0 AId.Href xs) (attributeIn 2 AId.Href xs)) → p ≡ useHref e
-unfolding useHref
-use-link xs e p h f = rw h f
+    looked : pick (and (eqb q p) (eqb b a)) (λ u. some (valueOf s chars v)) (λ u. attributeIn p a (attributesIn s chars (v .behind)))
+        ≡ attributeIn p a (attributesIn s chars from)
+    unfolding attributeIn
+    looked = ap (attributeIn p a) (attribute-told s chars c r (next.At b q v) t i .0) ∙ w .same
 
-pub tref-link : (xs : List model.Attribute) (e : model.Element) (p : Option model.Part) → e .attributes ≡ xs → p ≡ iriOf (orElse (attributeIn 2 AId.Href xs) (attributeIn 0 AId.Href xs)) → p ≡ trefHref e
-unfolding trefHref
-tref-link xs e p h f = rw h f
+    pub named : q ≡ p → b ≡ a → (valueIn s chars (found.At v) ≡ attributeIn p a (attributesIn s chars from)) × ValueFit s chars from (found.At v)
+    named e f = (
+      sym (rw (eq-eqb q p e, eq-eqb b a f)) ∙ looked,
+      record { own = fitting .own; rest = rest-on s chars from c (v .behind) (w .rest) (fitting .rest); further = omega (arith, w .rest .nodes .later, fitting .further) },
+    )
 
--- IDS
+    pub other-space : (q ≡ p → ⊥) → Looking s chars p a from (v .behind)
+    other-space e = record { rest = rest-on s chars from c (v .behind) (w .rest) (fitting .rest); same = sym (rw (ne-eqb q p e)) ∙ looked }
 
-module _ (s chars id : List ℕ) (c : Cursor) (v : Found) (h : valueOf s chars v ≡ attributeIn 0 AId.Id (attributesIn s chars c)) (e : model.Element) (a : e .attributes ≡ attributesIn s chars c) where
-  id-by : given (valueOf s chars v) (λ w. sameBytes (w .part .bytes) id) (λ u. false) ≡ hasId id e
-  unfolding hasId
-  id-by = rw (a, ← h)
+    pub other-name : q ≡ p → (b ≡ a → ⊥) → Looking s chars p a from (v .behind)
+    other-name f e = record { rest = rest-on s chars from c (v .behind) (w .rest) (fitting .rest); same = sym (rw (eq-eqb q p f, ne-eqb b a e)) ∙ looked }
 
-  pub with-id : (o : Cursor) (l : ℕ) (n : Cursor) → v ≡ found.Value o l n → (p : List ℕ) → p ≡ slice (o .chars) (o .chars + l) chars → (r : Bool) → r ≡ sameBytes p id → r ≡ hasId id e
-  unfolding valueAt model.partAt
-  with-id o l n f p g r k = k ∙ ap (λ q. sameBytes q id) g ∙ ap (λ w. given (valueOf s chars w) (λ w. sameBytes (w .part .bytes) id) (λ u. false)) (sym f) ∙ id-by
+  pub unnamed : (n : Cursor) → r ≡ next.End n → AttributeIs s chars c r
+      → (valueIn s chars (found.Nothing n) ≡ attributeIn p a (attributesIn s chars from)) × ValueFit s chars from (found.Nothing n)
+  unfolding attributeIn
+  unnamed n t i =
+      let e = attribute-told s chars c r (next.End n) t i in (
+        ap (attributeIn p a) (e .0) ∙ w .same,
+        record { rest = rest-on s chars from c n (w .rest) (e .1 .rest); none-left = e .1 .none-left },
+      )
 
-  pub without-id : v ≡ found.Nothing → false ≡ hasId id e
-  without-id f = ap (λ w. given (valueOf s chars w) (λ w. sameBytes (w .part .bytes) id) (λ u. false)) (sym f) ∙ id-by
+-- READINGS
 
-pub element-attributes : (s chars : List ℕ) (o n : Cursor) (a b : ℕ) → n ≡ moved o (opening a b) → elementAt chars (markOf o) a b (commandsAt s n) .attributes ≡ attributesIn s chars n
-unfolding elementAt
-element-attributes s chars o n a b e = ap (λ (k : Cursor). attributesAt chars (markOf k) (commandsAt s n)) (sym e)
+-- What f says of the readings from c on it says of those from `from` on.
+pub record Reading {A : Type 0} (f : List ℕ → ℕ → Cursor → A) (s : List ℕ) (a : ℕ) (from c : Cursor) : Type 0 where
+  pub fit : Fit s c
+  pub same : f s a c ≡ f s a from
+
+pub reading-first : {A : Type 0} (f : List ℕ → ℕ → Cursor → A) (s : List ℕ) (a : ℕ) (c : Cursor) → Fit s c → Reading f s a c c
+reading-first f s a c h = record { fit = h; same = refl }
+
+module _ (s chars : List ℕ) (a k : ℕ) (from c : Cursor) (r : NextReading) where
+  module _ (j o l : ℕ) (n : Cursor) (t : r ≡ read.At j o l n) (i : ReadingIs s chars c a r) where
+    told : ReadingIs s chars c a (read.At j o l n)
+    told = reading-told s chars c a r (read.At j o l n) t i
+
+    pub of-kind : Reading (λ s a c. readingOf k (readingsIn s chars a c)) s a from c → j ≡ k
+        → partOf chars (part.At o l) ≡ readingOf k (readingsIn s chars a from)
+    unfolding readingOf
+    of-kind w e = sym (rw (eq-eqb j k e)) ∙ ap (readingOf k) (told .0) ∙ w .same
+
+    pub other-kind : Reading (λ s a c. readingOf k (readingsIn s chars a c)) s a from c → (j ≡ k → ⊥)
+        → Reading (λ s a c. readingOf k (readingsIn s chars a c)) s a from n
+    unfolding readingOf
+    other-kind w e = record { fit = told .1 .rest .nodes .fit; same = sym (rw (ne-eqb j k e)) ∙ ap (readingOf k) (told .0) ∙ w .same }
+
+    module _ (id : List ℕ) (w : Reading (λ s a c. anyReading k id (readingsIn s chars a c)) s a from c) where
+      pub any-kind : (j ≡ k → ⊥) → Reading (λ s a c. anyReading k id (readingsIn s chars a c)) s a from n
+      unfolding anyReading
+      any-kind e = record { fit = told .1 .rest .nodes .fit; same = sym (rw (ne-eqb j k e)) ∙ ap (anyReading k id) (told .0) ∙ w .same }
+
+      module _ (e : j ≡ k) (p : List ℕ) (g : p ≡ slice o (o + l) chars) (q : Bool) (h : q ≡ sameBytes p id) where
+        asked : pick q (λ u. true) (λ u. anyReading k id (readingsIn s chars a n)) ≡ anyReading k id (readingsIn s chars a from)
+        unfolding anyReading partAt
+        asked = rw (h, g) (sym (rw (eq-eqb j k e)) ∙ ap (anyReading k id) (told .0) ∙ w .same)
+
+        pub any-hit : q ≡ true → true ≡ anyReading k id (readingsIn s chars a from)
+        any-hit z = sym (rw z) ∙ asked
+
+        pub any-miss : q ≡ false → Reading (λ s a c. anyReading k id (readingsIn s chars a c)) s a from n
+        any-miss z = record { fit = told .1 .rest .nodes .fit; same = sym (rw z) ∙ asked }
+
+  pub of-no-kind : r ≡ read.End → ReadingIs s chars c a r → Reading (λ s a c. readingOf k (readingsIn s chars a c)) s a from c
+      → partOf chars part.Nothing ≡ readingOf k (readingsIn s chars a from)
+  unfolding readingOf
+  of-no-kind t i w = ap (readingOf k) (reading-told s chars c a r read.End t i .0) ∙ w .same
+
+  pub any-none : (id : List ℕ) → r ≡ read.End → ReadingIs s chars c a r → Reading (λ s a c. anyReading k id (readingsIn s chars a c)) s a from c
+      → false ≡ anyReading k id (readingsIn s chars a from)
+  unfolding anyReading
+  any-none id t i w = ap (anyReading k id) (reading-told s chars c a r read.End t i .0) ∙ w .same

@@ -1,2 +1,4 @@
-pub mod Walk
-pub mod Find
+pub mod Values
+pub mod Nodes
+pub mod Links
+pub mod Seeks
