@@ -13,7 +13,8 @@ ghost use lib.ListN.{length};
 ghost use lib.Seq.{slice};
 ghost use Rattle.model.specs.Base.{and, or};
 ghost use Rattle.model.specs.Drawing.{opening, attribute, declaration, reading, text, other, closing, broken};
-ghost use Rattle.model.specs.Check.{_if_, mayAttribute, mayDeclare, isElementCode, isAttributeCode, isDeclarationCode, isHalfFont, firstOf, stringTests, testsOf, testsAtEnd, check};
+ghost use Rattle.model.specs.Check.{_if_, mayAttribute, mayDeclare, isElementCode, isAttributeCode, isDeclarationCode, isHalfFont};
+ghost use Rattle.model.specs.Check.{firstOf, stringTests, testsOf, testsAtEnd, check};
 ghost use Rattle.model.specs.Utf8.{isUtf8};
 ghost use Rattle.script.specs.Step.{Fit, mostPlace};
 ghost use Rattle.script.specs.Known.{stageOf, bit, Kinds, lastOf, Held, Inside, stateOf, testOf, Judged, onwardOf, Turned};
@@ -436,7 +437,8 @@ fn judge_broken(s: State, b: u8) -> u32
 
 // At the end of the script.
 fn judge_end(characters: &[u8], s: State, at: usize) -> u32
-    ensures { λ r. ⌜ ((ks : List ℕ) → Held (s .last) ks → r ≡ firstOf (testsAtEnd (now (characters .entry)) (length (now (characters .entry))) (stateOf s at ks))) ⌝ }
+    ensures { λ r. ⌜ ((ks : List ℕ) → Held (s .last) ks
+        → r ≡ firstOf (testsAtEnd (now (characters .entry)) (length (now (characters .entry))) (stateOf s at ks))) ⌝ }
 {
     let depth = s.depth;
     let begun = s.begun;

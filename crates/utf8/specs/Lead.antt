@@ -34,8 +34,8 @@ abbrev pub leftOut : ℕ → ℕ → Bool
 leftOut first b =
     ((eqb first 0xE0 && ltb b 0xA0) || (eqb first 0xED && ltb 0x9F b)) || ((eqb first 0xF0 && ltb b 0x90) || (eqb first 0xF4 && ltb 0x8F b))
 
--- Is b out of place behind three bytes, of which p1 stands next to it? Behind a first byte of two or more stands a second one, behind a second
--- byte of three or a third byte of four a further one, and elsewhere a first.
+-- Is b out of place behind three bytes, of which p1 stands next to it? Behind a first byte of two or more stands a second one, behind a
+-- second byte of three or a third byte of four a further one, and elsewhere a first.
 unfoldable pub misplaced : ℕ → ℕ → ℕ → ℕ → Bool
 misplaced p3 p2 p1 b =
     pick (leb 0xC0 p1) (λ u. not (isWithin b (secondOf p1)))

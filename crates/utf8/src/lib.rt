@@ -4,7 +4,8 @@ ghost use mathlib.Core.Bool.{true, false};
 ghost use Prim.Native.Nat.{ℕ, _+_, _<_, _≤_};
 ghost use lib.ListN.{length, drop, getD};
 ghost use Rattle.model.specs.Utf8.{_to_, isWithin, sequenceOf, wellFormed, isUtf8, isUtf8From};
-ghost use Rattle.utf8.specs.Lead.{lengthOf, secondOf, never, leftOut, misplaced, misplacedOfTwo, misplacedIn, misplacedOfTwoIn, begunAt};
+ghost use Rattle.utf8.specs.Lead.{lengthOf, secondOf, never, leftOut, misplaced, misplacedOfTwo};
+ghost use Rattle.utf8.specs.Lead.{misplacedIn, misplacedOfTwoIn, begunAt};
 
 // Is the byte in a range?
 fn is_within(b: u8, least: u8, greatest: u8) -> bool

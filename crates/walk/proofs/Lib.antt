@@ -5,3 +5,4 @@ pub mod Search
 pub mod Leading
 pub mod Linking
 pub mod Seeking
+pub mod Readings

@@ -5,7 +5,8 @@ use mathlib.Core.Option.{Option, none, some}
 use lib.Dec.{eqb}
 use Rattle.model.specs.Base.{pick}
 use Rattle.model.specs.EId
-use Rattle.model.specs.Drawing.{Command, opening, attribute, declaration, reading, closing, broken, Mark, Reading, Source, sourceAt, readingsAt}
+use Rattle.model.specs.Drawing.{Command, opening, attribute, declaration, reading, closing, broken, Mark}
+use Rattle.model.specs.Drawing.{Reading, Source, sourceAt, readingsAt}
 use Rattle.script.specs.declared.cursor.Cursor.{Cursor}
 use Rattle.script.specs.Step.{commandsAt, markOf}
 use Rattle.walk.specs.declared.seek.FoundText.{FoundText}

@@ -4,7 +4,8 @@ use Prim.Native.Nat.{ℕ, _<_, _≤_}
 use mathlib.Core.List.{List, [], _∷_}
 use mathlib.Core.Option.{Option, none, some}
 use Rattle.model.specs.Drawing as model
-use Rattle.model.specs.Drawing.{Attribute, Declaration, Reading, Value, Event, valueAt, attributesAt, declarationsAt, readingsAt, partAt, eventsFrom}
+use Rattle.model.specs.Drawing.{Attribute, Declaration, Reading, Value, Event}
+use Rattle.model.specs.Drawing.{valueAt, attributesAt, declarationsAt, readingsAt, partAt, eventsFrom}
 use Rattle.script.specs.declared.cursor.Cursor.{Cursor}
 use Rattle.script.specs.Step.{Fit, commandsAt, markOf, mostStart}
 use Rattle.walk.specs.declared.value.ValueAt.{ValueAt}

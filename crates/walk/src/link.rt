@@ -21,7 +21,8 @@ ghost use Rattle.model.specs.Base.{orElse, and};
 ghost use Rattle.model.specs.AId;
 ghost use Rattle.model.specs.Names.{isElement};
 ghost use Rattle.model.specs.Check.{mostBytes};
-ghost use Rattle.model.specs.Drawing.{events, attributeIn, iriOf, useHref, trefHref, firstWithId, linkedBy, leadsBack, usesIn, useTarget, quoted};
+ghost use Rattle.model.specs.Drawing.{events, attributeIn, iriOf, useHref, trefHref, firstWithId, linkedBy};
+ghost use Rattle.model.specs.Drawing.{leadsBack, usesIn, useTarget, quoted};
 ghost use Rattle.script.specs.Step.{Fit};
 ghost use Rattle.walk.specs.Values.{attributesIn, eventsAt, valueIn, ValueFit, partOf, PartFit};
 ghost use Rattle.walk.specs.Nodes.{elementOf, nodeAt, Standing};
@@ -98,12 +99,22 @@ pub fn tref_href(script: &[u8], characters: &[u8], e: Opened) -> FoundPart
     href_of(script, characters, e.inside, 2, 0)
 }
 
+// The first unprefixed id of an element.
+fn first_id(script: &[u8], characters: &[u8], e: Opened) -> FoundValue
+    requires { ⌜ Standing (now script) e ⌝ }
+    ensures same { λ r. ⌜ valueIn (now (script .entry)) (now (characters .entry)) r
+        ≡ attributeIn 0 AId.Id (attributesIn (now (script .entry)) (now (characters .entry)) (e .inside)) ⌝ }
+    ensures fit { λ r. ⌜ ValueFit (now (script .entry)) (now (characters .entry)) (e .inside) r ⌝ }
+{
+    attribute_in(script, characters, e.inside, 0, ID)
+}
+
 // Has the element an unprefixed id, and the first one is this?
 fn has_id(script: &[u8], characters: &[u8], e: Opened, id: &[u8]) -> Asked
     requires { ⌜ Standing (now script) e ⌝ }
     ensures { λ r. ⌜ Tested (now (script .entry)) (now (characters .entry)) (now (id .entry)) e r ⌝ }
 {
-    match attribute_in(script, characters, e.inside, 0, ID) {
+    match first_id(script, characters, e) {
         FoundValue::At(v) => {
             let start = v.own.chars;
             if same(part_at(characters, start, v.len), id) {
@@ -191,10 +202,11 @@ fn same_parts(characters: &[u8], a: FoundPart, b: FoundPart) -> bool
 pub fn leading_id(script: &[u8], characters: &[u8], e: Opened) -> FoundPart
     requires { ⌜ Standing (now script) e ⌝ }
     ensures same { λ r. ⌜ partOf (now (characters .entry)) r
-        ≡ leadingId (events (now (script .entry)) (now (characters .entry))) (elementOf (now (script .entry)) (now (characters .entry)) e) ⌝ }
+        ≡ leadingId (events (now (script .entry)) (now (characters .entry)))
+        (elementOf (now (script .entry)) (now (characters .entry)) e) ⌝ }
     ensures fit { λ r. ⌜ PartFit r ⌝ }
 {
-    match attribute_in(script, characters, e.inside, 0, ID) {
+    match first_id(script, characters, e) {
         FoundValue::At(v) => {
             let start = v.own.chars;
             let len = v.len;
@@ -261,7 +273,8 @@ pub fn has_tag_name(name: u8, space: u8) -> bool
 pub fn use_target(script: &[u8], characters: &[u8], e: Opened, origin: usize) -> FoundElement
     requires { ⌜ Standing (now script) e ⌝ }
     ensures same { λ r. ⌜ nodeOf (now (script .entry)) (now (characters .entry)) r
-        ≡ useTarget (events (now (script .entry)) (now (characters .entry))) (elementOf (now (script .entry)) (now (characters .entry)) e) origin ⌝ }
+        ≡ useTarget (events (now (script .entry)) (now (characters .entry)))
+        (elementOf (now (script .entry)) (now (characters .entry)) e) origin ⌝ }
     ensures fit { λ r. ⌜ NodeFit (now (script .entry)) r ⌝ }
 {
     let link = use_href(script, characters, e);

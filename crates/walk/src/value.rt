@@ -8,8 +8,8 @@ ghost use lib.Seq.{slice};
 ghost use Rattle.model.specs.Drawing.{attributeIn, readingOf};
 ghost use Rattle.model.specs.Repair.{anyReading};
 ghost use Rattle.script.specs.Step.{Fit, mostPlace, mostStart};
-ghost use Rattle.walk.specs.Values.{attributesIn, declarationsIn, readingsIn, attributesOf, AttributeFit, declarationsOf, DeclarationFit};
-ghost use Rattle.walk.specs.Values.{readingsOf, ReadingFit, valueIn, ValueFit, partOf, PartFit};
+ghost use Rattle.walk.specs.Values.{attributesIn, declarationsIn, readingsIn, attributesOf, AttributeFit};
+ghost use Rattle.walk.specs.Values.{declarationsOf, DeclarationFit, readingsOf, ReadingFit, valueIn, ValueFit, partOf, PartFit};
 
 // The value of an attribute or of a declaration: its own place, its length, and the cursor behind its command.
 pub struct ValueAt {
@@ -18,7 +18,7 @@ pub struct ValueAt {
     pub behind: Cursor,
 }
 
-// The next attribute or declaration: its name, its namespace or importance, its value. Where there is none left, the cursor behind the last.
+// The next attribute or declaration: its name, its namespace or importance, its value. Where none is left, the cursor behind the last.
 pub enum NextValue {
     At(u8, u8, ValueAt),
     End(Cursor),

@@ -5,15 +5,15 @@ use borrow.Author.Needs.{needs}
 use Rattle.walk.proofs.link.leading_id.Statement.{statement}
 use Rattle.walk.proofs.link.leading_id.Tie as tie
 
-attribute-in-requires : tie.Need-attribute-in-requires
-attribute-in-requires c κs = search needs
+first-id-requires : tie.Need-first-id-requires
+first-id-requires c κs = search needs
 
 enum-known-v : tie.Need-enum-known-v
 enum-known-v c = search needs
 
 part-at-requires : tie.Need-part-at-requires
 part-at-requires c κs =
-    let held = value-fit _ _ _ _ _ (c .before .v .given .1) (c .before .before .before .attribute-in .ensures .1) in
+    let held = value-fit _ _ _ _ _ (c .before .v .given .1) (c .before .before .before .first-id .ensures .1) in
     omega (arith, fit-chars _ _ (held .own))
 
 first-with-id-requires : tie.Need-first-with-id-requires
@@ -25,10 +25,10 @@ enum-known-f c = search needs
 returns : tie.Need-returns
 returns c =
     let held = value-fit _ _ _ _ _ (c .before .before .before .before .before .before .before .before .before .v .given .1)
-    (c .before .before .before .before .before .before .before .before .before .before .before .attribute-in .ensures .1) in (
+    (c .before .before .before .before .before .before .before .before .before .before .before .first-id .ensures .1) in (
       leading-found _ _
           (c .before .before .before .before .before .before .before .before .before .before .before .before .before .before .args .e) _
-          (c .before .before .before .before .before .before .before .before .before .before .before .attribute-in .ensures) _
+          (c .before .before .before .before .before .before .before .before .before .before .before .first-id .ensures) _
           (c .before .before .before .before .before .before .before .before .before .v .given .1) _
           (c .before .before .before .before .before .before .before .part-at .ensures) _
           (c .before .before .before .before .before .before .first-with-id .ensures .0) _
@@ -46,7 +46,7 @@ returns-2 : tie.Need-returns-2
 returns-2 c = (
   leading-other _ _
       (c .before .before .before .before .before .before .before .before .before .before .before .before .before .before .args .e) _
-      (c .before .before .before .before .before .before .before .before .before .before .before .attribute-in .ensures) _
+      (c .before .before .before .before .before .before .before .before .before .before .before .first-id .ensures) _
       (c .before .before .before .before .before .before .before .before .before .v .given .1) _
       (c .before .before .before .before .before .before .before .part-at .ensures) _
       (c .before .before .before .before .before .before .first-with-id .ensures .0) _
@@ -57,7 +57,7 @@ returns-2 c = (
 returns-3 : tie.Need-returns-3
 returns-3 c = (
   leading-nowhere _ _ (c .before .before .before .before .before .before .before .before .before .before .args .e) _
-      (c .before .before .before .before .before .before .before .attribute-in .ensures) _
+      (c .before .before .before .before .before .before .before .first-id .ensures) _
       (c .before .before .before .before .before .v .given .1) _ (c .before .before .before .part-at .ensures) _
       (c .before .before .first-with-id .ensures .0) (c .enum-told .given .1),
   tt,
@@ -65,7 +65,7 @@ returns-3 c = (
 
 returns-4 : tie.Need-returns-4
 returns-4 c = (
-  leading-none _ _ (c .before .before .before .before .before .args .e) _ (c .before .before .attribute-in .ensures) _
+  leading-none _ _ (c .before .before .before .before .before .args .e) _ (c .before .before .first-id .ensures) _
       (c .enum-told2 .given .1),
   tt,
 )
@@ -74,7 +74,7 @@ pub leading-id-spec : {M : Type 1} → statement M
 leading-id-spec =
     tie.close
     (tie.spec
-    attribute-in-requires
+    first-id-requires
     enum-known-v
     part-at-requires
     first-with-id-requires
