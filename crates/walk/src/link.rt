@@ -117,7 +117,8 @@ fn has_id(script: &[u8], characters: &[u8], e: Opened, id: &[u8]) -> Asked
     match first_id(script, characters, e) {
         FoundValue::At(v) => {
             let start = v.own.chars;
-            if same(part_at(characters, start, v.len), id) {
+            let first = part_at(characters, start, v.len);
+            if same(first, id) {
                 return Asked::Has;
             }
             let n = v.behind;

@@ -68,11 +68,11 @@ pub fn next_attribute(script: &[u8], characters: &[u8], from: Cursor) -> NextVal
     let mut c = from;
     loop {
         match c.next(script, characters) {
-            Step::Attribute(name, space, len, n) => {
+            Step::Attribute(name, space, len, behind) => {
                 let v = ValueAt {
                     own: c,
                     len: len,
-                    behind: n,
+                    behind: behind,
                 };
                 return NextValue::At(name, space, v);
             }
