@@ -2,19 +2,20 @@
 use mathlib.Core.Path.{_≡_, refl, sym, ap, _∙_, subst}
 use mathlib.Core.List.{List, [], _∷_}
 use mathlib.Core.Bool.{Bool, true, false}
-use Prim.Native.Nat.{ℕ, zero, suc, _+_, _-_, _*_, _<_, _≤_}
-use native.Mathlib.Numerals.{add-one}
+use Prim.Native.Nat.{ℕ, zero, suc, _+_, _-_, _*_, _^_, _<_, _≤_}
+use native.Mathlib.Nat.{zero-add, suc-add}
 use native.Mathlib.Omega.{arith}
 use borrow.Author.Tests.{le-leb, lt-leb, ne-eqb, leb-true, leb-false, eqb-true}
 use lib.Dec.{eqb, leb}
 use lib.ListN.{length, getD, take, drop, length-take, length-drop, drop-of-length-le}
 use lib.Seq.{drop-cons, drop-drop, getD-drop, length-take-le}
 use Rattle.model.specs.Base.{pick}
-use Rattle.model.specs.Drawing.{Command, opening, attribute, declaration, reading, text, other, closing, broken, operands, wordAt, whole, command, follow, commands, commandsFrom}
+use Rattle.model.specs.Check.{mostBytes}
+use Rattle.model.specs.Drawing.{Command, opening, attribute, declaration, reading, text, other, closing, broken, operands, wordAt, whole, command, follow, commands, commandsFrom, taken, counted}
 use Rattle.script.specs.declared.cursor.Cursor.{Cursor}
 use Rattle.script.specs.declared.cursor.Step.{Step}
 use Rattle.script.specs.declared.cursor.Step.the-variants.{Open, Attribute, Declaration, Reading, Text, Other, Close, Broken, End}
-use Rattle.script.specs.Step.{Fit, commandsAt, bytesOf, moved, toStep, stepOf, stepAt, Going}
+use Rattle.script.specs.Step.{Fit, commandsAt, bytesOf, moved, isBroken, placeFrom, placeOf, atStart, Here, toStep, stepOf, stepAt, Going}
 
 -- THE OPERANDS
 
@@ -142,17 +143,6 @@ module _ (s : List ℕ) (c : Cursor) where
     unfolding whole operands
     close-here e n f = stepped closing n (all-there 7 _ e (omega arith) refl) f
 
--- The cursor behind a command is in range.
-pub fit-past : (s : List ℕ) (c n : Cursor) (b l t : ℕ) → Fit s c → n ≡ record { at = c .at + b; chars = c .chars + l; number = c .number + 1; texts = c .texts + t }
-    → 1 ≤ b → c .at + b ≤ length s → l < 4294967296 → t ≤ 1 → Fit s n
-fit-past s c n b l t f e h1 h2 h3 h4 = subst (Fit s) (sym e) (record {
-  size = f .size;
-  at = h2;
-  chars = omega (arith, f .chars);
-  number = omega (arith, f .number);
-  texts = omega (arith, f .texts);
-})
-
 -- WHAT A STEP TELLS
 
 pick-cases : {A : Type 0} (P : A → Type 0) (t : Bool) (f g : Unit {0} → A) → (t ≡ true → P (f tt)) → (t ≡ false → P (g tt)) → P (pick t f g)
@@ -195,12 +185,6 @@ skipped (suc n) [] = refl
 skipped zero (b ∷ t) = refl
 skipped (suc n) (b ∷ t) = skipped n t
 
--- The command x stands at the cursor c, and n is the cursor behind it.
-pub record Here (s : List ℕ) (c : Cursor) (x : Command) (n : Cursor) : Type 0 where
-  pub more : commandsAt s c ≡ x ∷ commandsAt s n
-  pub next : n ≡ moved c x
-  pub further : c .at < n .at
-
 abbrev pub Told : List ℕ → Cursor → Step → Type 0
 Told s c (Open a b n) = Here s c (opening a b) n
 Told s c (Attribute a b l n) = Here s c (attribute a b l) n
@@ -230,7 +214,7 @@ module _ (s : List ℕ) (c : Cursor) where
   at-command b closing z e = record { more = e ∙ ap (λ r. closing ∷ r) (behind b 1 z); next = refl; further = omega arith }
   at-command b (broken a) z e = e
 
-  told-of : Told s c (stepAt s c)
+  pub told-of : Told s c (stepAt s c)
   unfolding stepAt commandsAt commands commandsFrom
   told-of = go (leb (length s) (c .at)) refl
     where
@@ -248,3 +232,120 @@ module _ (s : List ℕ) (c : Cursor) where
 -- The cursor of a step is in range.
 pub goes : (s : List ℕ) (a b : Step) → a ≡ b → Going s a → Going s b
 goes s a b e g = subst (Going s) e g
+
+-- PLACES
+
+-- What stands at a cursor.
+pub data Stands (s : List ℕ) (c : Cursor) : Type 0 where
+  nothing-there : commandsAt s c ≡ [] → Stands s c
+  broken-there : (b : ℕ) → commandsAt s c ≡ broken b ∷ [] → Stands s c
+  there : (x : Command) (n : Cursor) → Here s c x n → Stands s c
+
+module _ (s : List ℕ) (c : Cursor) where
+  stands-of : (x : Step) → Told s c x → Stands s c
+  stands-of (Open a b n) h = there _ n h
+  stands-of (Attribute a b l n) h = there _ n h
+  stands-of (Declaration a b l n) h = there _ n h
+  stands-of (Reading k o l n) h = there _ n h
+  stands-of (Text l n) h = there _ n h
+  stands-of (Other n) h = there _ n h
+  stands-of (Close n) h = there _ n h
+  stands-of (Broken b) h = broken-there b h
+  stands-of End h = nothing-there h
+
+  pub what-stands : Stands s c
+  what-stands = stands-of (stepAt s c) (told-of s c)
+
+-- A command that stands at a cursor is whole.
+pub unbroken : {s : List ℕ} {c : Cursor} (x : Command) {n : Cursor} → Here s c x n → isBroken x ≡ false
+unbroken (opening a b) h = refl
+unbroken (attribute a n l) h = refl
+unbroken (declaration a i l) h = refl
+unbroken (reading k o l) h = refl
+unbroken (text l) h = refl
+unbroken other h = refl
+unbroken closing h = refl
+unbroken {s} {c} (broken b) {n} h = absurd (let z : n .at ≡ c .at + 0 = ap (λ (k : Cursor). k .at) (h .next) in omega (arith, h .further, z))
+
+module _ (s : List ℕ) where
+  -- The place j commands behind c, which stands k commands behind d.
+  place-add : (k j : ℕ) (d c : Cursor) → placeFrom k d (commandsAt s d) ≡ c → c .number ≡ d .number + k
+      → placeFrom (k + j) d (commandsAt s d) ≡ placeFrom j c (commandsAt s c)
+  unfolding placeFrom
+  place-add zero j d c e f = rw (e, zero-add)
+  place-add (suc k) j d c e f = rw suc-add (go (what-stands s d) (λ m g z. place-add k j m c g z))
+    where
+      go : Stands s d
+          → ((m : Cursor) → placeFrom k m (commandsAt s m) ≡ c → c .number ≡ m .number + k → placeFrom (k + j) m (commandsAt s m) ≡ placeFrom j c (commandsAt s c))
+          → placeFrom (suc (k + j)) d (commandsAt s d) ≡ placeFrom j c (commandsAt s c)
+      go (nothing-there z) ih = absurd (let y : d ≡ c = rw z at e in omega (arith, ap (λ (w : Cursor). w .number) y, f))
+      go (broken-there b z) ih = absurd (let y : d ≡ c = rw z at e in omega (arith, ap (λ (w : Cursor). w .number) y, f))
+      go (there y m w) ih =
+          rw (w .more, unbroken y w, ← w .next)
+          (ih m (rw (w .more, unbroken y w, ← w .next) at e) (omega (arith, ap (λ (v : Cursor). v .number) (w .next), f)))
+
+  -- The same from the first command on.
+  pub place-behind : (j : ℕ) (c : Cursor) → Fit s c → placeOf s (c .number + j) ≡ placeFrom j c (commandsAt s c)
+  unfolding placeOf commandsAt
+  place-behind j c f = place-add (c .number) j atStart c (sym (f .placed)) (let z : c .number ≡ 0 + c .number = omega arith in z)
+
+  placed-next : (c : Cursor) (x : Command) (n : Cursor) → Fit s c → Here s c x n → n ≡ placeOf s (n .number)
+  unfolding placeFrom
+  placed-next c x n f h =
+      sym (place-behind 1 c f ∙ rw (h .more, unbroken x h) (sym (h .next)))
+      ∙ ap (placeOf s) (let z : c .number + 1 ≡ n .number = omega (arith, ap (λ (v : Cursor). v .number) (h .next)) in z)
+
+  pub placed-first : (c : Cursor) → c ≡ atStart → length s ≤ mostBytes → Fit s c
+  unfolding placeOf placeFrom
+  placed-first c e h = subst (Fit s) (sym e) (record { size = h; at = omega arith; chars = omega arith; number = omega arith; texts = omega arith; placed = refl })
+
+-- THE CURSOR BEHIND A COMMAND
+
+counts : (x : Command) → counted x ≤ 1
+counts (opening a b) = omega arith
+counts (attribute a n l) = omega arith
+counts (declaration a i l) = omega arith
+counts (reading k o l) = omega arith
+counts (text l) = omega arith
+counts other = omega arith
+counts closing = omega arith
+counts (broken b) = omega arith
+
+here-of : (s : List ℕ) (c : Cursor) (x : Command) (n : Cursor) → isBroken x ≡ false → Told s c (toStep x n) → Here s c x n
+here-of s c (opening a b) n e h = h
+here-of s c (attribute a k l) n e h = h
+here-of s c (declaration a i l) n e h = h
+here-of s c (reading k o l) n e h = h
+here-of s c (text l) n e h = h
+here-of s c other n e h = h
+here-of s c closing n e h = h
+here-of s c (broken b) n e h = absurd (let z : _≡_ {A = ℕ} 0 1 = cc in omega arith)
+
+going-of : (s : List ℕ) (x : Command) (n : Cursor) → Fit s n → Going s (toStep x n)
+going-of s (opening a b) n f = f
+going-of s (attribute a k l) n f = f
+going-of s (declaration a i l) n f = f
+going-of s (reading k o l) n f = f
+going-of s (text l) n f = f
+going-of s other n f = f
+going-of s closing n f = f
+going-of s (broken b) n f = tt
+
+fit-next : (s : List ℕ) (c : Cursor) (x : Command) (n : Cursor) → Fit s c → Here s c x n → c .at + bytesOf x ≤ length s → taken x < 2 ^ 32 → Fit s n
+fit-next s c x n f h b l = record {
+  size = f .size;
+  at = omega (arith, at, b);
+  chars = omega (arith, at, ap (λ (v : Cursor). v .chars) (h .next), f .chars, h .further);
+  number = omega (arith, at, ap (λ (v : Cursor). v .number) (h .next), f .number, h .further);
+  texts = omega (arith, at, ap (λ (v : Cursor). v .texts) (h .next), f .texts, h .further, counts x);
+  placed = placed-next s c x n f h;
+}
+  where
+    at : n .at ≡ c .at + bytesOf x
+    at = ap (λ (v : Cursor). v .at) (h .next)
+
+-- A step to a whole command, with a cursor in range behind it.
+pub passing : (s : List ℕ) (c : Cursor) (x : Command) (n : Cursor) → Fit s c → toStep x n ≡ stepAt s c → isBroken x ≡ false → c .at + bytesOf x ≤ length s → taken x < 2 ^ 32
+    → (toStep x n ≡ stepAt s c) × (Going s (toStep x n))
+passing s c x n f e w b l =
+    (e, going-of s x n (fit-next s c x n f (here-of s c x n w (told s c (toStep x n) (toStep x n) refl e)) b l))

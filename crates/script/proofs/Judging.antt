@@ -23,9 +23,9 @@ use Rattle.script.specs.declared.check.State.{State}
 use Rattle.script.specs.declared.check.Judgement.{Judgement}
 use Rattle.script.specs.declared.check.Judgement.the-variants.{Passed, Refused}
 use Rattle.script.specs.declared.check.Turn.{Turn}
-use Rattle.script.specs.Step.{Fit, commandsAt, moved}
+use Rattle.script.specs.Step.{Fit, Here, commandsAt, moved, atStart}
 use Rattle.script.specs.Known.{stageOf, bit, Kinds, lastOf, Held, Inside, stateOf, testOf, Passing, Judged, onwardOf, checkAt, Onward, Turned}
-use Rattle.script.proofs.Commands.{Here}
+use Rattle.script.proofs.Commands.{placed-first}
 use Rattle.script.proofs.Mask.{none}
 use Rattle.script.proofs.Parts.{hit, over, passed}
 
@@ -137,7 +137,7 @@ checking script chars s c h l e f =
       kinds = [];
       held = tt;
       inside = tt;
-      fit = record { size = h; at = omega arith; chars = omega arith; number = omega arith; texts = omega arith };
+      fit = placed-first script atStart refl h;
       same = sym (rw (le-ltb 1048576 (length script) h, le-ltb 1048576 (length chars) l));
     }))
 

@@ -1,11 +1,4 @@
-pub mod Sequence
-pub mod Ascii
-pub mod Blocks
 pub mod Commands
 pub mod Mask
 pub mod Parts
 pub mod Judging
-pub mod Walks
-pub mod Along
-pub mod Finding
-pub mod Search

@@ -13,7 +13,7 @@ use Rattle.model.specs.Check.{nothing, value, isHalfFont}
 use Rattle.script.specs.declared.check.Last.{Last}
 use Rattle.script.specs.declared.check.Last.the-variants.{Nothing, Value}
 use Rattle.script.specs.Known.{bit, Kinds, lastOf, Held}
-use Rattle.script.proofs.Sequence.{allBelow, below}
+use Rattle.utf8.proofs.Sequence.{allBelow, below}
 
 pub none : Kinds 0 []
 unfolding among

@@ -1,5 +1,2 @@
-pub mod Lead
 pub mod Step
 pub mod Known
-pub mod Walk
-pub mod Find

@@ -1,7 +1,9 @@
 // check (document 01, section 7): one number for a script and its characters, 0 if they are accepted.
 use super::cursor::Cursor;
 use super::cursor::Step;
-use super::utf8::is_utf8;
+use names::is_attribute;
+use names::is_element;
+use utf8::is_utf8;
 ghost use mathlib.Core.Path.{_≡_};
 ghost use mathlib.Core.Bool.{not, false};
 ghost use mathlib.Core.List.{List, [], _∷_};
@@ -11,9 +13,10 @@ ghost use lib.ListN.{length};
 ghost use lib.Seq.{slice};
 ghost use Rattle.model.specs.Base.{and, or};
 ghost use Rattle.model.specs.Drawing.{opening, attribute, declaration, reading, text, other, closing, broken};
-ghost use Rattle.model.specs.Check.{_if_, mayAttribute, mayDeclare, isElementCode, isAttributeCode, isDeclarationCode, isHalfFont, firstOf, stringTests, testsOf, testsAtEnd, check};
+ghost use Rattle.model.specs.Check.{_if_, mayAttribute, mayDeclare, isElementCode, isAttributeCode, isDeclarationCode, isHalfFont};
+ghost use Rattle.model.specs.Check.{firstOf, stringTests, testsOf, testsAtEnd, check};
 ghost use Rattle.model.specs.Utf8.{isUtf8};
-ghost use Rattle.script.specs.Step.{Fit};
+ghost use Rattle.script.specs.Step.{Fit, mostPlace};
 ghost use Rattle.script.specs.Known.{stageOf, bit, Kinds, lastOf, Held, Inside, stateOf, testOf, Judged, onwardOf, Turned};
 
 // What may come inside the innermost open element: attributes and all else; declarations and children; children alone.
@@ -112,7 +115,7 @@ fn is_bad_open(name: u8, space: u8) -> bool
     if 4 < space {
         return true;
     }
-    if name <= 52 {
+    if is_element(name as u32) {
         return false;
     }
     if name == 255 {
@@ -128,7 +131,7 @@ fn is_bad_attribute(name: u8, space: u8) -> bool
     if 4 < space {
         return true;
     }
-    if name <= 210 {
+    if is_attribute(name as u32) {
         return false;
     }
     if name == 255 {
@@ -144,7 +147,7 @@ fn is_bad_declaration(name: u8, important: u8) -> bool
     if 1 < important {
         return true;
     }
-    if name <= 210 {
+    if is_attribute(name as u32) {
         return false;
     }
     if name == 255 {
@@ -179,7 +182,7 @@ fn is_repeated(kinds: u32, kind: u8) -> bool
 
 // The tests of a string of len characters that begins at a place.
 fn test_string(characters: &[u8], at: usize, len: u32) -> u32
-    requires { ⌜ at ≤ 4503599627370496 ⌝ }
+    requires { ⌜ at ≤ mostPlace ⌝ }
     ensures { λ r. ⌜ r ≡ firstOf (stringTests (now (characters .entry)) (length (now (characters .entry))) at len) ⌝ }
 {
     let end = at + len as usize;
@@ -269,7 +272,7 @@ fn judge_attribute(
     space: u8,
     len: u32,
 ) -> Judgement
-    requires { ⌜ at ≤ 4503599627370496 ⌝ }
+    requires { ⌜ at ≤ mostPlace ⌝ }
     ensures { λ r. ⌜ ((ks : List ℕ) → Held (s .last) ks → Judged (now (characters .entry)) s at ks (attribute name space len) r) ⌝ }
 {
     let stage = s.stage;
@@ -303,7 +306,7 @@ fn judge_declaration(
     important: u8,
     len: u32,
 ) -> Judgement
-    requires { ⌜ at ≤ 4503599627370496 ⌝ }
+    requires { ⌜ at ≤ mostPlace ⌝ }
     ensures { λ r. ⌜ ((ks : List ℕ) → Held (s .last) ks → Judged (now (characters .entry)) s at ks (declaration name important len) r) ⌝ }
 {
     let stage = s.stage;
@@ -361,7 +364,7 @@ fn judge_reading(characters: &[u8], s: State, kind: u8, offset: u32, len: u32) -
 }
 
 fn judge_text(characters: &[u8], s: State, at: usize, len: u32) -> Judgement
-    requires { ⌜ at ≤ 4503599627370496 ⌝ }
+    requires { ⌜ at ≤ mostPlace ⌝ }
     ensures { λ r. ⌜ ((ks : List ℕ) → Held (s .last) ks → Judged (now (characters .entry)) s at ks (text len) r) ⌝ }
 {
     let depth = s.depth;
@@ -434,7 +437,8 @@ fn judge_broken(s: State, b: u8) -> u32
 
 // At the end of the script.
 fn judge_end(characters: &[u8], s: State, at: usize) -> u32
-    ensures { λ r. ⌜ ((ks : List ℕ) → Held (s .last) ks → r ≡ firstOf (testsAtEnd (now (characters .entry)) (length (now (characters .entry))) (stateOf s at ks))) ⌝ }
+    ensures { λ r. ⌜ ((ks : List ℕ) → Held (s .last) ks
+        → r ≡ firstOf (testsAtEnd (now (characters .entry)) (length (now (characters .entry))) (stateOf s at ks))) ⌝ }
 {
     let depth = s.depth;
     let begun = s.begun;
@@ -470,7 +474,7 @@ fn advance(script: &[u8], characters: &[u8], s: State, c: Cursor) -> Turn
     ensures { λ r. ⌜ ((ks : List ℕ) → Held (s .last) ks → Turned (now (script .entry)) (now (characters .entry)) s c ks r) ⌝ }
 {
     let at = c.chars;
-    match c.next(script) {
+    match c.next(script, characters) {
         Step::Open(name, space, n) => onward(judge_open(s, name, space), n),
         Step::Attribute(name, space, len, n) => onward(
             judge_attribute(characters, s, at, name, space, len),

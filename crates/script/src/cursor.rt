@@ -1,9 +1,10 @@
 // The commands of a script, one after another (document 01, section 2).
 ghost use mathlib.Core.Path.{_≡_};
-ghost use Prim.Native.Nat.{_+_, _*_, _≤_, _<_};
+ghost use Prim.Native.Nat.{_+_, _*_, _^_, _≤_, _<_};
 ghost use lib.ListN.{length};
+ghost use Rattle.model.specs.Check.{mostBytes};
 ghost use Rattle.model.specs.Drawing.{operands, wordAt};
-ghost use Rattle.script.specs.Step.{Fit, stepAt, Going};
+ghost use Rattle.script.specs.Step.{Fit, atStart, stepAt, Going};
 
 // A place between two commands: in the script, in the characters, and the commands and texts so far.
 pub struct Cursor {
@@ -61,7 +62,7 @@ fn word(s: &[u8], at: usize) -> u32
 impl Cursor {
     // Before the first command.
     pub fn start() -> Cursor
-        ensures { λ r. ⌜ r ≡ record { at = 0; chars = 0; number = 0; texts = 0 } ⌝ }
+        ensures { λ r. ⌜ r ≡ atStart ⌝ }
     {
         Cursor {
             at: 0,
@@ -73,8 +74,14 @@ impl Cursor {
 
     // The cursor behind a command of that many bytes, characters and texts.
     fn past(self, bytes: usize, chars: u32, texts: usize) -> Cursor
-        requires { ⌜ (self .at + bytes ≤ 1048576) × (self .chars ≤ self .at * 4294967296) × (self .number ≤ self .at) × (self .texts ≤ self .at) × (texts ≤ 1) ⌝ }
-        ensures { λ r. ⌜ r ≡ record { at = self .at + bytes; chars = self .chars + chars; number = self .number + 1; texts = self .texts + texts } ⌝ }
+        requires { ⌜ (self .at + bytes ≤ mostBytes) × (self .chars ≤ self .at * 2 ^ 32) × (self .number ≤ self .at) ⌝ }
+        requires { ⌜ (self .texts ≤ self .at) × (texts ≤ 1) ⌝ }
+        ensures { λ r. ⌜ r ≡ record {
+          at = self .at + bytes;
+          chars = self .chars + chars;
+          number = self .number + 1;
+          texts = self .texts + texts;
+        } ⌝ }
     {
         Cursor {
             at: self.at + bytes,
@@ -84,8 +91,8 @@ impl Cursor {
         }
     }
 
-    // The command at the cursor, with the cursor behind it.
-    pub fn next(self, script: &[u8]) -> Step
+    // The command at the cursor, with the cursor behind it. The drawing is lent whole.
+    pub fn next(self, script: &[u8], characters: &[u8]) -> Step
         requires { ⌜ Fit (now script) self ⌝ }
         ensures step { λ r. ⌜ r ≡ stepAt (now (script .entry)) self ⌝ }
         ensures going { λ r. ⌜ Going (now (script .entry)) r ⌝ }

@@ -1,13 +1,13 @@
 use native.Mathlib.Omega.{arith}
 use mathlib.Core.Path.{ap, _∙_, sym, refl}
-use Rattle.model.specs.Drawing.{operands, wordAt}
-use Rattle.script.proofs.Commands.{ended, cut, nothing, open-here, attribute-here, declaration-here, reading-here, text-here, other-here, close-here, fit-past}
+use Rattle.model.specs.Drawing.{opening, attribute, declaration, reading, text, other, closing, operands, wordAt}
+use Rattle.script.proofs.Commands.{ended, cut, nothing, open-here, attribute-here, declaration-here, reading-here, text-here, other-here, close-here, passing}
 use borrow.Author.Needs.{needs}
 use Rattle.script.proofs.cursor.Cursor.next.Statement.{statement}
 use Rattle.script.proofs.cursor.Cursor.next.Tie as tie
 
 returns : tie.Need-returns
-returns c = (ended (c .before .before .args .script .now) (c .before .before .args .self) (c .if1 .taken), tt)
+returns c = (ended (c .before .before .before .args .script .now) (c .before .before .before .args .self) (c .if1 .taken), tt)
 
 shared-slice-read-b : tie.Need-shared-slice-read-b
 shared-slice-read-b c = search needs
@@ -22,7 +22,7 @@ operands-of-requires : tie.Need-operands-of-requires
 operands-of-requires c κs = search needs
 
 returns-2 : tie.Need-returns-2
-returns-2 c = (cut (c .before .before .before .before .before .args .script .now) (c .before .before .before .before .before .args .self) (c .before .before .before .if1 .left) (omega (arith, c .before .operands-of .ensures)), tt)
+returns-2 c = (cut (c .before .before .before .before .before .before .args .script .now) (c .before .before .before .before .before .before .args .self) (c .before .before .before .if1 .left) (omega (arith, c .before .operands-of .ensures)), tt)
 
 add-name : tie.Need-add-name
 add-name c = search needs
@@ -136,34 +136,34 @@ past-requires-7 c κs = search needs
 
 returns-3 : tie.Need-returns-3
 unfolding operands
-returns-3 c = (open-here (c .before .before .before .before .before .before .before .before .before .args .script .now) (c .before .before .before .before .before .before .before .before .before .args .self) (c .before .before .before .before .before .before .before .if1 .left) (c .before .before .before .match .keys1) (omega (arith, c .before .before .before .before .before .operands-of .ensures ∙ ap operands (c .before .before .before .match .keys1))) (c .past .result) (c .past .ensures), fit-past (c .before .before .before .before .before .before .before .before .before .args .script .now) (c .before .before .before .before .before .before .before .before .before .args .self) (c .past .result) 3 0 0 (c .before .before .before .before .before .before .before .before .before .pre) (c .past .ensures) (omega arith) (omega (arith, c .before .before .before .before .before .operands-of .ensures ∙ ap operands (c .before .before .before .match .keys1))) (search needs) (omega arith))
+returns-3 c = passing (c .before .before .before .before .before .before .before .before .before .before .args .script .now) (c .before .before .before .before .before .before .before .before .before .before .args .self) (opening _ _) (c .past .result) (c .before .before .before .before .before .before .before .before .before .before .pre) (open-here (c .before .before .before .before .before .before .before .before .before .before .args .script .now) (c .before .before .before .before .before .before .before .before .before .before .args .self) (c .before .before .before .before .before .before .before .if1 .left) (c .before .before .before .match .keys1) (omega (arith, c .before .before .before .before .before .operands-of .ensures ∙ ap operands (c .before .before .before .match .keys1))) (c .past .result) (c .past .ensures)) refl (omega (arith, c .before .before .before .before .before .operands-of .ensures ∙ ap operands (c .before .before .before .match .keys1))) (search needs)
 
 returns-4 : tie.Need-returns-4
 unfolding operands
-returns-4 c = (attribute-here (c .before .before .before .before .before .before .before .before .before .before .args .script .now) (c .before .before .before .before .before .before .before .before .before .before .args .self) (c .before .before .before .before .before .before .before .before .if1 .left) (c .before .before .before .before .match .keys2) (omega (arith, c .before .before .before .before .before .before .operands-of .ensures ∙ ap operands (c .before .before .before .before .match .keys2))) (c .before .word .result) (c .before .word .ensures) (c .past2 .result) (c .past2 .ensures), fit-past (c .before .before .before .before .before .before .before .before .before .before .args .script .now) (c .before .before .before .before .before .before .before .before .before .before .args .self) (c .past2 .result) 7 (c .before .word .result) 0 (c .before .before .before .before .before .before .before .before .before .before .pre) (c .past2 .ensures) (omega arith) (omega (arith, c .before .before .before .before .before .before .operands-of .ensures ∙ ap operands (c .before .before .before .before .match .keys2))) (search needs) (omega arith))
+returns-4 c = passing (c .before .before .before .before .before .before .before .before .before .before .before .args .script .now) (c .before .before .before .before .before .before .before .before .before .before .before .args .self) (attribute _ _ (c .before .word .result)) (c .past2 .result) (c .before .before .before .before .before .before .before .before .before .before .before .pre) (attribute-here (c .before .before .before .before .before .before .before .before .before .before .before .args .script .now) (c .before .before .before .before .before .before .before .before .before .before .before .args .self) (c .before .before .before .before .before .before .before .before .if1 .left) (c .before .before .before .before .match .keys2) (omega (arith, c .before .before .before .before .before .before .operands-of .ensures ∙ ap operands (c .before .before .before .before .match .keys2))) (c .before .word .result) (c .before .word .ensures) (c .past2 .result) (c .past2 .ensures)) refl (omega (arith, c .before .before .before .before .before .before .operands-of .ensures ∙ ap operands (c .before .before .before .before .match .keys2))) (search needs)
 
 returns-5 : tie.Need-returns-5
 unfolding operands
-returns-5 c = (declaration-here (c .before .before .before .before .before .before .before .before .before .before .args .script .now) (c .before .before .before .before .before .before .before .before .before .before .args .self) (c .before .before .before .before .before .before .before .before .if1 .left) (c .before .before .before .before .match .keys3) (omega (arith, c .before .before .before .before .before .before .operands-of .ensures ∙ ap operands (c .before .before .before .before .match .keys3))) (c .before .word2 .result) (c .before .word2 .ensures) (c .past3 .result) (c .past3 .ensures), fit-past (c .before .before .before .before .before .before .before .before .before .before .args .script .now) (c .before .before .before .before .before .before .before .before .before .before .args .self) (c .past3 .result) 7 (c .before .word2 .result) 0 (c .before .before .before .before .before .before .before .before .before .before .pre) (c .past3 .ensures) (omega arith) (omega (arith, c .before .before .before .before .before .before .operands-of .ensures ∙ ap operands (c .before .before .before .before .match .keys3))) (search needs) (omega arith))
+returns-5 c = passing (c .before .before .before .before .before .before .before .before .before .before .before .args .script .now) (c .before .before .before .before .before .before .before .before .before .before .before .args .self) (declaration _ _ (c .before .word2 .result)) (c .past3 .result) (c .before .before .before .before .before .before .before .before .before .before .before .pre) (declaration-here (c .before .before .before .before .before .before .before .before .before .before .before .args .script .now) (c .before .before .before .before .before .before .before .before .before .before .before .args .self) (c .before .before .before .before .before .before .before .before .if1 .left) (c .before .before .before .before .match .keys3) (omega (arith, c .before .before .before .before .before .before .operands-of .ensures ∙ ap operands (c .before .before .before .before .match .keys3))) (c .before .word2 .result) (c .before .word2 .ensures) (c .past3 .result) (c .past3 .ensures)) refl (omega (arith, c .before .before .before .before .before .before .operands-of .ensures ∙ ap operands (c .before .before .before .before .match .keys3))) (search needs)
 
 returns-6 : tie.Need-returns-6
 unfolding operands
-returns-6 c = (reading-here (c .before .before .before .before .before .before .before .before .before .before .args .script .now) (c .before .before .before .before .before .before .before .before .before .before .args .self) (c .before .before .before .before .before .before .before .before .if1 .left) (c .before .before .before .before .match .keys4) (omega (arith, c .before .before .before .before .before .before .operands-of .ensures ∙ ap operands (c .before .before .before .before .match .keys4))) (c .before .before .word3 .result) (c .before .word4 .result) (c .before .before .word3 .ensures) (c .before .word4 .ensures) (c .past4 .result) (c .past4 .ensures), fit-past (c .before .before .before .before .before .before .before .before .before .before .args .script .now) (c .before .before .before .before .before .before .before .before .before .before .args .self) (c .past4 .result) 10 0 0 (c .before .before .before .before .before .before .before .before .before .before .pre) (c .past4 .ensures) (omega arith) (omega (arith, c .before .before .before .before .before .before .operands-of .ensures ∙ ap operands (c .before .before .before .before .match .keys4))) (search needs) (omega arith))
+returns-6 c = passing (c .before .before .before .before .before .before .before .before .before .before .before .args .script .now) (c .before .before .before .before .before .before .before .before .before .before .before .args .self) (reading _ _ _) (c .past4 .result) (c .before .before .before .before .before .before .before .before .before .before .before .pre) (reading-here (c .before .before .before .before .before .before .before .before .before .before .before .args .script .now) (c .before .before .before .before .before .before .before .before .before .before .before .args .self) (c .before .before .before .before .before .before .before .before .if1 .left) (c .before .before .before .before .match .keys4) (omega (arith, c .before .before .before .before .before .before .operands-of .ensures ∙ ap operands (c .before .before .before .before .match .keys4))) (c .before .before .word3 .result) (c .before .word4 .result) (c .before .before .word3 .ensures) (c .before .word4 .ensures) (c .past4 .result) (c .past4 .ensures)) refl (omega (arith, c .before .before .before .before .before .before .operands-of .ensures ∙ ap operands (c .before .before .before .before .match .keys4))) (search needs)
 
 returns-7 : tie.Need-returns-7
 unfolding operands
-returns-7 c = (text-here (c .before .before .before .before .before .before .before .before .args .script .now) (c .before .before .before .before .before .before .before .before .args .self) (c .before .before .before .before .before .before .if1 .left) (c .before .before .match .keys5) (omega (arith, c .before .before .before .before .operands-of .ensures ∙ ap operands (c .before .before .match .keys5))) (c .before .word5 .result) (c .before .word5 .ensures) (c .past5 .result) (c .past5 .ensures), fit-past (c .before .before .before .before .before .before .before .before .args .script .now) (c .before .before .before .before .before .before .before .before .args .self) (c .past5 .result) 5 (c .before .word5 .result) 1 (c .before .before .before .before .before .before .before .before .pre) (c .past5 .ensures) (omega arith) (omega (arith, c .before .before .before .before .operands-of .ensures ∙ ap operands (c .before .before .match .keys5))) (search needs) (omega arith))
+returns-7 c = passing (c .before .before .before .before .before .before .before .before .before .args .script .now) (c .before .before .before .before .before .before .before .before .before .args .self) (text (c .before .word5 .result)) (c .past5 .result) (c .before .before .before .before .before .before .before .before .before .pre) (text-here (c .before .before .before .before .before .before .before .before .before .args .script .now) (c .before .before .before .before .before .before .before .before .before .args .self) (c .before .before .before .before .before .before .if1 .left) (c .before .before .match .keys5) (omega (arith, c .before .before .before .before .operands-of .ensures ∙ ap operands (c .before .before .match .keys5))) (c .before .word5 .result) (c .before .word5 .ensures) (c .past5 .result) (c .past5 .ensures)) refl (omega (arith, c .before .before .before .before .operands-of .ensures ∙ ap operands (c .before .before .match .keys5))) (search needs)
 
 returns-8 : tie.Need-returns-8
 unfolding operands
-returns-8 c = (other-here (c .before .before .before .before .before .before .before .args .script .now) (c .before .before .before .before .before .before .before .args .self) (c .before .before .before .before .before .if1 .left) (c .before .match .keys6) (c .past6 .result) (c .past6 .ensures), fit-past (c .before .before .before .before .before .before .before .args .script .now) (c .before .before .before .before .before .before .before .args .self) (c .past6 .result) 1 0 0 (c .before .before .before .before .before .before .before .pre) (c .past6 .ensures) (omega arith) (omega arith) (search needs) (omega arith))
+returns-8 c = passing (c .before .before .before .before .before .before .before .before .args .script .now) (c .before .before .before .before .before .before .before .before .args .self) other (c .past6 .result) (c .before .before .before .before .before .before .before .before .pre) (other-here (c .before .before .before .before .before .before .before .before .args .script .now) (c .before .before .before .before .before .before .before .before .args .self) (c .before .before .before .before .before .if1 .left) (c .before .match .keys6) (c .past6 .result) (c .past6 .ensures)) refl (omega arith) (search needs)
 
 returns-9 : tie.Need-returns-9
 unfolding operands
-returns-9 c = (close-here (c .before .before .before .before .before .before .before .args .script .now) (c .before .before .before .before .before .before .before .args .self) (c .before .before .before .before .before .if1 .left) (c .before .match .keys7) (c .past7 .result) (c .past7 .ensures), fit-past (c .before .before .before .before .before .before .before .args .script .now) (c .before .before .before .before .before .before .before .args .self) (c .past7 .result) 1 0 0 (c .before .before .before .before .before .before .before .pre) (c .past7 .ensures) (omega arith) (omega arith) (search needs) (omega arith))
+returns-9 c = passing (c .before .before .before .before .before .before .before .before .args .script .now) (c .before .before .before .before .before .before .before .before .args .self) closing (c .past7 .result) (c .before .before .before .before .before .before .before .before .pre) (close-here (c .before .before .before .before .before .before .before .before .args .script .now) (c .before .before .before .before .before .before .before .before .args .self) (c .before .before .before .before .before .if1 .left) (c .before .match .keys7) (c .past7 .result) (c .past7 .ensures)) refl (omega arith) (search needs)
 
 returns-10 : tie.Need-returns-10
-returns-10 c = (nothing (c .before .before .before .before .before .before .args .script .now) (c .before .before .before .before .before .before .args .self) (c .before .before .before .before .if1 .left) _ refl (omega (arith, c .before .before .operands-of .ensures)) (c .match .rest .0 .0 .0 .0 .0 .0 .1) (c .match .rest .0 .0 .0 .0 .0 .1) (c .match .rest .0 .0 .0 .0 .1) (c .match .rest .0 .0 .0 .1) (c .match .rest .0 .0 .1) (c .match .rest .0 .1) (c .match .rest .1), tt)
+returns-10 c = (nothing (c .before .before .before .before .before .before .before .args .script .now) (c .before .before .before .before .before .before .before .args .self) (c .before .before .before .before .if1 .left) _ refl (omega (arith, c .before .before .operands-of .ensures)) (c .match .rest .0 .0 .0 .0 .0 .0 .1) (c .match .rest .0 .0 .0 .0 .0 .1) (c .match .rest .0 .0 .0 .0 .1) (c .match .rest .0 .0 .0 .1) (c .match .rest .0 .0 .1) (c .match .rest .0 .1) (c .match .rest .1), tt)
 
 pub next-spec : {M : Type 1} → statement M
 next-spec =

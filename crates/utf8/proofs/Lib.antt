@@ -1,0 +1,4 @@
+pub mod Parts
+pub mod Sequence
+pub mod Ascii
+pub mod Blocks

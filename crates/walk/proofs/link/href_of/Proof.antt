@@ -1,0 +1,50 @@
+use Rattle.walk.proofs.Linking.{href-first, href-second}
+use borrow.Author.Needs.{needs}
+use Rattle.walk.proofs.link.href_of.Statement.{statement}
+use Rattle.walk.proofs.link.href_of.Tie as tie
+
+attribute-in-requires : tie.Need-attribute-in-requires
+attribute-in-requires c κs = search needs
+
+enum-told : tie.Need-enum-told
+enum-told c = search needs
+
+iri-of-requires : tie.Need-iri-of-requires
+iri-of-requires c κs = search needs
+
+enum-told-2 : tie.Need-enum-told-2
+enum-told-2 c = search needs
+
+attribute-in-requires-2 : tie.Need-attribute-in-requires-2
+attribute-in-requires-2 c κs = search needs
+
+iri-of-requires-2 : tie.Need-iri-of-requires-2
+iri-of-requires-2 c κs = search needs
+
+returns : tie.Need-returns
+returns c = (
+  href-first _ _ (c .before .before .before .before .before .before .args .inside) _ (c .iri-of .result) _ _
+      (c .before .before .before .attribute-in .ensures .0) _ (c .before .enum-told .given .1) (c .iri-of .ensures .0),
+  c .iri-of .ensures .1,
+)
+
+returns-2 : tie.Need-returns-2
+returns-2 c = (
+  href-second _ _ (c .before .before .before .before .before .before .before .args .inside) _ (c .iri-of2 .result) _ _
+      (c .before .before .before .before .attribute-in .ensures .0) _ (c .before .before .enum-told2 .given .1) (c .before .attribute-in2 .result)
+      (c .before .attribute-in2 .ensures .0) (c .iri-of2 .ensures .0),
+  c .iri-of2 .ensures .1,
+)
+
+pub href-of-spec : {M : Type 1} → statement M
+href-of-spec =
+    tie.close
+    (tie.spec
+    attribute-in-requires
+    enum-told
+    iri-of-requires
+    enum-told-2
+    attribute-in-requires-2
+    iri-of-requires-2
+    returns
+    returns-2)

@@ -1,0 +1,136 @@
+use native.Mathlib.Omega.{arith}
+use borrow.Author.Needs.{needs}
+use Prim.Native.Nat.{_-_}
+use lib.ListN.{length}
+use mathlib.Core.Path.{sym, _∙_}
+use Rattle.walk.proofs.Walks.{item-told}
+use Rattle.walk.specs.Values.{eventsAt}
+use Rattle.walk.specs.Nodes.{leave}
+use Rattle.walk.proofs.Along.{Along, along-none, at-item, over, leave-begin, leave-text, leave-other, leave-close, leave-out, leave-end}
+use Rattle.walk.proofs.node.past_element.Statement.{statement}
+use Rattle.walk.proofs.node.past_element.Tie as tie
+
+abbrev Inv-loop : tie.InvT-loop
+Inv-loop script characters c₀ level₀ c level = Along leave (leave 0 (eventsAt script characters c₀)) script characters c₀ c level
+
+abbrev μ-loop : tie.MeasureT-loop
+μ-loop script characters c₀ level₀ c level = length script - c .at
+
+loop-holds : tie.Need-loop-holds Inv-loop μ-loop
+loop-holds c = along-none _ _ _ _ _ (c .before .before .pre) (omega arith)
+
+next-item-requires : tie.Need-next-item-requires Inv-loop μ-loop
+next-item-requires c κs = c .loop .inv .fit
+
+enum-known-e : tie.Need-enum-known-e Inv-loop μ-loop
+enum-known-e c = search needs
+
+add-level : tie.Need-add-level Inv-loop μ-loop
+add-level c =
+    omega (
+      arith,
+      c .before .before .before .before .loop .inv .low,
+      c .before .before .before .before .loop .inv .fit .at,
+      c .before .before .before .before .loop .inv .fit .size,
+    )
+
+loop-less : tie.Need-loop-less Inv-loop μ-loop
+loop-less c =
+    let opened = item-told _ _ _ _ _ (c .before .before .e .given .1) (c .before .before .before .before .next-item .ensures) in
+    omega (arith, opened .1 .1 .further, opened .1 .1 .fit .at)
+
+loop-again : tie.Need-loop-again Inv-loop μ-loop
+loop-again c =
+    let opened = item-told _ _ _ _ _ (c .before .before .e .given .1) (c .before .before .before .before .next-item .ensures) in
+    over _ _ _ _ _ _ _ (c .before .before .before .before .before .loop .inv) _ _ (c .before .before .e .given .1)
+    (c .before .before .before .before .next-item .ensures) _ _ (opened .1 .1) (omega arith) (leave-begin _ _ _)
+
+enum-known-n : tie.Need-enum-known-n Inv-loop μ-loop
+enum-known-n c = search needs
+
+loop-less-2 : tie.Need-loop-less-2 Inv-loop μ-loop
+loop-less-2 c =
+    let text = item-told _ _ _ _ _ (c .before .n .given .1) (c .before .before .before .next-item .ensures) in
+    omega (arith, text .1 .1 .further, text .1 .1 .fit .at)
+
+loop-again-2 : tie.Need-loop-again-2 Inv-loop μ-loop
+loop-again-2 c =
+    let text = item-told _ _ _ _ _ (c .before .n .given .1) (c .before .before .before .next-item .ensures) in
+    over _ _ _ _ _ _ _ (c .before .before .before .before .loop .inv) _ _ (c .before .n .given .1)
+    (c .before .before .before .next-item .ensures) _ _ (text .1 .1) (omega arith) (leave-text _ _ _)
+
+enum-known-n-2 : tie.Need-enum-known-n-2 Inv-loop μ-loop
+enum-known-n-2 c = search needs
+
+loop-less-3 : tie.Need-loop-less-3 Inv-loop μ-loop
+loop-less-3 c =
+    let other = item-told _ _ _ _ _ (c .before .n2 .given .1) (c .before .before .before .next-item .ensures) in
+    omega (arith, other .1 .further, other .1 .fit .at)
+
+loop-again-3 : tie.Need-loop-again-3 Inv-loop μ-loop
+loop-again-3 c =
+    let other = item-told _ _ _ _ _ (c .before .n2 .given .1) (c .before .before .before .next-item .ensures) in
+    over _ _ _ _ _ _ _ (c .before .before .before .before .loop .inv) _ _ (c .before .n2 .given .1)
+    (c .before .before .before .next-item .ensures) _ _ (other .1) (omega arith) (leave-other _ _)
+
+enum-known-n-3 : tie.Need-enum-known-n-3 Inv-loop μ-loop
+enum-known-n-3 c = search needs
+
+returns : tie.Need-returns Inv-loop μ-loop
+returns c =
+    let closed = item-told _ _ _ _ _ (c .before .before .n3 .given .1) (c .before .before .before .before .next-item .ensures) in (
+      sym (leave-out _ _ (c .if1 .taken)) ∙ at-item _ _ _ _ _ _ _ (c .before .before .before .before .before .loop .inv) _ _
+          (c .before .before .n3 .given .1) (c .before .before .before .before .next-item .ensures),
+      (closed .1 .fit, omega (arith, c .before .before .before .before .before .loop .inv .later, closed .1 .further)),
+    )
+
+sub-level : tie.Need-sub-level Inv-loop μ-loop
+sub-level c = search needs
+
+loop-less-4 : tie.Need-loop-less-4 Inv-loop μ-loop
+loop-less-4 c =
+    let closed = item-told _ _ _ _ _ (c .before .before .n3 .given .1) (c .before .before .before .before .next-item .ensures) in
+    omega (arith, closed .1 .further, closed .1 .fit .at)
+
+loop-again-4 : tie.Need-loop-again-4 Inv-loop μ-loop
+loop-again-4 c =
+    let closed = item-told _ _ _ _ _ (c .before .before .n3 .given .1) (c .before .before .before .before .next-item .ensures) in
+    over _ _ _ _ _ _ _ (c .before .before .before .before .before .loop .inv) _ _ (c .before .before .n3 .given .1)
+    (c .before .before .before .before .next-item .ensures) _ _ (closed .1) (omega arith) (leave-close _ _ (c .if1 .left))
+
+enum-told : tie.Need-enum-told Inv-loop μ-loop
+enum-told c = search needs
+
+returns-2 : tie.Need-returns-2 Inv-loop μ-loop
+returns-2 c =
+    let end = item-told _ _ _ _ _ (c .enum-told .given .1) (c .before .before .next-item .ensures) in (
+      sym (end .0) ∙ sym (leave-end _) ∙ at-item _ _ _ _ _ _ _ (c .before .before .before .loop .inv) _ _ (c .enum-told .given .1)
+          (c .before .before .next-item .ensures),
+      (c .before .before .before .loop .inv .fit, c .before .before .before .loop .inv .later),
+    )
+
+pub past-element-spec : {M : Type 1} → statement M
+past-element-spec =
+    tie.close
+    (tie.spec
+    Inv-loop
+    μ-loop
+    loop-holds
+    next-item-requires
+    enum-known-e
+    add-level
+    loop-less
+    loop-again
+    enum-known-n
+    loop-less-2
+    loop-again-2
+    enum-known-n-2
+    loop-less-3
+    loop-again-3
+    enum-known-n-3
+    returns
+    sub-level
+    loop-less-4
+    loop-again-4
+    enum-told
+    returns-2)

@@ -1,0 +1,4 @@
+pub mod Values
+pub mod Nodes
+pub mod Links
+pub mod Seeks
