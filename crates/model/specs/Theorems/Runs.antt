@@ -19,7 +19,7 @@ use Rattle.model.specs.Element.{inheritedFrom, copyFrom, defaultOf, reso
 use Rattle.model.specs.Element.{insertEntry, insertPart, writeDeclaration}
 use Rattle.model.specs.Theorems.Agree.{sets-in, sets-out}
 use Rattle.model.specs.Theorems.Entries.{holder-falls, entry-word, entry-by-words, entries-long}
-use Rattle.model.specs.Theorems.Kept.{Kept, attribute-within}
+use Rattle.model.specs.Theorems.Kept.{find-within}
 
 -- The tree of an attribute table alone.
 abbrev pub tableOf : List ℕ → Tree
@@ -55,7 +55,7 @@ own-sets (w ∷ ws) ats p f =
     ap (λ l. sets l (suc p) ws) e
     ∙ own-sets ws ats (suc p) (λ k l. f (suc k) (omega arith) ∙ (let y : p + suc k ≡ suc p + k = omega arith in ap (λ q. getD ats q 0) y))
 
-own-words : (ats : List ℕ) (n : ℕ) → sets ats (5 * n) (entryWords (entryAt (tableOf ats) n)) ≡ ats
+pub own-words : (ats : List ℕ) (n : ℕ) → sets ats (5 * n) (entryWords (entryAt (tableOf ats) n)) ≡ ats
 own-words ats n = own-sets (entryWords (entryAt (tableOf ats) n)) ats (5 * n) (λ k l. entry-word (tableOf ats) n k l)
 
 pub run-own : (ats : List ℕ) (n k : ℕ) → withRun ats n (entriesFrom ats n k) ≡ ats
@@ -227,107 +227,114 @@ run-over ats n es more l h =
         ∙ sets-out (entriesWords es) ats (5 * n) q (λ x y. omega (arith, entries-long es, entries-long more))
         ∙ sym (sets-out (entriesWords more) ats (5 * n) q (λ x y. omega arith))
 
--- ENTRIES BEHIND THE COUNT LEAVE WHAT IS READ OF THE TREE ALONE
+-- WHAT INHERIT READS
 
-module _ (size : ℕ) (t : Tree) (g : Kept size t) (es : List Entry) where
-  -- The tree with these entries behind those that are taken.
-  abbrev pub behind : Tree
-  behind = record {
-    nodes = t .nodes;
-    attributes = withRun (t .attributes) (t .attributeCount) es;
-    text = t .text;
-    nodeCount = t .nodeCount;
-    attributeCount = t .attributeCount;
-    textCount = t .textCount;
-  }
+-- The tree t, and the same nodes with an attribute table that agrees with t's in the first n entries. Node p and those above it have
+-- their ranges in there. What an element below p inherits is then the same, whatever stands behind, and whatever the counts are.
+module _ (t : Tree) (ats bs : List ℕ) (x y z p n : ℕ) (agree : (q : ℕ) → q < 5 * n → getD ats q 0 ≡ getD (t .attributes) q 0)
+    (falls : (i : ℕ) → i ≤ p → parentOf t i ≤ i)
+    (range : (i : ℕ) → i ≤ p → kindOf t i ≡ ELEMENT → (fromOf t i ≤ toOf t i) × (toOf t i ≤ n)) where
+  abbrev pub seen : Tree
+  seen = record { nodes = t .nodes; attributes = ats; text = bs; nodeCount = x; attributeCount = y; textCount = z }
 
-  word-alone : (j k : ℕ) → j < t .attributeCount → k < 5 → entryWord behind j k ≡ entryWord t j k
-  word-alone j k l b = run-outside (t .attributes) (t .attributeCount) es (5 * j + k) (λ x y. omega arith)
+  word-same : (j k : ℕ) → j < n → k < 5 → entryWord seen j k ≡ entryWord t j k
+  word-same j k l b = agree (5 * j + k) (omega arith)
 
-  entry-alone : (j : ℕ) → j < t .attributeCount → entryAt behind j ≡ entryAt t j
-  entry-alone j l = entry-by-words behind t j (λ k b. word-alone j k l b)
+  entry-same : (j : ℕ) → j < n → entryAt seen j ≡ entryAt t j
+  entry-same j l = entry-by-words seen t j (λ k b. word-same j k l b)
 
-  find-alone : (a j m : ℕ) → j + m ≤ t .attributeCount → findEntry behind a j m ≡ findEntry t a j m
+  find-same : (a j m : ℕ) → j + m ≤ n → findEntry seen a j m ≡ findEntry t a j m
   unfolding findEntry
-  find-alone a j zero l = refl
-  find-alone a j (suc m) l = rw (word-alone j 0 (omega arith) (omega arith), find-alone a (j + 1) m (omega arith)) refl
+  find-same a j zero l = refl
+  find-same a j (suc m) l = rw (word-same j 0 (omega arith) (omega arith), find-same a (j + 1) m (omega arith)) refl
 
-  pub id-alone : (i a : ℕ) → i < t .nodeCount → attributeId behind i a ≡ attributeId t i a
+  id-same : (i a : ℕ) → i ≤ p → attributeId seen i a ≡ attributeId t i a
   unfolding attributeId
-  id-alone i a l = go (ℕ-discrete (kindOf t i) ELEMENT)
+  id-same i a l = go (ℕ-discrete (kindOf t i) ELEMENT)
     where
-      go : Dec (kindOf t i ≡ ELEMENT) → pick (eqb (kindOf t i) ELEMENT) (λ u. findEntry behind a (fromOf t i) (toOf t i - fromOf t i))
+      go : Dec (kindOf t i ≡ ELEMENT) → pick (eqb (kindOf t i) ELEMENT) (λ u. findEntry seen a (fromOf t i) (toOf t i - fromOf t i))
           (λ u. 0)
           ≡ pick (eqb (kindOf t i) ELEMENT) (λ u. findEntry t a (fromOf t i) (toOf t i - fromOf t i)) (λ u. 0)
-      go (yes e) = let r = g .nodes i l .range e in
-          rw (eq-eqb (kindOf t i) ELEMENT e) (find-alone a (fromOf t i) (toOf t i - fromOf t i) (omega (arith, r .0, r .1)))
+      go (yes e) = let r = range i l e in
+          rw (eq-eqb (kindOf t i) ELEMENT e) (find-same a (fromOf t i) (toOf t i - fromOf t i) (omega (arith, r .0, r .1)))
       go (no e) = rw (ne-eqb (kindOf t i) ELEMENT e) refl
 
-  holder-alone : (a n w : ℕ) → w ≤ t .nodeCount → holderFrom behind a n w ≡ holderFrom t a n w
-  unfolding holderFrom
-  holder-alone a zero w l = refl
-  holder-alone a (suc n) w l = go (ℕ-discrete w 0) (λ m. holder-alone a n (parentOf t (w - 1)) m)
+  -- An attribute that is there lies among the first n entries.
+  id-within : (i a : ℕ) → i ≤ p → (attributeId t i a ≡ 0 → ⊥) → attributeId t i a ≤ n
+  unfolding attributeId
+  id-within i a l h = go (ℕ-discrete (kindOf t i) ELEMENT)
     where
-      go : Dec (w ≡ 0) → (parentOf t (w - 1) ≤ t .nodeCount →
-          holderFrom behind a n (parentOf t (w - 1)) ≡ holderFrom t a n (parentOf t (w - 1))) →
-          holderFrom behind a (suc n) w ≡ holderFrom t a (suc n) w
+      go : Dec (kindOf t i ≡ ELEMENT) → attributeId t i a ≤ n
+      go (no e) = absurd (h (rw (ne-eqb (kindOf t i) ELEMENT e) refl))
+      go (yes e) =
+          let r = range i l e in
+          let q : attributeId t i a ≡ findEntry t a (fromOf t i) (toOf t i - fromOf t i) = rw (eq-eqb (kindOf t i) ELEMENT e) refl in
+          let f = find-within t a (fromOf t i) (toOf t i - fromOf t i) (λ m. h (q ∙ m)) in
+          omega (arith, q, f .1, r .0, r .1)
+
+  holder-same : (a m w : ℕ) → w ≤ p + 1 → holderFrom seen a m w ≡ holderFrom t a m w
+  unfolding holderFrom
+  holder-same a zero w l = refl
+  holder-same a (suc m) w l = go (ℕ-discrete w 0) (λ b. holder-same a m (parentOf t (w - 1)) b)
+    where
+      go : Dec (w ≡ 0) → (parentOf t (w - 1) ≤ p + 1 → holderFrom seen a m (parentOf t (w - 1)) ≡ holderFrom t a m (parentOf t (w - 1))) →
+          holderFrom seen a (suc m) w ≡ holderFrom t a (suc m) w
       go (yes e) r = rw (eq-eqb w 0 e) refl
       go (no e) r =
-          let f = g .nodes (w - 1) (omega arith) .falls in
-          rw (ne-eqb w 0 e, id-alone (w - 1) a (omega arith), r (omega (arith, f))) refl
+          let f = falls (w - 1) (omega arith) in
+          rw (ne-eqb w 0 e, id-same (w - 1) a (omega arith), r (omega (arith, f))) refl
 
-  module _ (p : ℕ) (l : p < t .nodeCount) where
-    from-alone : (a : ℕ) → inheritedFrom behind p a ≡ inheritedFrom t p a
-    unfolding inheritedFrom
-    from-alone a = rw (holder-alone a (p + 1) (p + 1) (omega arith)) refl
+  from-same : (a : ℕ) → inheritedFrom seen p a ≡ inheritedFrom t p a
+  unfolding inheritedFrom
+  from-same a = rw (holder-same a (p + 1) (p + 1) (omega arith)) refl
 
-    from-low : (a : ℕ) → inheritedFrom t p a ≤ p + 1
-    unfolding inheritedFrom
-    from-low a = go (isInheritable a)
-      where
-        go : (b : Bool) → pick b (λ u. holderFrom t a (p + 1) (p + 1)) (λ u. p + 1) ≤ p + 1
-        go true = holder-falls t a (p + 1) (p + 1) (λ i m. g .nodes i (omega arith) .falls)
-        go false = omega arith
+  from-low : (a : ℕ) → inheritedFrom t p a ≤ p + 1
+  unfolding inheritedFrom
+  from-low a = go (isInheritable a)
+    where
+      go : (b : Bool) → pick b (λ u. holderFrom t a (p + 1) (p + 1)) (λ u. p + 1) ≤ p + 1
+      go true = holder-falls t a (p + 1) (p + 1) (λ i m. falls i (omega arith))
+      go false = omega arith
 
-    copy-alone : (a w : ℕ) → w ≤ t .nodeCount → copyFrom behind p a w ≡ copyFrom t p a w
-    copy-alone a w m = go (ℕ-discrete w 0)
-      where
-        entryIf : Tree → ℕ → Option Entry
-        entryIf u j = pick (eqb j 0) (λ x. none) (λ x. some (entryAt u (j - 1)))
+  copy-same : (a w : ℕ) → w ≤ p + 1 → copyFrom seen p a w ≡ copyFrom t p a w
+  copy-same a w m = go (ℕ-discrete w 0)
+    where
+      entryIf : Tree → ℕ → Option Entry
+      entryIf u j = pick (eqb j 0) (λ v. none) (λ v. some (entryAt u (j - 1)))
 
-        held : (j : ℕ) → attributeId t (w - 1) a ≡ j → w - 1 < t .nodeCount → Dec (j ≡ 0) → entryIf behind j ≡ entryIf t j
-        held j e b (yes z) = rw (eq-eqb j 0 z) refl
-        held j e b (no z) =
-            let k = attribute-within size t g (w - 1) a b (λ q. z (sym e ∙ q)) in
-            ap (λ (x : Entry). pick (eqb j 0) (λ y. none) (λ y. some x)) (entry-alone (j - 1) (omega (arith, e, k)))
+      held : (j : ℕ) → attributeId t (w - 1) a ≡ j → w - 1 ≤ p → Dec (j ≡ 0) → entryIf seen j ≡ entryIf t j
+      held j e b (yes o) = rw (eq-eqb j 0 o) refl
+      held j e b (no o) =
+          let k = id-within (w - 1) a b (λ q. o (sym e ∙ q)) in
+          ap (λ (v : Entry). pick (eqb j 0) (λ u. none) (λ u. some v)) (entry-same (j - 1) (omega (arith, e, k)))
 
-        go : Dec (w ≡ 0) → copyFrom behind p a w ≡ copyFrom t p a w
-        go (yes e) = rw (eq-eqb w 0 e) refl
-        go (no e) =
-            let b : w - 1 < t .nodeCount = omega arith in
-            rw (ne-eqb w 0 e, id-alone (w - 1) a b) (held (attributeId t (w - 1) a) refl b (ℕ-discrete (attributeId t (w - 1) a) 0))
+      go : Dec (w ≡ 0) → copyFrom seen p a w ≡ copyFrom t p a w
+      go (yes e) = rw (eq-eqb w 0 e) refl
+      go (no e) =
+          let b : w - 1 ≤ p = omega arith in
+          rw (ne-eqb w 0 e, id-same (w - 1) a b) (held (attributeId t (w - 1) a) refl b (ℕ-discrete (attributeId t (w - 1) a) 0))
 
-    resolve-alone : (a : ℕ) → resolveInherit behind p a ≡ resolveInherit t p a
-    unfolding resolveInherit
-    resolve-alone a =
-        ap (λ (o : Option Entry). given o (λ e. some e) (λ u. defaultOf t p a (inheritDefault a)))
-        (ap (λ w. copyFrom behind p a w) (from-alone a) ∙ copy-alone a (inheritedFrom t p a) (omega (arith, from-low a)))
+  resolve-same : (a : ℕ) → resolveInherit seen p a ≡ resolveInherit t p a
+  unfolding resolveInherit
+  resolve-same a =
+      ap (λ (o : Option Entry). given o (λ e. some e) (λ u. defaultOf t p a (inheritDefault a)))
+      (ap (λ w. copyFrom seen p a w) (from-same a) ∙ copy-same a (inheritedFrom t p a) (from-low a))
 
-    append-alone : appendAttribute behind p ≡ appendAttribute t p
-    unfolding appendAttribute
-    append-alone = fun-ext (λ tag. fun-ext (λ a. fun-ext (λ i. fun-ext (λ v. fun-ext (λ c. rw (resolve-alone a) refl)))))
+  append-same : appendAttribute seen p ≡ appendAttribute t p
+  unfolding appendAttribute
+  append-same = fun-ext (λ tag. fun-ext (λ a. fun-ext (λ i. fun-ext (λ v. fun-ext (λ c. rw (resolve-same a) refl)))))
 
-    pub add-alone : (tag : ℕ) (ignore : Bool) (done : List Entry) (x : Attribute) →
-        addAttribute behind p tag ignore done x ≡ addAttribute t p tag ignore done x
-    unfolding addAttribute
-    add-alone tag ignore done x = rw append-alone refl
+  part-same : (tag : ℕ) (d : Declaration) → insertPart seen p tag d ≡ insertPart t p tag d
+  part-same tag d = λ i. λ es k.
+      given (readingOf (k .key) (d .value .readings))
+      (λ v. insertEntry (k .value) es (append-same i tag (k .value) (d .important) v (d .value .command))) (λ u. es)
 
-    part-alone : (tag : ℕ) (d : Declaration) → insertPart behind p tag d ≡ insertPart t p tag d
-    part-alone tag d = λ x. λ done k.
-        given (readingOf (k .key) (d .value .readings))
-        (λ v. insertEntry (k .value) done (append-alone x tag (k .value) (d .important) v (d .value .command))) (λ u. done)
+  -- The entries that an attribute or a declaration makes.
+  pub add-same : (tag : ℕ) (ignore : Bool) (es : List Entry) (a : Attribute) →
+      addAttribute seen p tag ignore es a ≡ addAttribute t p tag ignore es a
+  unfolding addAttribute
+  add-same tag ignore es a = rw append-same refl
 
-    pub write-alone : (tag : ℕ) (d : Declaration) (done : List Entry) →
-        writeDeclaration behind p tag d done ≡ writeDeclaration t p tag d done
-    unfolding writeDeclaration
-    write-alone tag d done = rw (append-alone, part-alone tag d) refl
+  pub write-same : (tag : ℕ) (d : Declaration) (es : List Entry) → writeDeclaration seen p tag d es ≡ writeDeclaration t p tag d es
+  unfolding writeDeclaration
+  write-same tag d es = rw (append-same, part-same tag d) refl
