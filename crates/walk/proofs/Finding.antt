@@ -73,17 +73,27 @@ module _ (s chars : List ℕ) (p a : ℕ) (from c : Cursor) (w : Looking s chars
     unfolding attributeIn
     looked = ap (attributeIn p a) (attribute-told s chars c r (next.At b q v) t i .0) ∙ w .same
 
-    pub named : q ≡ p → b ≡ a → (valueIn s chars (found.At v) ≡ attributeIn p a (attributesIn s chars from)) × ValueFit s chars from (found.At v)
+    pub named : q ≡ p → b ≡ a → (valueIn s chars (found.At v) ≡ attributeIn p a (attributesIn s chars from)) × ValueFit s chars from
+        (found.At v)
     named e f = (
       sym (rw (eq-eqb q p e, eq-eqb b a f)) ∙ looked,
-      record { own = fitting .own; rest = rest-on s chars from c (v .behind) (w .rest) (fitting .rest); further = omega (arith, w .rest .nodes .later, fitting .further) },
+      record {
+        own = fitting .own;
+        rest = rest-on s chars from c (v .behind) (w .rest) (fitting .rest);
+        further = omega
+            (arith, w .rest .nodes .later, fitting .further);
+      },
     )
 
     pub other-space : (q ≡ p → ⊥) → Looking s chars p a from (v .behind)
     other-space e = record { rest = rest-on s chars from c (v .behind) (w .rest) (fitting .rest); same = sym (rw (ne-eqb q p e)) ∙ looked }
 
     pub other-name : q ≡ p → (b ≡ a → ⊥) → Looking s chars p a from (v .behind)
-    other-name f e = record { rest = rest-on s chars from c (v .behind) (w .rest) (fitting .rest); same = sym (rw (eq-eqb q p f, ne-eqb b a e)) ∙ looked }
+    other-name f e = record {
+      rest = rest-on s chars from c (v .behind) (w .rest) (fitting .rest);
+      same = sym
+          (rw (eq-eqb q p f, ne-eqb b a e)) ∙ looked;
+    }
 
   pub unnamed : (n : Cursor) → r ≡ next.End n → AttributeIs s chars c r
       → (valueIn s chars (found.Nothing n) ≡ attributeIn p a (attributesIn s chars from)) × ValueFit s chars from (found.Nothing n)
@@ -140,7 +150,8 @@ module _ (s chars : List ℕ) (a k : ℕ) (from c : Cursor) (r : NextReading) wh
   unfolding readingOf
   of-no-kind t i w = ap (readingOf k) (reading-told s chars c a r read.End t i .0) ∙ w .same
 
-  pub any-none : (id : List ℕ) → r ≡ read.End → ReadingIs s chars c a r → Reading (λ s a c. anyReading k id (readingsIn s chars a c)) s a from c
+  pub any-none : (id : List ℕ) → r ≡ read.End → ReadingIs s chars c a r
+      → Reading (λ s a c. anyReading k id (readingsIn s chars a c)) s a from c
       → false ≡ anyReading k id (readingsIn s chars a from)
   unfolding anyReading
   any-none id t i w = ap (anyReading k id) (reading-told s chars c a r read.End t i .0) ∙ w .same

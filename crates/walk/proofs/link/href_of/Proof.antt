@@ -31,7 +31,8 @@ returns c = (
 returns-2 : tie.Need-returns-2
 returns-2 c = (
   href-second _ _ (c .before .before .before .before .before .before .before .args .inside) _ (c .iri-of2 .result) _ _
-      (c .before .before .before .before .attribute-in .ensures .0) _ (c .before .before .enum-told2 .given .1) (c .before .attribute-in2 .result)
+      (c .before .before .before .before .attribute-in .ensures .0) _ (c .before .before .enum-told2 .given .1)
+      (c .before .attribute-in2 .result)
       (c .before .attribute-in2 .ensures .0) (c .iri-of2 .ensures .0),
   c .iri-of2 .ensures .1,
 )

@@ -47,7 +47,8 @@ returns c =
     back-first _ _ _ _ _ _ _ _ (c .before .before .before .before .before .before .before .loop .inv) _ _ _
     (c .before .before .before .before .u .given .1) (c .before .before .before .before .before .before .next-use .ensures) _
     (c .before .before .use-href .ensures .0) _ (c .before .same-parts .ensures) (c .if1 .taken)
-    ∙ (let at = c .before .before .before .before .before .before .before .before .before .before .before .before in led-back (at .args .script .now) (at .args .characters .now) (at .args .e) (at .args .l) (at .args .link)
+    ∙ (let at = c .before .before .before .before .before .before .before .before .before .before .before .before in led-back
+    (at .args .script .now) (at .args .characters .now) (at .args .e) (at .args .l) (at .args .link)
     (c .before .before .before .before .before .before .before .before .before .leading-id .result)
     (record { use-stands = at .pre .0; leads = at .pre .1 .1 .1; by = c .before .before .before .before .before .before .before .before .before .leading-id .ensures .0 }) _)
 
@@ -88,7 +89,9 @@ enum-told c = search needs
 returns-3 : tie.Need-returns-3 Inv-loop μ-loop
 returns-3 c =
     back-end _ _ _ _ _ _ _ _ (c .before .before .before .loop .inv) _ (c .enum-told .given .1)
-    (c .before .before .next-use .ensures) ∙ (let at = c .before .before .before .before .before .before .before .before in led-back (at .args .script .now) (at .args .characters .now) (at .args .e) (at .args .l) (at .args .link)
+    (c .before .before .next-use .ensures)
+    ∙ (let at = c .before .before .before .before .before .before .before .before in led-back (at .args .script .now)
+    (at .args .characters .now) (at .args .e) (at .args .l) (at .args .link)
     (c .before .before .before .before .before .leading-id .result)
     (record { use-stands = at .pre .0; leads = at .pre .1 .1 .1; by = c .before .before .before .before .before .leading-id .ensures .0 }) _)
 
