@@ -45,15 +45,13 @@ fit-chars s c f = omega (arith, f .chars, f .at, f .size)
 
 -- ATTRIBUTES BY NAME
 
-rest-on : (s chars : List ℕ) (a b c : Cursor) → SameRest s chars a b → SameRest s chars b c → SameRest s chars a c
-rest-on s chars a b c r q = record {
-  nodes = record {
-    fit = q .nodes .fit;
-    later = omega (arith, r .nodes .later, q .nodes .later);
-    events = q .nodes .events ∙ r .nodes .events;
-  };
-  declarations = q .declarations ∙ r .declarations;
-}
+-- From one cursor to a later one, and from there to a still later one.
+pub nodes-on : (s chars : List ℕ) (a b c : Cursor) → SameNodes s chars a b → SameNodes s chars b c → SameNodes s chars a c
+nodes-on s chars a b c r q = record { fit = q .fit; later = omega (arith, r .later, q .later); events = q .events ∙ r .events }
+
+pub rest-on : (s chars : List ℕ) (a b c : Cursor) → SameRest s chars a b → SameRest s chars b c → SameRest s chars a c
+rest-on s chars a b c r q =
+    record { nodes = nodes-on s chars a b c (r .nodes) (q .nodes); declarations = q .declarations ∙ r .declarations }
 
 -- From `from` to c there is no attribute a of the namespace p.
 pub record Looking (s chars : List ℕ) (p a : ℕ) (from c : Cursor) : Type 0 where
@@ -61,7 +59,8 @@ pub record Looking (s chars : List ℕ) (p a : ℕ) (from c : Cursor) : Type 0 w
   pub same : attributeIn p a (attributesIn s chars c) ≡ attributeIn p a (attributesIn s chars from)
 
 pub looking : (s chars : List ℕ) (p a : ℕ) (c : Cursor) → Fit s c → Looking s chars p a c c
-looking s chars p a c f = record { rest = record { nodes = record { fit = f; later = omega arith; events = refl }; declarations = refl }; same = refl }
+looking s chars p a c f =
+    record { rest = record { nodes = record { fit = f; later = omega arith; events = refl }; declarations = refl }; same = refl }
 
 module _ (s chars : List ℕ) (p a : ℕ) (from c : Cursor) (w : Looking s chars p a from c) (r : NextValue) where
   module _ (b q : ℕ) (v : ValueAt) (t : r ≡ next.At b q v) (i : AttributeIs s chars c r) where

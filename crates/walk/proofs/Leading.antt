@@ -167,7 +167,8 @@ node-here s chars e w = stepped (eventsFrom chars) (w .here)
 
 module _ (s chars id : List ℕ) where
   same-on : (d : Cursor) (x : Command) (m : Cursor) → Here s d x m
-      → firstWithId id (eventsFrom chars (markOf d) (x ∷ commandsAt s m)) ≡ firstWithId id (eventsFrom chars (past (markOf d) x) (commandsAt s m))
+      → firstWithId id (eventsFrom chars (markOf d) (x ∷ commandsAt s m))
+      ≡ firstWithId id (eventsFrom chars (past (markOf d) x) (commandsAt s m))
       → firstWithId id (eventsAt s chars d) ≡ firstWithId id (eventsAt s chars m)
   same-on d x m h e =
       sym (stepped (λ k cs. firstWithId id (eventsFrom chars k cs)) h (λ k. firstWithId id (eventsFrom chars k (commandsAt s m))) e)

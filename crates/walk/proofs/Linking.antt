@@ -27,7 +27,7 @@ use Rattle.walk.specs.declared.value.FoundPart.{FoundPart}
 use Rattle.walk.specs.declared.value.FoundPart.the-variants as part
 use Rattle.walk.specs.declared.link.FoundElement.{FoundElement}
 use Rattle.walk.specs.declared.link.FoundElement.the-variants as node
-use Rattle.walk.specs.Values.{attributesIn, readingsIn, eventsAt, valueIn, ValueFit, Attributed, partOf, PartFit}
+use Rattle.walk.specs.Values.{attributesIn, readingsIn, eventsAt, valueIn, ValueFit, Readable, Attributed, partOf, PartFit}
 use Rattle.walk.specs.Nodes.{elementOf, nodeAt, Standing, usesOf, UseFit}
 use Rattle.walk.specs.Links.{nodeOf, NodeFit, textsOf, sameParts, leadingId}
 use Rattle.walk.proofs.Along.{Along}
@@ -37,10 +37,18 @@ use Rattle.walk.proofs.Leading.{leads-to-own, leads-to-linked}
 
 -- LINKS
 
-module _ (s chars : List ℕ) (from : Cursor) (r : FoundValue) where
-  pub value-fit : (v : ValueAt) → r ≡ found.At v → ValueFit s chars from r → Attributed s chars from v
-  value-fit v t f = subst (ValueFit s chars from) t f
+pub value-fit : (s chars : List ℕ) (from : Cursor) (r : FoundValue) (v : ValueAt) → r ≡ found.At v → ValueFit s chars from r
+    → Attributed s chars from v
+value-fit s chars from r v t f = subst (ValueFit s chars from) t f
 
+pub readable : (s chars : List ℕ) (from : Cursor) (r : FoundValue) → ValueFit s chars from r → Readable s r
+readable s chars from (found.At v) f = (f .own, f .rest .nodes .fit)
+readable s chars from (found.Nothing c) f = tt
+
+pub read-fit : (s : List ℕ) (r : FoundValue) (v : ValueAt) → r ≡ found.At v → Readable s r → Fit s (v .own) × Fit s (v .behind)
+read-fit s r v t f = subst (Readable s) t f
+
+module _ (s chars : List ℕ) (r : FoundValue) where
   pub iri-value : (v : ValueAt) → r ≡ found.At v → (p : FoundPart)
       → partOf chars p ≡ readingOf 1 (readingsIn s chars (v .own .chars) (v .behind))
       → partOf chars p ≡ iriOf (valueIn s chars r)

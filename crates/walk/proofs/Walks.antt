@@ -1,7 +1,7 @@
 -- The nodes, attributes and declarations at a cursor, by the step there. Assumes nothing.
 use mathlib.Core.Path.{_≡_, refl, sym, ap, _∙_, subst}
 use mathlib.Core.List.{List, [], _∷_}
-use Prim.Native.Nat.{ℕ, _+_, _<_, _≤_}
+use Prim.Native.Nat.{ℕ, _+_, _^_, _<_, _≤_}
 use native.Mathlib.Omega.{arith}
 use Rattle.model.specs.Drawing as model
 use Rattle.model.specs.Drawing.{Command, opening, attribute, declaration, reading, closing, Mark, past, Event, begin, close, eventsFrom}
@@ -124,7 +124,8 @@ pub record Rest : Type 0 where
   pub events : List Event
 
 unfoldable pub restFrom : List ℕ → Mark → List Command → Rest
-restFrom chars m cs = record { attributes = attributesAt chars m cs; declarations = declarationsAt chars m cs; events = eventsFrom chars m cs }
+restFrom chars m cs =
+    record { attributes = attributesAt chars m cs; declarations = declarationsAt chars m cs; events = eventsFrom chars m cs }
 
 pub same-rest : (s chars : List ℕ) (from c : Cursor) → Reach (restFrom chars) s from c → SameRest s chars from c
 unfolding restFrom
@@ -285,7 +286,7 @@ ReadAt s chars c a step.End = ReadingIs s chars c a read.End
 
 -- The offset of a reading is small.
 abbrev pub Offset : Step → Type 0
-Offset (step.Reading k o l n) = o < 4294967296
+Offset (step.Reading k o l n) = o < 2 ^ 32
 Offset (step.Open x y n) = Unit {0}
 Offset (step.Attribute x y l n) = Unit {0}
 Offset (step.Declaration x y l n) = Unit {0}
