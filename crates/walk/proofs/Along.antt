@@ -42,7 +42,8 @@ module _ {A : Type 0} (g : ℕ → List Event → A) (v : A) (s chars : List ℕ
     at-item = ap (g k) (item-told s chars c r x t i .0) ∙ w .same
 
     -- The walk goes on behind an item.
-    pub over : (n : Cursor) (k′ : ℕ) → Further s c n → k′ ≤ k + 1 → g k (eventsOf s chars x) ≡ g k′ (eventsAt s chars n) → Along g v s chars from n k′
+    pub over : (n : Cursor) (k′ : ℕ) → Further s c n → k′ ≤ k + 1 → g k (eventsOf s chars x) ≡ g k′ (eventsAt s chars n)
+        → Along g v s chars from n k′
     over n k′ f h e = record {
       fit = f .fit;
       later = omega (arith, w .later, f .further);

@@ -45,15 +45,13 @@ fit-chars s c f = omega (arith, f .chars, f .at, f .size)
 
 -- ATTRIBUTES BY NAME
 
-rest-on : (s chars : List ℕ) (a b c : Cursor) → SameRest s chars a b → SameRest s chars b c → SameRest s chars a c
-rest-on s chars a b c r q = record {
-  nodes = record {
-    fit = q .nodes .fit;
-    later = omega (arith, r .nodes .later, q .nodes .later);
-    events = q .nodes .events ∙ r .nodes .events;
-  };
-  declarations = q .declarations ∙ r .declarations;
-}
+-- From one cursor to a later one, and from there to a still later one.
+pub nodes-on : (s chars : List ℕ) (a b c : Cursor) → SameNodes s chars a b → SameNodes s chars b c → SameNodes s chars a c
+nodes-on s chars a b c r q = record { fit = q .fit; later = omega (arith, r .later, q .later); events = q .events ∙ r .events }
+
+pub rest-on : (s chars : List ℕ) (a b c : Cursor) → SameRest s chars a b → SameRest s chars b c → SameRest s chars a c
+rest-on s chars a b c r q =
+    record { nodes = nodes-on s chars a b c (r .nodes) (q .nodes); declarations = q .declarations ∙ r .declarations }
 
 -- From `from` to c there is no attribute a of the namespace p.
 pub record Looking (s chars : List ℕ) (p a : ℕ) (from c : Cursor) : Type 0 where
@@ -61,7 +59,8 @@ pub record Looking (s chars : List ℕ) (p a : ℕ) (from c : Cursor) : Type 0 w
   pub same : attributeIn p a (attributesIn s chars c) ≡ attributeIn p a (attributesIn s chars from)
 
 pub looking : (s chars : List ℕ) (p a : ℕ) (c : Cursor) → Fit s c → Looking s chars p a c c
-looking s chars p a c f = record { rest = record { nodes = record { fit = f; later = omega arith; events = refl }; declarations = refl }; same = refl }
+looking s chars p a c f =
+    record { rest = record { nodes = record { fit = f; later = omega arith; events = refl }; declarations = refl }; same = refl }
 
 module _ (s chars : List ℕ) (p a : ℕ) (from c : Cursor) (w : Looking s chars p a from c) (r : NextValue) where
   module _ (b q : ℕ) (v : ValueAt) (t : r ≡ next.At b q v) (i : AttributeIs s chars c r) where
@@ -73,17 +72,27 @@ module _ (s chars : List ℕ) (p a : ℕ) (from c : Cursor) (w : Looking s chars
     unfolding attributeIn
     looked = ap (attributeIn p a) (attribute-told s chars c r (next.At b q v) t i .0) ∙ w .same
 
-    pub named : q ≡ p → b ≡ a → (valueIn s chars (found.At v) ≡ attributeIn p a (attributesIn s chars from)) × ValueFit s chars from (found.At v)
+    pub named : q ≡ p → b ≡ a → (valueIn s chars (found.At v) ≡ attributeIn p a (attributesIn s chars from)) × ValueFit s chars from
+        (found.At v)
     named e f = (
       sym (rw (eq-eqb q p e, eq-eqb b a f)) ∙ looked,
-      record { own = fitting .own; rest = rest-on s chars from c (v .behind) (w .rest) (fitting .rest); further = omega (arith, w .rest .nodes .later, fitting .further) },
+      record {
+        own = fitting .own;
+        rest = rest-on s chars from c (v .behind) (w .rest) (fitting .rest);
+        further = omega
+            (arith, w .rest .nodes .later, fitting .further);
+      },
     )
 
     pub other-space : (q ≡ p → ⊥) → Looking s chars p a from (v .behind)
     other-space e = record { rest = rest-on s chars from c (v .behind) (w .rest) (fitting .rest); same = sym (rw (ne-eqb q p e)) ∙ looked }
 
     pub other-name : q ≡ p → (b ≡ a → ⊥) → Looking s chars p a from (v .behind)
-    other-name f e = record { rest = rest-on s chars from c (v .behind) (w .rest) (fitting .rest); same = sym (rw (eq-eqb q p f, ne-eqb b a e)) ∙ looked }
+    other-name f e = record {
+      rest = rest-on s chars from c (v .behind) (w .rest) (fitting .rest);
+      same = sym
+          (rw (eq-eqb q p f, ne-eqb b a e)) ∙ looked;
+    }
 
   pub unnamed : (n : Cursor) → r ≡ next.End n → AttributeIs s chars c r
       → (valueIn s chars (found.Nothing n) ≡ attributeIn p a (attributesIn s chars from)) × ValueFit s chars from (found.Nothing n)
@@ -140,7 +149,8 @@ module _ (s chars : List ℕ) (a k : ℕ) (from c : Cursor) (r : NextReading) wh
   unfolding readingOf
   of-no-kind t i w = ap (readingOf k) (reading-told s chars c a r read.End t i .0) ∙ w .same
 
-  pub any-none : (id : List ℕ) → r ≡ read.End → ReadingIs s chars c a r → Reading (λ s a c. anyReading k id (readingsIn s chars a c)) s a from c
+  pub any-none : (id : List ℕ) → r ≡ read.End → ReadingIs s chars c a r
+      → Reading (λ s a c. anyReading k id (readingsIn s chars a c)) s a from c
       → false ≡ anyReading k id (readingsIn s chars a from)
   unfolding anyReading
   any-none id t i w = ap (anyReading k id) (reading-told s chars c a r read.End t i .0) ∙ w .same

@@ -47,7 +47,8 @@ one-id : (e : model.Element) (k l : List ℕ) → hasId k e ≡ true → hasId l
 unfolding hasId
 one-id e k l = go (attributeIn 0 AId.Id (e .attributes))
   where
-    go : (v : Option model.Value) → given v (λ w. sameBytes (w .part .bytes) k) (λ u. false) ≡ true → given v (λ w. sameBytes (w .part .bytes) l) (λ u. false) ≡ true → k ≡ l
+    go : (v : Option model.Value) → given v (λ w. sameBytes (w .part .bytes) k) (λ u. false) ≡ true
+        → given v (λ w. sameBytes (w .part .bytes) l) (λ u. false) ≡ true → k ≡ l
     go (some v) p q = sym (same-eq (v .part .bytes) k p) ∙ same-eq (v .part .bytes) l q
     go none p q = absurd (false≢true p)
 
@@ -57,7 +58,8 @@ unfolding firstWithId
 found-has id [] e ys h = absurd (let z : _≡_ {A = ℕ} 0 1 = cc in omega arith)
 found-has id (begin x ∷ xs) e ys h = go (hasId id x) refl h (found-has id xs e ys)
   where
-    go : (t : Bool) → hasId id x ≡ t → pick t (λ u. begin x ∷ xs) (λ u. firstWithId id xs) ≡ begin e ∷ ys → (firstWithId id xs ≡ begin e ∷ ys → hasId id e ≡ true) → hasId id e ≡ true
+    go : (t : Bool) → hasId id x ≡ t → pick t (λ u. begin x ∷ xs) (λ u. firstWithId id xs) ≡ begin e ∷ ys
+        → (firstWithId id xs ≡ begin e ∷ ys → hasId id e ≡ true) → hasId id e ≡ true
     go true p k ih = let q : x ≡ e = cc in subst (λ y. hasId id y ≡ true) q p
     go false p k ih = ih k
 found-has id (model.Event.text a ∷ xs) e ys h = found-has id xs e ys h
@@ -113,10 +115,12 @@ module _ (chars : List ℕ) where
       go : (t u : Bool) → numberOf (at t k) ≡ numberOf (at u l) → (numberOf (at t k) ≡ 0 → ⊥)
           → ((numberOf (firstWithId k xs) ≡ 0 → ⊥) → m .number + 1 < numberOf (firstWithId k xs))
           → ((numberOf (firstWithId l xs) ≡ 0 → ⊥) → m .number + 1 < numberOf (firstWithId l xs))
-          → (numberOf (firstWithId k xs) ≡ numberOf (firstWithId l xs) → (numberOf (firstWithId k xs) ≡ 0 → ⊥) → firstWithId k xs ≡ firstWithId l xs)
+          → (numberOf (firstWithId k xs) ≡ numberOf (firstWithId l xs) → (numberOf (firstWithId k xs) ≡ 0 → ⊥)
+          → firstWithId k xs ≡ firstWithId l xs)
           → at t k ≡ at u l
       go true true p q f g ih = refl
-      go true false p q f g ih = absurd (let z : m .number + 1 < numberOf (firstWithId l xs) = g (λ y. omega (arith, p, y)) in omega (arith, z, p))
+      go true false p q f g ih = absurd
+          (let z : m .number + 1 < numberOf (firstWithId l xs) = g (λ y. omega (arith, p, y)) in omega (arith, z, p))
       go false true p q f g ih = absurd (let z : m .number + 1 < numberOf (firstWithId k xs) = f q in omega (arith, z, p))
       go false false p q f g ih = ih p q
   unique k l m (attribute a b n ∷ cs) e h = unique k l (past m (attribute a b n)) cs e h
@@ -136,7 +140,8 @@ same-or-not a b n m f g = go (sameBytes a b) refl
     go true e = eq-eqb n m (f e)
     go false e = ne-eqb n m (λ z. absurd (false≢true (sym e ∙ ap (sameBytes a) (sym (g z)) ∙ same-itself a)))
 
-module _ (s chars : List ℕ) (l : List ℕ) (e : model.Element) (ys : List Event) (f : firstWithId l (events s chars) ≡ begin e ∷ ys) (z : e .number ≡ 0 → ⊥) where
+module _ (s chars : List ℕ) (l : List ℕ) (e : model.Element) (ys : List Event) (f : firstWithId l (events s chars) ≡ begin e ∷ ys)
+    (z : e .number ≡ 0 → ⊥) where
   -- A link leads to the first element with an id exactly if it names that id.
   pub leads-by : (k : List ℕ) → eqb (numberOf (firstWithId k (events s chars))) (e .number) ≡ sameBytes k l
   unfolding events
@@ -161,6 +166,13 @@ node-here s chars e w = stepped (eventsFrom chars) (w .here)
     }) ∷ eventsFrom chars m (commandsAt s (e .inside))) refl
 
 module _ (s chars id : List ℕ) where
+  same-on : (d : Cursor) (x : Command) (m : Cursor) → Here s d x m
+      → firstWithId id (eventsFrom chars (markOf d) (x ∷ commandsAt s m))
+      ≡ firstWithId id (eventsFrom chars (past (markOf d) x) (commandsAt s m))
+      → firstWithId id (eventsAt s chars d) ≡ firstWithId id (eventsAt s chars m)
+  same-on d x m h e =
+      sym (stepped (λ k cs. firstWithId id (eventsFrom chars k cs)) h (λ k. firstWithId id (eventsFrom chars k (commandsAt s m))) e)
+
   -- Behind a command that opens no element found, the same is found.
   step-on : (d : Cursor) (x : Command) (m : Cursor) → Here s d x m → (numberOf (firstWithId id (eventsAt s chars d)) ≡ d .number + 1 → ⊥)
       → firstWithId id (eventsAt s chars d) ≡ firstWithId id (eventsAt s chars m)
@@ -173,16 +185,17 @@ module _ (s chars id : List ℕ) where
       xs : List Event
       xs = eventsFrom chars (past (markOf d) (opening a b)) (commandsAt s m)
 
-      go : (t : Bool) → (numberOf (pick t (λ u. begin (elementAt chars (markOf d) a b (commandsAt s m)) ∷ xs) (λ u. firstWithId id xs)) ≡ d .number + 1 → ⊥)
+      go : (t : Bool) → (numberOf (pick t (λ u. begin (elementAt chars (markOf d) a b (commandsAt s m)) ∷ xs) (λ u. firstWithId id xs))
+          ≡ d .number + 1 → ⊥)
           → pick t (λ u. begin (elementAt chars (markOf d) a b (commandsAt s m)) ∷ xs) (λ u. firstWithId id xs) ≡ firstWithId id xs
       go true q = absurd (q refl)
       go false q = refl
-  step-on d (attribute a b l) m h n = sym (stepped (λ k cs. firstWithId id (eventsFrom chars k cs)) h (λ k. firstWithId id (eventsFrom chars k (commandsAt s m))) refl)
-  step-on d (declaration a b l) m h n = sym (stepped (λ k cs. firstWithId id (eventsFrom chars k cs)) h (λ k. firstWithId id (eventsFrom chars k (commandsAt s m))) refl)
-  step-on d (reading j o l) m h n = sym (stepped (λ k cs. firstWithId id (eventsFrom chars k cs)) h (λ k. firstWithId id (eventsFrom chars k (commandsAt s m))) refl)
-  step-on d (Command.text l) m h n = sym (stepped (λ k cs. firstWithId id (eventsFrom chars k cs)) h (λ k. firstWithId id (eventsFrom chars k (commandsAt s m))) refl)
-  step-on d Command.other m h n = sym (stepped (λ k cs. firstWithId id (eventsFrom chars k cs)) h (λ k. firstWithId id (eventsFrom chars k (commandsAt s m))) refl)
-  step-on d closing m h n = sym (stepped (λ k cs. firstWithId id (eventsFrom chars k cs)) h (λ k. firstWithId id (eventsFrom chars k (commandsAt s m))) refl)
+  step-on d (attribute a b l) m h n = same-on d (attribute a b l) m h refl
+  step-on d (declaration a b l) m h n = same-on d (declaration a b l) m h refl
+  step-on d (reading j o l) m h n = same-on d (reading j o l) m h refl
+  step-on d (Command.text l) m h n = same-on d (Command.text l) m h refl
+  step-on d Command.other m h n = same-on d Command.other m h refl
+  step-on d closing m h n = same-on d closing m h refl
   step-on d (broken b) m h n = absurd (false≢true (sym (unbroken (broken b) h)))
 
   module _ (e : Opened) (w : Standing s e) where
@@ -213,7 +226,8 @@ module _ (s chars id : List ℕ) where
         go (broken-there b z) ih = absurd (let y : d ≡ e .own = rw z at p in omega (arith, ap (λ (v : Cursor). v .number) y, n))
         go (there x m v) ih =
             let q = step-on d x m v (λ y. omega (arith, y, h, n)) in
-            q ∙ ih m (rw (v .more, unbroken x v, ← v .next) at p) (omega (arith, ap (λ (u : Cursor). u .number) (v .next), n)) (ap numberOf (sym q) ∙ h)
+            q ∙ ih m (rw (v .more, unbroken x v, ← v .next) at p) (omega (arith, ap (λ (u : Cursor). u .number) (v .next), n))
+            (ap numberOf (sym q) ∙ h)
 
     -- What is found in the document with the number of an element is the element.
     pub in-place : numberOf (firstWithId id (events s chars)) ≡ e .own .number + 1 → firstWithId id (events s chars) ≡ nodeAt s chars e
@@ -230,9 +244,11 @@ module _ (s chars : List ℕ) (e : Opened) (w : Standing s e) where
   -- The leading id of the element, from its first unprefixed id.
   abbrev leading : Option model.Value → Option model.Part
   leading o =
-      given o (λ v. pick (eqb (numberOf (firstWithId (v .part .bytes) (events s chars))) (e .own .number + 1)) (λ u. some (v .part)) (λ u. none)) (λ u. none)
+      given o (λ v. pick (eqb (numberOf (firstWithId (v .part .bytes) (events s chars))) (e .own .number + 1)) (λ u. some (v .part))
+      (λ u. none)) (λ u. none)
 
-  is-leading : (o : Option model.Value) → attributeIn 0 AId.Id (elementOf s chars e .attributes) ≡ o → leading o ≡ leadingId (events s chars) (elementOf s chars e)
+  is-leading : (o : Option model.Value) → attributeIn 0 AId.Id (elementOf s chars e .attributes) ≡ o
+      → leading o ≡ leadingId (events s chars) (elementOf s chars e)
   unfolding leadingId
   is-leading o a = ap leading (sym a)
 
@@ -242,12 +258,15 @@ module _ (s chars : List ℕ) (e : Opened) (w : Standing s e) where
 
   with-value : (k : List ℕ) (v : model.Value) → attributeIn 0 AId.Id (elementOf s chars e .attributes) ≡ some v → (t : Bool)
       → eqb (numberOf (firstWithId (v .part .bytes) (events s chars))) (e .own .number + 1) ≡ t
-      → eqb (numberOf (firstWithId k (events s chars))) (e .own .number + 1) ≡ given (pick t (λ u. some (v .part)) (λ u. none)) (λ q. sameBytes k (q .bytes)) (λ u. false)
+      → eqb (numberOf (firstWithId k (events s chars))) (e .own .number + 1)
+      ≡ given (pick t (λ u. some (v .part)) (λ u. none)) (λ q. sameBytes k (q .bytes)) (λ u. false)
   unfolding hasId
   with-value k v a true g =
-      leads-by s chars (v .part .bytes) (elementOf s chars e) _ (in-place s chars (v .part .bytes) e w (eqb-true _ _ g)) (λ y. omega (arith, y)) k
+      leads-by s chars (v .part .bytes) (elementOf s chars e) _ (in-place s chars (v .part .bytes) e w (eqb-true _ _ g))
+      (λ y. omega (arith, y)) k
   with-value k v a false g = ne-eqb _ _ (λ h.
-      let q : v .part .bytes ≡ k = same-eq _ _ (sym (ap (λ o. given o (λ (x : model.Value). sameBytes (x .part .bytes) k) (λ u. false)) a) ∙ led k h) in
+      let q : v .part .bytes ≡ k = same-eq _ _
+      (sym (ap (λ o. given o (λ (x : model.Value). sameBytes (x .part .bytes) k) (λ u. false)) a) ∙ led k h) in
       eqb-false _ _ g (ap (λ i. numberOf (firstWithId i (events s chars))) q ∙ h))
 
   by-value : (k : List ℕ) (o : Option model.Value) → attributeIn 0 AId.Id (elementOf s chars e .attributes) ≡ o
@@ -264,8 +283,10 @@ module _ (s chars : List ℕ) (e : Opened) (w : Standing s e) where
   leads-to-own (some p) = by-value (p .bytes) _ refl ∙ ap (sameParts (some p)) (is-leading _ refl)
 
 -- A link leads to the element that another link leads to exactly if both name the same id.
-pub leads-to-linked : (s chars : List ℕ) (l : Opened) (q : Option model.Part) → nodeAt s chars l ≡ linkedBy (events s chars) q → (p : Option model.Part)
+pub leads-to-linked : (s chars : List ℕ) (l : Opened) (q : Option model.Part) → nodeAt s chars l ≡ linkedBy (events s chars) q
+    → (p : Option model.Part)
     → eqb (numberOf (linkedBy (events s chars) p)) (l .own .number + 1) ≡ sameParts p q
 leads-to-linked s chars l q h none = nowhere (l .own .number)
 leads-to-linked s chars l none h (some p) = absurd (let z : _≡_ {A = ℕ} 0 1 = cc in omega arith)
-leads-to-linked s chars l (some q) h (some p) = leads-by s chars (q .bytes) (elementOf s chars l) _ (sym h) (λ y. omega (arith, y)) (p .bytes)
+leads-to-linked s chars l (some q) h (some p) = leads-by s chars (q .bytes) (elementOf s chars l) _ (sym h) (λ y. omega (arith, y))
+    (p .bytes)

@@ -12,7 +12,8 @@ use Rattle.model.specs.Base.{pick, or}
 use Rattle.model.specs.Check as check
 use Rattle.model.specs.Check.{Test, _if_, State, Stage, mayAttribute, mayDeclare, firstOf, testsOf, stepped, checkFrom, starting, mostBytes}
 use Rattle.model.specs.Drawing as model
-use Rattle.model.specs.Drawing.{Command, opening, attribute, declaration, reading, closing, broken, Mark, past, Value, valueAt, readingsAt, attributesAt}
+use Rattle.model.specs.Drawing.{Command, opening, attribute, declaration, reading, closing, broken, Mark, past, Value, valueAt}
+use Rattle.model.specs.Drawing.{readingsAt, attributesAt}
 use Rattle.model.specs.Drawing.{declarationsAt, elementAt, eventsFrom, events, commands, valuesIn, readingsOf}
 use Rattle.script.specs.declared.cursor.Cursor.{Cursor}
 use Rattle.script.specs.Step.{Here, commandsAt, markOf, isBroken, atStart, placeFrom, placeOf}
@@ -26,7 +27,11 @@ passed n x h = go (eqb n 0) refl h
   where
     go : (t : Bool) → eqb n 0 ≡ t → pick t (λ u. x) (λ u. n) ≡ 0 → (n ≡ 0) × (x ≡ 0)
     go true e k = (eqb-true n 0 e, k)
-    go false e k = (k, absurd (let z : eqb n 0 ≡ true = eq-eqb n 0 k in let y : _≡_ {A = Bool} true false = sym z ∙ e in let w : _≡_ {A = ℕ} 0 1 = cc in omega arith))
+    go false e k = (
+      k,
+      absurd (let z : eqb n 0 ≡ true = eq-eqb n 0 k in let y : _≡_ {A = Bool} true false = sym z
+          ∙ e in let w : _≡_ {A = ℕ} 0 1 = cc in omega arith),
+    )
 
 -- A test that applies is not passed over.
 third : (a b c : Bool) (ts : List Test) → c ≡ true → firstOf (7 if a ∷ 3 if b ∷ 4 if c ∷ ts) ≡ 0 → ⊥
@@ -75,7 +80,8 @@ module _ (chars : List ℕ) where
     unfolding testsOf
     no-attribute s a b l t h = third _ _ (not (mayAttribute (s .stage))) _ t h
 
-    no-declaration : (s : State) (a b l : ℕ) → not (mayDeclare (s .stage)) ≡ true → firstOf (testsOf chars size s (declaration a b l)) ≡ 0 → ⊥
+    no-declaration : (s : State) (a b l : ℕ) → not (mayDeclare (s .stage)) ≡ true
+        → firstOf (testsOf chars size s (declaration a b l)) ≡ 0 → ⊥
     unfolding testsOf
     no-declaration s a b l t h = third _ _ (not (mayDeclare (s .stage))) _ t h
 
@@ -83,35 +89,60 @@ module _ (chars : List ℕ) where
     unfolding testsOf
     no-broken s b h = second _ _ h
 
-    all-values : (cs : List Command) (s : State) (st : Stage) (m : Mark) → s .stage ≡ st → checkFrom chars size s cs ≡ 0 → toCome st m cs ≡ valuesFrom m cs
+    all-values : (cs : List Command) (s : State) (st : Stage) (m : Mark) → s .stage ≡ st → checkFrom chars size s cs ≡ 0
+        → toCome st m cs ≡ valuesFrom m cs
     unfolding valuesFrom attributesAt declarationsAt eventsFrom valuesIn elementAt stepped
     all-values [] s check.attributes m e h = refl
     all-values [] s check.declarations m e h = refl
     all-values [] s check.children m e h = refl
-    all-values (opening a b ∷ cs) s check.attributes m e h = all-values cs (stepped chars size s (opening a b)) check.attributes (past m (opening a b)) refl (went s (opening a b) cs h .1)
-    all-values (opening a b ∷ cs) s check.declarations m e h = all-values cs (stepped chars size s (opening a b)) check.attributes (past m (opening a b)) refl (went s (opening a b) cs h .1)
-    all-values (opening a b ∷ cs) s check.children m e h = all-values cs (stepped chars size s (opening a b)) check.attributes (past m (opening a b)) refl (went s (opening a b) cs h .1)
+    all-values (opening a b ∷ cs) s check.attributes m e h = all-values cs (stepped chars size s (opening a b)) check.attributes
+        (past m (opening a b)) refl (went s (opening a b) cs h .1)
+    all-values (opening a b ∷ cs) s check.declarations m e h = all-values cs (stepped chars size s (opening a b)) check.attributes
+        (past m (opening a b)) refl (went s (opening a b) cs h .1)
+    all-values (opening a b ∷ cs) s check.children m e h = all-values cs (stepped chars size s (opening a b)) check.attributes
+        (past m (opening a b)) refl (went s (opening a b) cs h .1)
     all-values (attribute a b l ∷ cs) s check.attributes m e h =
-        ap (λ vs. valueAt chars m l cs ∷ vs) (all-values cs (stepped chars size s (attribute a b l)) check.attributes (past m (attribute a b l)) refl (went s (attribute a b l) cs h .1))
-    all-values (attribute a b l ∷ cs) s check.declarations m e h = absurd (no-attribute s a b l (ap (λ t. not (mayAttribute t)) e) (went s (attribute a b l) cs h .0))
-    all-values (attribute a b l ∷ cs) s check.children m e h = absurd (no-attribute s a b l (ap (λ t. not (mayAttribute t)) e) (went s (attribute a b l) cs h .0))
+        ap (λ vs. valueAt chars m l cs ∷ vs)
+        (all-values cs (stepped chars size s (attribute a b l)) check.attributes (past m (attribute a b l)) refl
+        (went s (attribute a b l) cs h .1))
+    all-values (attribute a b l ∷ cs) s check.declarations m e h = absurd
+        (no-attribute s a b l (ap (λ t. not (mayAttribute t)) e) (went s (attribute a b l) cs h .0))
+    all-values (attribute a b l ∷ cs) s check.children m e h = absurd
+        (no-attribute s a b l (ap (λ t. not (mayAttribute t)) e) (went s (attribute a b l) cs h .0))
     all-values (declaration a b l ∷ cs) s check.attributes m e h =
-        ap (λ vs. valueAt chars m l cs ∷ vs) (all-values cs (stepped chars size s (declaration a b l)) check.declarations (past m (declaration a b l)) refl (went s (declaration a b l) cs h .1))
+        ap (λ vs. valueAt chars m l cs ∷ vs)
+        (all-values cs (stepped chars size s (declaration a b l)) check.declarations (past m (declaration a b l)) refl
+        (went s (declaration a b l) cs h .1))
     all-values (declaration a b l ∷ cs) s check.declarations m e h =
-        ap (λ vs. valueAt chars m l cs ∷ vs) (all-values cs (stepped chars size s (declaration a b l)) check.declarations (past m (declaration a b l)) refl (went s (declaration a b l) cs h .1))
-    all-values (declaration a b l ∷ cs) s check.children m e h = absurd (no-declaration s a b l (ap (λ t. not (mayDeclare t)) e) (went s (declaration a b l) cs h .0))
-    all-values (reading k o l ∷ cs) s check.attributes m e h = all-values cs (stepped chars size s (reading k o l)) check.attributes (past m (reading k o l)) e (went s (reading k o l) cs h .1)
-    all-values (reading k o l ∷ cs) s check.declarations m e h = all-values cs (stepped chars size s (reading k o l)) check.declarations (past m (reading k o l)) e (went s (reading k o l) cs h .1)
-    all-values (reading k o l ∷ cs) s check.children m e h = all-values cs (stepped chars size s (reading k o l)) check.children (past m (reading k o l)) e (went s (reading k o l) cs h .1)
-    all-values (Command.text l ∷ cs) s check.attributes m e h = all-values cs (stepped chars size s (Command.text l)) check.children (past m (Command.text l)) refl (went s (Command.text l) cs h .1)
-    all-values (Command.text l ∷ cs) s check.declarations m e h = all-values cs (stepped chars size s (Command.text l)) check.children (past m (Command.text l)) refl (went s (Command.text l) cs h .1)
-    all-values (Command.text l ∷ cs) s check.children m e h = all-values cs (stepped chars size s (Command.text l)) check.children (past m (Command.text l)) refl (went s (Command.text l) cs h .1)
-    all-values (Command.other ∷ cs) s check.attributes m e h = all-values cs (stepped chars size s Command.other) check.children (past m Command.other) refl (went s Command.other cs h .1)
-    all-values (Command.other ∷ cs) s check.declarations m e h = all-values cs (stepped chars size s Command.other) check.children (past m Command.other) refl (went s Command.other cs h .1)
-    all-values (Command.other ∷ cs) s check.children m e h = all-values cs (stepped chars size s Command.other) check.children (past m Command.other) refl (went s Command.other cs h .1)
-    all-values (closing ∷ cs) s check.attributes m e h = all-values cs (stepped chars size s closing) check.children (past m closing) refl (went s closing cs h .1)
-    all-values (closing ∷ cs) s check.declarations m e h = all-values cs (stepped chars size s closing) check.children (past m closing) refl (went s closing cs h .1)
-    all-values (closing ∷ cs) s check.children m e h = all-values cs (stepped chars size s closing) check.children (past m closing) refl (went s closing cs h .1)
+        ap (λ vs. valueAt chars m l cs ∷ vs)
+        (all-values cs (stepped chars size s (declaration a b l)) check.declarations (past m (declaration a b l)) refl
+        (went s (declaration a b l) cs h .1))
+    all-values (declaration a b l ∷ cs) s check.children m e h = absurd
+        (no-declaration s a b l (ap (λ t. not (mayDeclare t)) e) (went s (declaration a b l) cs h .0))
+    all-values (reading k o l ∷ cs) s check.attributes m e h = all-values cs (stepped chars size s (reading k o l)) check.attributes
+        (past m (reading k o l)) e (went s (reading k o l) cs h .1)
+    all-values (reading k o l ∷ cs) s check.declarations m e h = all-values cs (stepped chars size s (reading k o l)) check.declarations
+        (past m (reading k o l)) e (went s (reading k o l) cs h .1)
+    all-values (reading k o l ∷ cs) s check.children m e h = all-values cs (stepped chars size s (reading k o l)) check.children
+        (past m (reading k o l)) e (went s (reading k o l) cs h .1)
+    all-values (Command.text l ∷ cs) s check.attributes m e h = all-values cs (stepped chars size s (Command.text l)) check.children
+        (past m (Command.text l)) refl (went s (Command.text l) cs h .1)
+    all-values (Command.text l ∷ cs) s check.declarations m e h = all-values cs (stepped chars size s (Command.text l)) check.children
+        (past m (Command.text l)) refl (went s (Command.text l) cs h .1)
+    all-values (Command.text l ∷ cs) s check.children m e h = all-values cs (stepped chars size s (Command.text l)) check.children
+        (past m (Command.text l)) refl (went s (Command.text l) cs h .1)
+    all-values (Command.other ∷ cs) s check.attributes m e h = all-values cs (stepped chars size s Command.other) check.children
+        (past m Command.other) refl (went s Command.other cs h .1)
+    all-values (Command.other ∷ cs) s check.declarations m e h = all-values cs (stepped chars size s Command.other) check.children
+        (past m Command.other) refl (went s Command.other cs h .1)
+    all-values (Command.other ∷ cs) s check.children m e h = all-values cs (stepped chars size s Command.other) check.children
+        (past m Command.other) refl (went s Command.other cs h .1)
+    all-values (closing ∷ cs) s check.attributes m e h = all-values cs (stepped chars size s closing) check.children
+        (past m closing) refl (went s closing cs h .1)
+    all-values (closing ∷ cs) s check.declarations m e h = all-values cs (stepped chars size s closing) check.children
+        (past m closing) refl (went s closing cs h .1)
+    all-values (closing ∷ cs) s check.children m e h = all-values cs (stepped chars size s closing) check.children (past m closing) refl
+        (went s closing cs h .1)
     all-values (broken b ∷ cs) s st m e h = absurd (no-broken s b (went s (broken b) cs h .0))
 
   -- BY ITS NUMBER
@@ -121,8 +152,10 @@ module _ (chars : List ℕ) where
   unfolding valuesFrom readingsOf valueAt
   none-later n m [] h = refl
   none-later n m (opening a b ∷ cs) h = none-later n (past m (opening a b)) cs (omega arith)
-  none-later n m (attribute a b l ∷ cs) h = rw (ne-eqb (m .number + 1) n (λ z. omega (arith, z))) (none-later n (past m (attribute a b l)) cs (omega arith))
-  none-later n m (declaration a b l ∷ cs) h = rw (ne-eqb (m .number + 1) n (λ z. omega (arith, z))) (none-later n (past m (declaration a b l)) cs (omega arith))
+  none-later n m (attribute a b l ∷ cs) h = rw (ne-eqb (m .number + 1) n (λ z. omega (arith, z)))
+      (none-later n (past m (attribute a b l)) cs (omega arith))
+  none-later n m (declaration a b l ∷ cs) h = rw (ne-eqb (m .number + 1) n (λ z. omega (arith, z)))
+      (none-later n (past m (declaration a b l)) cs (omega arith))
   none-later n m (reading k o l ∷ cs) h = none-later n (past m (reading k o l)) cs (omega arith)
   none-later n m (Command.text l ∷ cs) h = none-later n (past m (Command.text l)) cs (omega arith)
   none-later n m (Command.other ∷ cs) h = none-later n (past m Command.other) cs (omega arith)
@@ -161,17 +194,23 @@ module _ (chars : List ℕ) where
     unfolding valuesFrom readingsOf readingsNext
     no-command d n z = ap (readingsNext chars (markOf d)) z ∙ sym (ap (λ cs. readingsOf n (valuesFrom (markOf d) cs)) z)
 
-    no-whole : (d : Cursor) (n b : ℕ) → commandsAt s d ≡ broken b ∷ [] → readingsHere s chars d ≡ readingsOf n (valuesFrom (markOf d) (commandsAt s d))
+    no-whole : (d : Cursor) (n b : ℕ) → commandsAt s d ≡ broken b ∷ []
+        → readingsHere s chars d ≡ readingsOf n (valuesFrom (markOf d) (commandsAt s d))
     unfolding valuesFrom readingsOf readingsNext
     no-whole d n b z = ap (readingsNext chars (markOf d)) z ∙ sym (ap (λ cs. readingsOf n (valuesFrom (markOf d) cs)) z)
 
-    at-place : (k : ℕ) (d : Cursor) → readingsHere s chars (placeFrom k d (commandsAt s d)) ≡ readingsOf (d .number + k + 1) (valuesFrom (markOf d) (commandsAt s d))
+    at-place : (k : ℕ) (d : Cursor)
+        → readingsHere s chars (placeFrom k d (commandsAt s d)) ≡ readingsOf (d .number + k + 1) (valuesFrom (markOf d) (commandsAt s d))
     unfolding placeFrom
-    at-place zero d = next-value (markOf d) (commandsAt s d) ∙ ap (λ n. readingsOf n (valuesFrom (markOf d) (commandsAt s d))) (let z : d .number + 1 ≡ d .number + 0 + 1 = omega arith in z)
+    at-place zero d = next-value (markOf d) (commandsAt s d)
+        ∙ ap (λ n. readingsOf n (valuesFrom (markOf d) (commandsAt s d))) (let z : d .number + 1 ≡ d .number + 0 + 1 = omega arith in z)
     at-place (suc k) d = go (what-stands s d) (at-place k)
       where
-        go : Stands s d → ((m : Cursor) → readingsHere s chars (placeFrom k m (commandsAt s m)) ≡ readingsOf (m .number + k + 1) (valuesFrom (markOf m) (commandsAt s m)))
-            → readingsHere s chars (placeFrom (suc k) d (commandsAt s d)) ≡ readingsOf (d .number + suc k + 1) (valuesFrom (markOf d) (commandsAt s d))
+        go : Stands s d → ((m : Cursor)
+            → readingsHere s chars (placeFrom k m (commandsAt s m))
+            ≡ readingsOf (m .number + k + 1) (valuesFrom (markOf m) (commandsAt s m)))
+            → readingsHere s chars (placeFrom (suc k) d (commandsAt s d))
+            ≡ readingsOf (d .number + suc k + 1) (valuesFrom (markOf d) (commandsAt s d))
         go (nothing-there z) ih = ap (λ cs. readingsHere s chars (placeFrom (suc k) d cs)) z ∙ no-command d (d .number + suc k + 1) z
         go (broken-there b z) ih = ap (λ cs. readingsHere s chars (placeFrom (suc k) d cs)) z ∙ no-whole d (d .number + suc k + 1) b z
         go (there x m w) ih =
@@ -182,15 +221,19 @@ module _ (chars : List ℕ) where
             ∙ sym (over-value (d .number + suc k + 1) (markOf d) x (commandsAt s m) (omega arith) ∙ rw (unbroken x w)))
 
 -- What stands behind k commands of a drawing that check takes is what the document has of the command numbered k + 1.
-pub checked-readings : (s chars : List ℕ) → check.check s chars ≡ 0 → (k : ℕ) → readingsHere s chars (placeOf s k) ≡ readingsOf (k + 1) (valuesIn (events s chars))
+pub checked-readings : (s chars : List ℕ) → check.check s chars ≡ 0 → (k : ℕ)
+    → readingsHere s chars (placeOf s k) ≡ readingsOf (k + 1) (valuesIn (events s chars))
 unfolding check.check events placeOf commandsAt starting
 checked-readings s chars h k =
     at-place chars s k atStart ∙ ap (λ n. readingsOf n (valuesFrom chars start (commands s))) (let z : 0 + k + 1 ≡ k + 1 = omega arith in z)
-    ∙ ap (readingsOf (k + 1)) (sym (all-values chars (length chars) (commands s) starting check.children start refl (go (or (ltb mostBytes (length s)) (ltb mostBytes (length chars))) h)))
+    ∙ ap (readingsOf (k + 1)) (sym
+    (all-values chars (length chars) (commands s) starting check.children start refl
+    (go (or (ltb mostBytes (length s)) (ltb mostBytes (length chars))) h)))
   where
     start : Mark
     start = record { number = 0; at = 0; texts = 0 }
 
-    go : (t : Bool) → pick t (λ u. 1) (λ u. checkFrom chars (length chars) starting (commands s)) ≡ 0 → checkFrom chars (length chars) starting (commands s) ≡ 0
+    go : (t : Bool) → pick t (λ u. 1) (λ u. checkFrom chars (length chars) starting (commands s)) ≡ 0
+        → checkFrom chars (length chars) starting (commands s) ≡ 0
     go true e = absurd (omega arith)
     go false e = e

@@ -40,7 +40,8 @@ id-told : (s chars : List ℕ) (e : Opened) (r x : FoundValue) → r ≡ x → I
 id-told s chars e r x t h = subst (IdIs s chars e) t h
 
 module _ (s chars id : List ℕ) (e : Opened) (r : FoundValue) (h : IdIs s chars e r) where
-  module _ (v : ValueAt) (t : r ≡ found.At v) (p : List ℕ) (g : p ≡ slice (v .own .chars) (v .own .chars + v .len) chars) (q : Bool) (k : q ≡ sameBytes p id) where
+  module _ (v : ValueAt) (t : r ≡ found.At v) (p : List ℕ) (g : p ≡ slice (v .own .chars) (v .own .chars + v .len) chars) (q : Bool)
+      (k : q ≡ sameBytes p id) where
     compared : q ≡ hasId id (elementOf s chars e)
     unfolding hasId valueAt model.partAt
     compared =
@@ -56,7 +57,8 @@ module _ (s chars id : List ℕ) (e : Opened) (r : FoundValue) (h : IdIs s chars
   pub has-none : (n : Cursor) → r ≡ found.Nothing n → Tested s chars id e (HasNot n)
   unfolding hasId
   has-none n t = record {
-    has-not = sym (ap (λ w. given w (λ (y : model.Value). sameBytes (y .part .bytes) id) (λ u. false)) (id-told s chars e r (found.Nothing n) t h .0));
+    has-not = sym (ap (λ w. given w (λ (y : model.Value). sameBytes (y .part .bytes) id) (λ u. false))
+        (id-told s chars e r (found.Nothing n) t h .0));
     nodes = id-told s chars e r (found.Nothing n) t h .1 .rest .nodes;
   }
 
@@ -98,10 +100,15 @@ module _ (id : List ℕ) (v : List Event) (s chars : List ℕ) (from c : Cursor)
     (r : Item) (e : Opened) (t : r ≡ item.Begin e) (i : ItemIs s chars c r) where
   -- The element has the id.
   pub found-id : hasId id (elementOf s chars e) ≡ true → nodeAt s chars e ≡ v
-  found-id h = sym (id-hit id (eventsAt s chars (e .inside)) (elementOf s chars e) h) ∙ at-item (firstId id) v s chars from c 0 w r (item.Begin e) t i
+  found-id h = sym (id-hit id (eventsAt s chars (e .inside)) (elementOf s chars e) h)
+      ∙ at-item (firstId id) v s chars from c 0 w r (item.Begin e) t i
 
   behind : (n : Cursor) → Without s chars id e n → Further s c n
-  behind n z = record { fit = z .nodes .fit; further = omega (arith, item-told s chars c r (item.Begin e) t i .1 .1 .further, z .nodes .later) }
+  behind n z = record {
+    fit = z .nodes .fit;
+    further = omega
+        (arith, item-told s chars c r (item.Begin e) t i .1 .1 .further, z .nodes .later);
+  }
 
   -- It has not, and the search goes on behind the attributes that were read.
   pub over-without : (n : Cursor) → Without s chars id e n → Along (firstId id) v s chars from n 0

@@ -1,10 +1,11 @@
 -- The nodes, attributes and declarations at a cursor, by the step there. Assumes nothing.
 use mathlib.Core.Path.{_≡_, refl, sym, ap, _∙_, subst}
 use mathlib.Core.List.{List, [], _∷_}
-use Prim.Native.Nat.{ℕ, _+_, _<_, _≤_}
+use Prim.Native.Nat.{ℕ, _+_, _^_, _<_, _≤_}
 use native.Mathlib.Omega.{arith}
 use Rattle.model.specs.Drawing as model
-use Rattle.model.specs.Drawing.{Command, opening, attribute, declaration, reading, closing, Mark, past, Event, begin, close, eventsFrom, sourceAt, valueAt}
+use Rattle.model.specs.Drawing.{Command, opening, attribute, declaration, reading, closing, Mark, past, Event, begin, close, eventsFrom}
+use Rattle.model.specs.Drawing.{sourceAt, valueAt}
 use Rattle.model.specs.Drawing.{attributesAt, declarationsAt, readingsAt, partAt, elementAt}
 use Rattle.script.specs.declared.cursor.Cursor.{Cursor}
 use Rattle.script.specs.declared.cursor.Step.{Step}
@@ -19,7 +20,8 @@ use Rattle.walk.specs.declared.value.NextValue.{NextValue}
 use Rattle.walk.specs.declared.value.NextValue.the-variants as next
 use Rattle.walk.specs.declared.value.NextReading.{NextReading}
 use Rattle.walk.specs.declared.value.NextReading.the-variants as read
-use Rattle.walk.specs.Values.{attributesIn, declarationsIn, readingsIn, eventsAt, SameNodes, SameRest, attributesOf, AttributeFit, declarationsOf}
+use Rattle.walk.specs.Values.{attributesIn, declarationsIn, readingsIn, eventsAt, SameNodes, SameRest, attributesOf, AttributeFit}
+use Rattle.walk.specs.Values.{declarationsOf}
 use Rattle.walk.specs.Values.{DeclarationFit, readingsOf, ReadingFit}
 use Rattle.walk.specs.Nodes.{elementOf, eventsOf, Further, ItemFit}
 
@@ -47,7 +49,8 @@ pub record Nearer {A : Type 0} (g : Mark → List Command → A) (s : List ℕ) 
   pub less : c .at < n .at
 
 -- A command that changes nothing of what g says.
-nearer : {A : Type 0} (g : Mark → List Command → A) (s : List ℕ) (from c : Cursor) (x : Command) (n : Cursor) → Here s c x n → Fit s n → Reach g s from c
+nearer : {A : Type 0} (g : Mark → List Command → A) (s : List ℕ) (from c : Cursor) (x : Command) (n : Cursor) → Here s c x n → Fit s n
+    → Reach g s from c
     → g (markOf c) (x ∷ commandsAt s n) ≡ g (past (markOf c) x) (commandsAt s n) → Nearer g s from c n
 nearer g s from c x n h f r e = record {
   reach = record { fit = f; later = omega (arith, r .later, h .further); same = stepped g h (λ m. g m (commandsAt s n)) e ∙ r .same };
@@ -121,7 +124,8 @@ pub record Rest : Type 0 where
   pub events : List Event
 
 unfoldable pub restFrom : List ℕ → Mark → List Command → Rest
-restFrom chars m cs = record { attributes = attributesAt chars m cs; declarations = declarationsAt chars m cs; events = eventsFrom chars m cs }
+restFrom chars m cs =
+    record { attributes = attributesAt chars m cs; declarations = declarationsAt chars m cs; events = eventsFrom chars m cs }
 
 pub same-rest : (s chars : List ℕ) (from c : Cursor) → Reach (restFrom chars) s from c → SameRest s chars from c
 unfolding restFrom
@@ -167,7 +171,8 @@ module _ (s chars : List ℕ) (from c : Cursor) (r : Reach (restFrom chars) s fr
   attribute-of (step.Close n) h g = no-attribute _ (h .more) refl
   attribute-of (step.Attribute a b l n) h g = (
     stepped (attributesAt chars) h
-        (λ m. record { name = a; namespace = b; value = valueAt chars (markOf c) l (commandsAt s n) } ∷ attributesAt chars m (commandsAt s n)) refl
+        (λ m. record { name = a; namespace = b; value = valueAt chars (markOf c) l (commandsAt s n) } ∷ attributesAt chars m
+        (commandsAt s n)) refl
         ∙ ap (λ (x : Rest). x .attributes) (r .same),
     record {
       own = r .fit;
@@ -177,7 +182,8 @@ module _ (s chars : List ℕ) (from c : Cursor) (r : Reach (restFrom chars) s fr
           later = omega (arith, r .later, h .further);
           events = stepped (eventsFrom chars) h (λ m. eventsFrom chars m (commandsAt s n)) refl ∙ ap (λ (x : Rest). x .events) (r .same);
         };
-        declarations = stepped (declarationsAt chars) h (λ m. declarationsAt chars m (commandsAt s n)) refl ∙ ap (λ (x : Rest). x .declarations) (r .same);
+        declarations = stepped (declarationsAt chars) h (λ m. declarationsAt chars m (commandsAt s n)) refl
+            ∙ ap (λ (x : Rest). x .declarations) (r .same);
       };
       further = omega (arith, r .later, h .further);
     },
@@ -187,7 +193,8 @@ module _ (s chars : List ℕ) (from c : Cursor) (r : Reach (restFrom chars) s fr
   attribute-of (step.Broken b) h g = no-attribute _ h refl
   attribute-of step.End h g = no-attribute _ h refl
 
-pub attribute-at : (s chars : List ℕ) (from c : Cursor) (a b : Step) → a ≡ b → (a ≡ stepAt s c) × (Going s a) → Reach (restFrom chars) s from c → AttributeAt s chars from c b
+pub attribute-at : (s chars : List ℕ) (from c : Cursor) (a b : Step) → a ≡ b → (a ≡ stepAt s c) × (Going s a)
+    → Reach (restFrom chars) s from c → AttributeAt s chars from c b
 attribute-at s chars from c a b e h r = attribute-of s chars from c r b (told s c a b e (h .0)) (goes s a b e (h .1))
 
 -- THE NEXT DECLARATION
@@ -216,7 +223,8 @@ DeclarationAt s chars from c (step.Broken b) = DeclarationIs s chars from (next.
 DeclarationAt s chars from c step.End = DeclarationIs s chars from (next.End c)
 
 module _ (s chars : List ℕ) (from c : Cursor) (r : Reach (belowFrom chars) s from c) where
-  no-declaration : (cs : List Command) → commandsAt s c ≡ cs → [] ≡ declarationsAt chars (markOf c) cs → DeclarationIs s chars from (next.End c)
+  no-declaration : (cs : List Command) → commandsAt s c ≡ cs → [] ≡ declarationsAt chars (markOf c) cs
+      → DeclarationIs s chars from (next.End c)
   unfolding belowFrom
   no-declaration cs h e = (
     none ∙ ap (λ (x : Below). x .declarations) (r .same),
@@ -235,7 +243,8 @@ module _ (s chars : List ℕ) (from c : Cursor) (r : Reach (belowFrom chars) s f
   declaration-of (step.Attribute a b l n) h g = nearer (belowFrom chars) s from c (attribute a b l) n h g r refl
   declaration-of (step.Declaration a b l n) h g = (
     stepped (declarationsAt chars) h
-        (λ m. record { name = a; important = b; value = valueAt chars (markOf c) l (commandsAt s n) } ∷ declarationsAt chars m (commandsAt s n)) refl
+        (λ m. record { name = a; important = b; value = valueAt chars (markOf c) l (commandsAt s n) } ∷ declarationsAt chars m
+        (commandsAt s n)) refl
         ∙ ap (λ (x : Below). x .declarations) (r .same),
     record {
       own = r .fit;
@@ -251,7 +260,8 @@ module _ (s chars : List ℕ) (from c : Cursor) (r : Reach (belowFrom chars) s f
   declaration-of (step.Broken b) h g = no-declaration _ h refl
   declaration-of step.End h g = no-declaration _ h refl
 
-pub declaration-at : (s chars : List ℕ) (from c : Cursor) (a b : Step) → a ≡ b → (a ≡ stepAt s c) × (Going s a) → Reach (belowFrom chars) s from c → DeclarationAt s chars from c b
+pub declaration-at : (s chars : List ℕ) (from c : Cursor) (a b : Step) → a ≡ b → (a ≡ stepAt s c) × (Going s a)
+    → Reach (belowFrom chars) s from c → DeclarationAt s chars from c b
 declaration-at s chars from c a b e h r = declaration-of s chars from c r b (told s c a b e (h .0)) (goes s a b e (h .1))
 
 -- THE NEXT READING
@@ -276,7 +286,7 @@ ReadAt s chars c a step.End = ReadingIs s chars c a read.End
 
 -- The offset of a reading is small.
 abbrev pub Offset : Step → Type 0
-Offset (step.Reading k o l n) = o < 4294967296
+Offset (step.Reading k o l n) = o < 2 ^ 32
 Offset (step.Open x y n) = Unit {0}
 Offset (step.Attribute x y l n) = Unit {0}
 Offset (step.Declaration x y l n) = Unit {0}
@@ -293,7 +303,8 @@ module _ (s chars : List ℕ) (c : Cursor) (a : ℕ) where
   read-of : (x : Step) → Told s c x → Going s x → Fit s c → a ≤ mostPlace → Offset x → ReadAt s chars c a x
   unfolding restFrom readingsAt attributesAt declarationsAt eventsFrom
   read-of (step.Reading k o l n) h g f b d =
-      let w : Nearer (restFrom chars) s c c n = nearer (restFrom chars) s c c (reading k o l) n h g (reach-none (restFrom chars) s c f) refl in (
+      let w : Nearer (restFrom chars) s c c n = nearer (restFrom chars) s c c (reading k o l) n h g
+      (reach-none (restFrom chars) s c f) refl in (
         ap (readingsAt chars a) (sym (h .more)),
         record {
           rest = same-rest s chars c n (w .reach);

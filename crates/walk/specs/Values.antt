@@ -83,6 +83,11 @@ abbrev pub ValueFit : List ℕ → List ℕ → Cursor → FoundValue → Type 0
 ValueFit script chars from (found.At v) = Attributed script chars from v
 ValueFit script chars from (found.Nothing c) = Unattributed script chars from c
 
+-- Its readings can be asked for.
+abbrev pub Readable : List ℕ → FoundValue → Type 0
+Readable script (found.At v) = Fit script (v .own) × Fit script (v .behind)
+Readable script (found.Nothing c) = Unit {0}
+
 -- DECLARATIONS
 
 -- The declarations from the next one on.

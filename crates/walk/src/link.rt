@@ -24,7 +24,7 @@ ghost use Rattle.model.specs.Check.{mostBytes};
 ghost use Rattle.model.specs.Drawing.{events, attributeIn, iriOf, useHref, trefHref, firstWithId, linkedBy};
 ghost use Rattle.model.specs.Drawing.{leadsBack, usesIn, useTarget, quoted};
 ghost use Rattle.script.specs.Step.{Fit};
-ghost use Rattle.walk.specs.Values.{attributesIn, eventsAt, valueIn, ValueFit, partOf, PartFit};
+ghost use Rattle.walk.specs.Values.{attributesIn, eventsAt, valueIn, ValueFit, Readable, partOf, PartFit};
 ghost use Rattle.walk.specs.Nodes.{elementOf, nodeAt, Standing};
 ghost use Rattle.walk.specs.Links.{nodeOf, NodeFit, textsOf, Tested, sameParts, leadingId};
 
@@ -46,8 +46,8 @@ pub enum Asked {
 }
 
 // The IRI that the host has read in a value.
-fn iri_of(script: &[u8], characters: &[u8], from: Cursor, value: FoundValue) -> FoundPart
-    requires { ⌜ ValueFit (now script) (now characters) from value ⌝ }
+fn iri_of(script: &[u8], characters: &[u8], value: FoundValue) -> FoundPart
+    requires { ⌜ Readable (now script) value ⌝ }
     ensures same { λ r. ⌜ partOf (now (characters .entry)) r
         ≡ iriOf (valueIn (now (script .entry)) (now (characters .entry)) value) ⌝ }
     ensures fit { λ r. ⌜ PartFit r ⌝ }
@@ -71,10 +71,10 @@ fn href_of(script: &[u8], characters: &[u8], inside: Cursor, first: u8, second: 
 {
     let value = attribute_in(script, characters, inside, first, HREF);
     match value {
-        FoundValue::At(_) => iri_of(script, characters, inside, value),
+        FoundValue::At(_) => iri_of(script, characters, value),
         FoundValue::Nothing(_) => {
             let other = attribute_in(script, characters, inside, second, HREF);
-            iri_of(script, characters, inside, other)
+            iri_of(script, characters, other)
         }
     }
 }

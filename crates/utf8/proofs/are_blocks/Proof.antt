@@ -20,13 +20,18 @@ returns : tie.Need-returns
 returns c = sym (c .before .past-sequences .ensures .2 (c .if2 .taken)) ∙ c .before .past-sequences .ensures .1
 
 past-blocks-requires : tie.Need-past-blocks-requires
-past-blocks-requires c κs = ⊎-elim (λ w. (omega arith, omega arith, omega arith)) (λ w. (omega arith, omega arith, omega arith)) (c .if1 .came)
+past-blocks-requires c κs =
+    ⊎-elim (λ w. (omega arith, omega arith, omega arith)) (λ w. (omega arith, omega arith, omega arith)) (c .if1 .came)
 
 are-sequences-requires : tie.Need-are-sequences-requires
 are-sequences-requires c κs = search needs
 
 returns-2 : tie.Need-returns-2
-returns-2 c = c .are-sequences .ensures ∙ (c .before .past-blocks .ensures .1 ∙ ⊎-elim (λ w. ap (λ j. isUtf8From 0 (drop j (c .before .before .before .before .args .s .now))) (w .3) ∙ w .1 .ensures .1) (λ w. ap (λ j. isUtf8From 0 (drop j (c .before .before .before .before .args .s .now))) (w .1)) (c .before .before .if1 .came))
+returns-2 c =
+    c .are-sequences .ensures ∙ (c .before .past-blocks .ensures .1 ∙ ⊎-elim
+    (λ w. ap (λ j. isUtf8From 0 (drop j (c .before .before .before .before .args .s .now))) (w .3) ∙ w .1 .ensures .1)
+    (λ w. ap (λ j. isUtf8From 0 (drop j (c .before .before .before .before .args .s .now))) (w .1))
+    (c .before .before .if1 .came))
 
 pub are-blocks-spec : {M : Type 1} → statement M
 are-blocks-spec =

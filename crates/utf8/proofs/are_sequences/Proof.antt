@@ -10,7 +10,9 @@ past-sequences-requires : tie.Need-past-sequences-requires
 past-sequences-requires c κs = search needs
 
 returns : tie.Need-returns
-returns c = reach-end (c .before .before .args .s .now) (c .before .before .args .from) (c .past-sequences .result) (record { within = c .past-sequences .ensures .0; same = c .past-sequences .ensures .1 }) (c .past-sequences .ensures .2)
+returns c =
+    reach-end _ (c .before .before .args .from) _
+    (record { within = c .past-sequences .ensures .0; same = c .past-sequences .ensures .1 }) (c .past-sequences .ensures .2)
 
 pub are-sequences-spec : {M : Type 1} → statement M
 are-sequences-spec = tie.close (tie.spec past-sequences-requires returns)

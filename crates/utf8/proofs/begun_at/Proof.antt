@@ -29,10 +29,14 @@ shared-slice-read-if3 : tie.Need-shared-slice-read-if3
 shared-slice-read-if3 c = search needs
 
 returns-3 : tie.Need-returns-3
-returns-3 c = sym (begun-three _ _ _ (omega (arith, c .before .before .before .before .if1 .left)) (omega (arith, c .before .before .if2 .left)) (c .if3 .taken))
+returns-3 c =
+    sym (begun-three _ _ _ (omega (arith, c .before .before .before .before .if1 .left))
+    (omega (arith, c .before .before .if2 .left)) (c .if3 .taken))
 
 returns-4 : tie.Need-returns-4
-returns-4 c = sym (begun-none _ _ _ (omega (arith, c .before .before .before .before .if1 .left)) (omega (arith, c .before .before .if2 .left)) (omega (arith, c .if3 .left)))
+returns-4 c =
+    sym (begun-none _ _ _ (omega (arith, c .before .before .before .before .if1 .left))
+    (omega (arith, c .before .before .if2 .left)) (omega (arith, c .if3 .left)))
 
 pub begun-at-spec : {M : Type 1} → statement M
 begun-at-spec =

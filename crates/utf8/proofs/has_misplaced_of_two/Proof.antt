@@ -1,9 +1,8 @@
 use borrow.Author.Needs.{needs}
 use native.Mathlib.Omega.{arith}
 use mathlib.Core.Path.{_≡_, refl, subst, _∙_, ap}
-use Prim.Native.Nat.{_+_, _-_, _≤_}
-use lib.ListN.{getD}
-use Rattle.utf8.specs.Lead.{misplacedOfTwoIn, misplacedOfTwo, anyBelow}
+use Prim.Native.Nat.{_-_, _≤_}
+use Rattle.utf8.specs.Lead.{misplacedOfTwoIn, anyBelow}
 use Rattle.utf8.proofs.Blocks.{any-more}
 use Rattle.utf8.proofs.has_misplaced_of_two.Statement.{statement}
 use Rattle.utf8.proofs.has_misplaced_of_two.Tie as tie
@@ -51,10 +50,12 @@ loop-less : tie.Need-loop-less Inv-loop μ-loop
 loop-less c = search needs
 
 loop-again : tie.Need-loop-again Inv-loop μ-loop
-loop-again c = (omega arith, any-more (λ k. misplacedOfTwo (getD (c .before .before .before .before .before .before .args .s .now) (c .before .before .before .before .before .before .args .a + k + 2) 0) (getD (c .before .before .before .before .before .before .args .s .now) (c .before .before .before .before .before .before .args .a + k + 3) 0)) (c .before .before .before .before .loop .found) (c .is-misplaced-of-two .result) (c .before .before .before .before .loop .j) (c .before .before .before .before .loop .inv .1) (c .is-misplaced-of-two .ensures))
+loop-again c = (omega arith, any-more _ _ _ _ (c .before .before .before .before .loop .inv .1) (c .is-misplaced-of-two .ensures))
 
 returns : tie.Need-returns Inv-loop μ-loop
-returns c = c .before .loop .inv .1 ∙ ap (λ n. misplacedOfTwoIn (c .before .before .before .args .s .now) (c .before .before .before .args .a) n) (omega arith)
+returns c =
+    c .before .loop .inv .1
+    ∙ ap (λ n. misplacedOfTwoIn (c .before .before .before .args .s .now) (c .before .before .before .args .a) n) (omega arith)
 
 pub has-misplaced-of-two-spec : {M : Type 1} → statement M
 has-misplaced-of-two-spec =

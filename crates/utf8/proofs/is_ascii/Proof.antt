@@ -31,10 +31,15 @@ loop-less : tie.Need-loop-less Inv-loop μ-loop
 loop-less c = search needs
 
 loop-again : tie.Need-loop-again Inv-loop μ-loop
-loop-again c = (omega arith, ⊎-elim (λ w. counted-more (c .before .before .before .before .args .s .now) (c .before .before .before .before .args .i) (c .before .before .before .loop .n) (c .before .before .before .loop .j) (c .if1 .n) (c .before .before .before .loop .inv .1) (w .0 .taken) (w .1)) (λ w. counted-not (c .before .before .before .before .args .s .now) (c .before .before .before .before .args .i) (c .before .before .before .loop .n) (c .before .before .before .loop .j) (c .if1 .n) (c .before .before .before .loop .inv .1) (omega (arith, w .0 .left)) (w .1)) (c .if1 .came))
+loop-again c = (
+  omega arith,
+  ⊎-elim (λ w. counted-more _ _ _ _ (c .if1 .n) (c .before .before .before .loop .inv .1) (w .0 .taken) (w .1))
+      (λ w. counted-not _ _ _ _ (c .if1 .n) (c .before .before .before .loop .inv .1) (omega (arith, w .0 .left)) (w .1))
+      (c .if1 .came),
+)
 
 returns : tie.Need-returns Inv-loop μ-loop
-returns c = counted-all (c .before .before .args .s .now) (c .before .before .args .i) (c .before .loop .n) (c .before .loop .j) (c .before .before .args .size) (c .before .loop .inv .1) (omega arith)
+returns c = counted-all _ _ _ _ _ (c .before .loop .inv .1) (omega arith)
 
 pub is-ascii-spec : {M : Type 1} → statement M
 is-ascii-spec =

@@ -20,7 +20,9 @@ is-left-out-requires : tie.Need-is-left-out-requires
 is-left-out-requires c κs = search needs
 
 returns : tie.Need-returns
-returns c = rw (c .before .before .is-further .ensures, c .before .is-never .ensures, c .is-left-out .ensures) (misplaced-is (c .before .before .before .args .p3) (c .before .before .before .args .p2) (c .before .before .before .args .p1) (c .before .before .before .args .b) (omega arith))
+returns c =
+    rw (c .before .before .is-further .ensures, c .before .is-never .ensures, c .is-left-out .ensures)
+    (misplaced-is _ _ _ _ (omega arith))
 
 pub is-misplaced-spec : {M : Type 1} → statement M
 is-misplaced-spec =

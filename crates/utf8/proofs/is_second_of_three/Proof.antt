@@ -13,19 +13,25 @@ is-within-requires : tie.Need-is-within-requires
 is-within-requires c κs = search needs
 
 returns : tie.Need-returns
-returns c = c .is-within .ensures ∙ ap (λ r. isWithin (c .before .before .args .b) r) (sym (three-low (c .before .before .args .first) (c .before .before .pre) (c .before .if1 .taken)))
+returns c =
+    c .is-within .ensures
+    ∙ ap (λ r. isWithin (c .before .before .args .b) r) (sym (three-low _ (c .before .before .pre) (c .before .if1 .taken)))
 
 is-within-requires-2 : tie.Need-is-within-requires-2
 is-within-requires-2 c κs = search needs
 
 returns-2 : tie.Need-returns-2
-returns-2 c = c .is-within2 .ensures ∙ ap (λ r. isWithin (c .before .before .before .args .b) r) (sym (three-high (c .before .before .before .args .first) (c .before .before .before .pre) (c .before .if2 .taken)))
+returns-2 c =
+    c .is-within2 .ensures ∙ ap (λ r. isWithin (c .before .before .before .args .b) r)
+    (sym (three-high _ (c .before .before .before .pre) (c .before .if2 .taken)))
 
 is-within-requires-3 : tie.Need-is-within-requires-3
 is-within-requires-3 c κs = search needs
 
 returns-3 : tie.Need-returns-3
-returns-3 c = c .is-within3 .ensures ∙ ap (λ r. isWithin (c .before .before .before .args .b) r) (sym (three-wide (c .before .before .before .args .first) (c .before .before .before .pre) (c .before .before .if1 .left) (c .before .if2 .left)))
+returns-3 c =
+    c .is-within3 .ensures ∙ ap (λ r. isWithin (c .before .before .before .args .b) r)
+    (sym (three-wide _ (c .before .before .before .pre) (c .before .before .if1 .left) (c .before .if2 .left)))
 
 pub is-second-of-three-spec : {M : Type 1} → statement M
 is-second-of-three-spec =

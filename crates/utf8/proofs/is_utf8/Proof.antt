@@ -25,7 +25,9 @@ returns-2 c = c .is-utf8-from2 .ensures ∙ c .before .before .past-bytes .ensur
 
 returns-3 : tie.Need-returns-3
 unfolding isUtf8
-returns-3 c = reach-all (c .before .before .before .before .args .s .now) 0 (c .before .past-bytes .result) (record { within = c .before .past-bytes .ensures .1; same = c .before .past-bytes .ensures .2 }) (omega arith)
+returns-3 c =
+    reach-all _ 0 _ (record { within = c .before .past-bytes .ensures .1; same = c .before .past-bytes .ensures .2 })
+    (omega arith)
 
 pub is-utf8-spec : {M : Type 1} → statement M
 is-utf8-spec =

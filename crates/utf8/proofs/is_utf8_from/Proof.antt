@@ -14,7 +14,9 @@ past-ascii-requires : tie.Need-past-ascii-requires
 past-ascii-requires c κs = search needs
 
 returns : tie.Need-returns
-returns c = reach-all (c .before .before .before .args .s .now) (c .before .before .before .args .from) (c .before .past-ascii .result) (record { within = c .before .past-ascii .ensures .1; same = c .before .past-ascii .ensures .2 }) (omega arith)
+returns c =
+    reach-all _ (c .before .before .before .args .from) _
+    (record { within = c .before .past-ascii .ensures .1; same = c .before .past-ascii .ensures .2 }) (omega arith)
 
 are-sequences-requires : tie.Need-are-sequences-requires
 are-sequences-requires c κs = search needs

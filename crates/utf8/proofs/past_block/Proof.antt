@@ -23,7 +23,10 @@ add-result : tie.Need-add-result
 add-result c = search needs
 
 returns : tie.Need-returns
-returns c = let r : Reach (c .before .before .before .args .s .now) (c .before .before .before .args .i) ((c .before .before .before .args .i) + 32) = reach-block (c .before .before .before .args .s .now) (c .before .before .before .args .i) 32 (omega arith) (c .before .is-ascii .ensures .0 (c .if1 .taken)) in (omega arith, r .within, r .same)
+returns c =
+    let r : Reach _ _ _ = reach-block (c .before .before .before .args .s .now) _ 32 (omega arith)
+    (c .before .is-ascii .ensures .0 (c .if1 .taken)) in
+    (omega arith, r .within, r .same)
 
 sub-begun-at : tie.Need-sub-begun-at
 sub-begun-at c = search needs
@@ -59,10 +62,23 @@ begun-at-requires-2 : tie.Need-begun-at-requires-2
 begun-at-requires-2 c κs = search needs
 
 sub-result : tie.Need-sub-result
-sub-result c = omega (arith, c .begun-at2 .ensures, begun-most (c .before .before .before .before .before .before .before .before .args .s .now) ((c .before .before .before .before .before .before .before .before .args .i) + 29))
+sub-result c =
+    let args = c .before .before .before .before .before .before .before .before .args in
+    omega (arith, c .begun-at2 .ensures, begun-most (args .s .now) (args .i + 29))
 
 returns-4 : tie.Need-returns-4
-returns-4 c = let x : begunAt (c .before .before .before .before .before .before .before .before .args .s .now) ((c .before .before .before .before .before .before .before .before .args .i) + 32 - 3) ≡ c .begun-at2 .result = ap (λ n. begunAt (c .before .before .before .before .before .before .before .before .args .s .now) n) (let y : (c .before .before .before .before .before .before .before .before .args .i) + 32 - 3 ≡ (c .before .before .before .before .before .before .before .before .args .i) + 29 = omega arith in y) ∙ sym (c .begun-at2 .ensures) in let r : Reach (c .before .before .before .before .before .before .before .before .args .s .now) (c .before .before .before .before .before .before .before .before .args .i) ((c .before .before .before .before .before .before .before .before .args .i) + 32 - c .begun-at2 .result) = subst (λ n. Reach (c .before .before .before .before .before .before .before .before .args .s .now) (c .before .before .before .before .before .before .before .before .args .i) ((c .before .before .before .before .before .before .before .before .args .i) + 32 - n)) x (⊎-elim (λ w. block-reach (c .before .before .before .before .before .before .before .before .args .s .now) (c .before .before .before .before .before .before .before .before .args .i) 32 (omega arith) (omega arith) (sym (c .before .before .before .before .begun-at .ensures) ∙ omega (arith, c .before .before .before .if2 .left)) (sym (w .1 .ensures) ∙ w .2 .left)) (λ w. block-of-two-reach (c .before .before .before .before .before .before .before .before .args .s .now) (c .before .before .before .before .before .before .before .before .args .i) 32 (omega arith) (omega arith) (sym (c .before .before .before .before .begun-at .ensures) ∙ omega (arith, c .before .before .before .if2 .left)) (sym (c .before .before .has-misplaced-of-two .ensures) ∙ w .left)) (c .before .if3 .came)) in (omega (arith, c .begun-at2 .ensures, begun-most (c .before .before .before .before .before .before .before .before .args .s .now) ((c .before .before .before .before .before .before .before .before .args .i) + 29)), r .within, r .same)
+returns-4 c =
+    let at-if2 = c .before .before .before in
+    let args = at-if2 .before .before .before .before .before .args in
+    let x : begunAt (args .s .now) _ ≡ c .begun-at2 .result = ap (λ n. begunAt (args .s .now) n)
+    (let y : args .i + 32 - 3 ≡ args .i + 29 = omega arith in y) ∙ sym (c .begun-at2 .ensures) in
+    let r : Reach _ _ _ = subst (λ n. Reach (args .s .now) (args .i) (args .i + 32 - n)) x
+    (⊎-elim (λ w. block-reach _ _ 32 (omega arith) (omega arith)
+    (sym (at-if2 .before .begun-at .ensures) ∙ omega (arith, at-if2 .if2 .left)) (sym (w .1 .ensures) ∙ w .2 .left))
+    (λ w. block-of-two-reach _ _ 32 (omega arith) (omega arith)
+    (sym (at-if2 .before .begun-at .ensures) ∙ omega (arith, at-if2 .if2 .left))
+    (sym (c .before .before .has-misplaced-of-two .ensures) ∙ w .left)) (c .before .if3 .came)) in
+    (omega (arith, c .begun-at2 .ensures, begun-most (args .s .now) (args .i + 29)), r .within, r .same)
 
 pub past-block-spec : {M : Type 1} → statement M
 past-block-spec =

@@ -33,7 +33,13 @@ loop-less : tie.Need-loop-less Inv-loop μ-loop
 loop-less c = search needs
 
 loop-again : tie.Need-loop-again Inv-loop μ-loop
-loop-again c = (omega arith, record { within = c .before .past-block .ensures .1; same = c .before .past-block .ensures .2 ∙ c .before .before .before .loop .inv .1 .same })
+loop-again c = (
+  omega arith,
+  record {
+    within = c .before .past-block .ensures .1;
+    same = c .before .past-block .ensures .2 ∙ c .before .before .before .loop .inv .1 .same;
+  },
+)
 
 past-last-requires : tie.Need-past-last-requires Inv-loop μ-loop
 past-last-requires c κs = search needs

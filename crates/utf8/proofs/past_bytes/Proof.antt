@@ -1,6 +1,6 @@
 use native.Mathlib.Omega.{arith}
 use borrow.Author.Needs.{needs}
-use Prim.Native.Nat.{_+_, _-_, _≤_}
+use Prim.Native.Nat.{_-_, _≤_}
 use lib.ListN.{length}
 use Rattle.utf8.proofs.Ascii.{Reach, reach-none, reach-ascii, reach-join}
 use Rattle.utf8.proofs.past_bytes.Statement.{statement}
@@ -19,7 +19,9 @@ shared-slice-read-if1 : tie.Need-shared-slice-read-if1 Inv-loop μ-loop
 shared-slice-read-if1 c = search needs
 
 returns : tie.Need-returns Inv-loop μ-loop
-returns c = (c .before .before .before .loop .inv .0, c .before .before .before .loop .inv .1, c .before .before .before .loop .inv .2 .same)
+returns c =
+    let loop-inv = c .before .before .before .loop .inv in
+    (loop-inv .0, loop-inv .1, loop-inv .2 .same)
 
 add-i : tie.Need-add-i Inv-loop μ-loop
 add-i c = search needs
@@ -28,7 +30,11 @@ loop-less : tie.Need-loop-less Inv-loop μ-loop
 loop-less c = search needs
 
 loop-again : tie.Need-loop-again Inv-loop μ-loop
-loop-again c = (omega arith, omega arith, reach-join (c .before .before .before .before .args .s .now) (c .before .before .before .before .args .from) (c .before .before .before .loop .i) (c .before .before .before .loop .i + 1) (c .before .before .before .loop .inv .2) (reach-ascii (c .before .before .before .before .args .s .now) (c .before .before .before .loop .i) (omega arith) (c .if1 .left)))
+loop-again c = (
+  omega arith,
+  omega arith,
+  reach-join _ _ _ _ (c .before .before .before .loop .inv .2) (reach-ascii _ _ (omega arith) (c .if1 .left)),
+)
 
 returns-2 : tie.Need-returns-2 Inv-loop μ-loop
 returns-2 c = (c .before .loop .inv .0, c .before .loop .inv .1, c .before .loop .inv .2 .same)

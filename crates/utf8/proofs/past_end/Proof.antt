@@ -29,10 +29,22 @@ is-ascii-requires-2 : tie.Need-is-ascii-requires-2
 is-ascii-requires-2 c κs = search needs
 
 returns-3 : tie.Need-returns-3
-returns-3 c = let r : Rest (c .before .before .before .before .before .args .s .now) 16 (c .before .before .before .before .before .args .from) (c .before .before .if2 .i) = (⊎-elim (λ w. rest-block (c .before .before .before .before .before .args .s .now) 16 (c .before .before .before .before .before .args .from) 16 (c .before .before .if2 .i) (omega (arith, w .0 .taken)) (omega arith) (w .1 .ensures .0 (not-false _ (w .2 .left))) (w .3)) (λ w. rest-stay (c .before .before .before .before .before .args .s .now) 16 (c .before .before .before .before .before .args .from) (c .before .before .if2 .i) (omega arith) (omega (arith, w .0 .left)) (w .1)) (c .before .before .if2 .came)) in (omega arith, omega arith, rest-all (c .before .before .before .before .before .args .s .now) 16 (c .before .before .before .before .before .args .from) (c .before .before .if2 .i) r (omega arith) (c .before .is-ascii2 .ensures .0 (c .if4 .taken)) .same)
+returns-3 c =
+    let r : Rest _ 16 _ _ = ⊎-elim
+    (λ w. rest-block _ 16 _ 16 _ (omega (arith, w .0 .taken)) (omega arith) (w .1 .ensures .0 (not-false _ (w .2 .left))) (w .3))
+    (λ w.
+    rest-stay (c .before .before .before .before .before .args .s .now) 16 _ _ (omega arith) (omega (arith, w .0 .left)) (w .1))
+    (c .before .before .if2 .came) in
+    (omega arith, omega arith, (rest-all _ 16 _ _ r (omega arith) (c .before .is-ascii2 .ensures .0 (c .if4 .taken))) .same)
 
 returns-4 : tie.Need-returns-4
-returns-4 c = let r : Rest (c .before .before .before .before .before .args .s .now) 16 (c .before .before .before .before .before .args .from) (c .before .before .if2 .i) = (⊎-elim (λ w. rest-block (c .before .before .before .before .before .args .s .now) 16 (c .before .before .before .before .before .args .from) 16 (c .before .before .if2 .i) (omega (arith, w .0 .taken)) (omega arith) (w .1 .ensures .0 (not-false _ (w .2 .left))) (w .3)) (λ w. rest-stay (c .before .before .before .before .before .args .s .now) 16 (c .before .before .before .before .before .args .from) (c .before .before .if2 .i) (omega arith) (omega (arith, w .0 .left)) (w .1)) (c .before .before .if2 .came)) in (r .begun, r .reach .within, r .reach .same)
+returns-4 c =
+    let r : Rest _ 16 _ _ = ⊎-elim
+    (λ w. rest-block _ 16 _ 16 _ (omega (arith, w .0 .taken)) (omega arith) (w .1 .ensures .0 (not-false _ (w .2 .left))) (w .3))
+    (λ w.
+    rest-stay (c .before .before .before .before .before .args .s .now) 16 _ _ (omega arith) (omega (arith, w .0 .left)) (w .1))
+    (c .before .before .if2 .came) in
+    (r .begun, r .reach .within, r .reach .same)
 
 pub past-end-spec : {M : Type 1} → statement M
 past-end-spec =

@@ -38,10 +38,18 @@ begun-at-requires-2 : tie.Need-begun-at-requires-2
 begun-at-requires-2 c κs = search needs
 
 sub-result : tie.Need-sub-result
-sub-result c = omega (arith, c .begun-at2 .ensures, begun-most (c .before .before .before .before .before .before .args .s .now) (length (c .before .before .before .before .before .before .args .s .now) - 3))
+sub-result c =
+    let s = c .before .before .before .before .before .before .args .s .now in
+    omega (arith, c .begun-at2 .ensures, begun-most s (length s - 3))
 
 returns-3 : tie.Need-returns-3
-returns-3 c = let r : Reach (c .before .before .before .before .before .before .args .s .now) (c .before .before .before .before .before .before .args .i) (length (c .before .before .before .before .before .before .args .s .now) - c .begun-at2 .result) = subst (λ n. Reach (c .before .before .before .before .before .before .args .s .now) (c .before .before .before .before .before .before .args .i) (length (c .before .before .before .before .before .before .args .s .now) - n)) (sym (c .begun-at2 .ensures)) (last-reach (c .before .before .before .before .before .before .args .s .now) (c .before .before .before .before .before .before .args .i) 32 (omega arith) (omega arith) (omega arith) (omega arith) (sym (c .before .before .before .before .begun-at .ensures) ∙ omega (arith, c .before .before .before .if1 .left)) (sym (c .before .before .has-misplaced .ensures) ∙ c .before .if2 .left)) in (r .within, r .same)
+returns-3 c =
+    let s = c .before .before .before .before .before .before .args .s .now in
+    let r : Reach _ _ _ = subst (λ n. Reach s (c .before .before .before .before .before .before .args .i) (length s - n))
+    (sym (c .begun-at2 .ensures)) (last-reach _ _ 32 (omega arith) (omega arith) (omega arith) (omega arith)
+    (sym (c .before .before .before .before .begun-at .ensures) ∙ omega (arith, c .before .before .before .if1 .left))
+    (sym (c .before .before .has-misplaced .ensures) ∙ c .before .if2 .left)) in
+    (r .within, r .same)
 
 pub past-last-spec : {M : Type 1} → statement M
 past-last-spec =

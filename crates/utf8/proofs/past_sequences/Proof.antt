@@ -1,6 +1,6 @@
 use native.Mathlib.Omega.{arith}
 use borrow.Author.Needs.{needs}
-use Prim.Native.Nat.{_+_, _-_, _≤_}
+use Prim.Native.Nat.{_-_, _≤_}
 use lib.ListN.{length}
 use Rattle.utf8.proofs.Ascii.{Reach, reach-none, reach-on, reach-bad, reach-join}
 use Rattle.utf8.proofs.past_sequences.Statement.{statement}
@@ -22,16 +22,32 @@ sequence-at-requires : tie.Need-sequence-at-requires Inv-loop μ-loop
 sequence-at-requires c κs = search needs
 
 returns : tie.Need-returns Inv-loop μ-loop
-returns c = (c .before .before .before .loop .inv .within, c .before .before .before .loop .inv .same, λ l. reach-bad (c .before .before .before .before .before .args .s .now) (c .before .before .before .loop .i) (omega arith) (c .before .sequence-at .result) (c .before .sequence-at .ensures) (c .if1 .taken))
+returns c = (
+  c .before .before .before .loop .inv .within,
+  c .before .before .before .loop .inv .same,
+  λ l. reach-bad _ (c .before .before .before .loop .i) (omega arith) _ (c .before .sequence-at .ensures) (c .if1 .taken),
+)
 
 add-i : tie.Need-add-i Inv-loop μ-loop
-add-i c = omega (arith, (reach-join (c .before .before .before .before .before .args .s .now) (c .before .before .before .before .before .args .from) (c .before .before .before .loop .i) (c .before .before .before .loop .i + c .before .sequence-at .result) (c .before .before .before .loop .inv) (reach-on (c .before .before .before .before .before .args .s .now) (c .before .before .before .loop .i) (omega arith) (c .before .sequence-at .result) (c .before .sequence-at .ensures) (c .if1 .left))) .within)
+add-i c =
+    omega (
+      arith,
+      (reach-join _ _ _ _ (c .before .before .before .loop .inv)
+          (reach-on _ _ (omega arith) _ (c .before .sequence-at .ensures) (c .if1 .left))) .within,
+    )
 
 loop-less : tie.Need-loop-less Inv-loop μ-loop
-loop-less c = omega (arith, (reach-join (c .before .before .before .before .before .args .s .now) (c .before .before .before .before .before .args .from) (c .before .before .before .loop .i) (c .before .before .before .loop .i + c .before .sequence-at .result) (c .before .before .before .loop .inv) (reach-on (c .before .before .before .before .before .args .s .now) (c .before .before .before .loop .i) (omega arith) (c .before .sequence-at .result) (c .before .sequence-at .ensures) (c .if1 .left))) .within)
+loop-less c =
+    omega (
+      arith,
+      (reach-join _ _ _ _ (c .before .before .before .loop .inv)
+          (reach-on _ _ (omega arith) _ (c .before .sequence-at .ensures) (c .if1 .left))) .within,
+    )
 
 loop-again : tie.Need-loop-again Inv-loop μ-loop
-loop-again c = (reach-join (c .before .before .before .before .before .args .s .now) (c .before .before .before .before .before .args .from) (c .before .before .before .loop .i) (c .before .before .before .loop .i + c .before .sequence-at .result) (c .before .before .before .loop .inv) (reach-on (c .before .before .before .before .before .args .s .now) (c .before .before .before .loop .i) (omega arith) (c .before .sequence-at .result) (c .before .sequence-at .ensures) (c .if1 .left)))
+loop-again c =
+    reach-join _ _ _ _ (c .before .before .before .loop .inv)
+    (reach-on _ _ (omega arith) _ (c .before .sequence-at .ensures) (c .if1 .left))
 
 returns-2 : tie.Need-returns-2 Inv-loop μ-loop
 returns-2 c = (c .before .loop .inv .within, c .before .loop .inv .same, λ l. absurd (omega arith))

@@ -16,7 +16,9 @@ sub-if1 : tie.Need-sub-if1
 sub-if1 c = search needs
 
 returns : tie.Need-returns
-returns c = cut (c .before .before .args .s .now) (c .before .before .args .i) 2 (c .before .before .pre .0) (first-most (getD (c .before .before .args .s .now) (c .before .before .args .i) 0) 1 (c .before .before .pre .1)) (sym (c .before .before .pre .1)) (omega arith)
+returns c =
+    cut _ _ 2 (c .before .before .pre .0) (first-most _ 1 (c .before .before .pre .1)) (sym (c .before .before .pre .1))
+    (omega arith)
 
 add-is-within : tie.Need-add-is-within
 add-is-within c = search needs
@@ -28,10 +30,22 @@ is-within-requires : tie.Need-is-within-requires
 is-within-requires c κs = search needs
 
 returns-2 : tie.Need-returns-2
-returns-2 c = bad-second (c .before .before .before .before .before .args .s .now) (c .before .before .before .before .before .args .i) 2 (c .before .before .before .before .before .pre .0) (first-most (getD (c .before .before .before .before .before .args .s .now) (c .before .before .before .before .before .args .i) 0) 1 (c .before .before .before .before .before .pre .1)) (sym (c .before .before .before .before .before .pre .1)) (omega arith) (omega arith) ((ap (λ r. isWithin (getD (c .before .before .before .before .before .args .s .now) (c .before .before .before .before .before .args .i + 1) 0) r) (second-of-two (getD (c .before .before .before .before .before .args .s .now) (c .before .before .before .before .before .args .i) 0) (c .before .before .before .before .before .pre .1)) ∙ sym (c .before .is-within .ensures)) ∙ not-true _ (c .if2 .taken))
+returns-2 c =
+    let at-pre = c .before .before .before .before .before in
+    bad-second _ _ 2 (at-pre .pre .0) (first-most _ 1 (at-pre .pre .1)) (sym (at-pre .pre .1)) (omega arith) (omega arith)
+    ((ap (λ r. isWithin (getD (at-pre .args .s .now) (at-pre .args .i + 1) 0) r) (second-of-two _ (at-pre .pre .1))
+    ∙ sym (c .before .is-within .ensures)) ∙ not-true _ (c .if2 .taken))
 
 returns-3 : tie.Need-returns-3
-returns-3 c = two (c .before .before .before .before .before .args .s .now) (c .before .before .before .before .before .args .i) 2 (c .before .before .before .before .before .pre .0) (first-most (getD (c .before .before .before .before .before .args .s .now) (c .before .before .before .before .before .args .i) 0) 1 (c .before .before .before .before .before .pre .1)) (sym (c .before .before .before .before .before .pre .1)) (record { room = omega arith; size = omega arith; fits = (ap (λ r. isWithin (getD (c .before .before .before .before .before .args .s .now) (c .before .before .before .before .before .args .i + 1) 0) r) (second-of-two (getD (c .before .before .before .before .before .args .s .now) (c .before .before .before .before .before .args .i) 0) (c .before .before .before .before .before .pre .1)) ∙ sym (c .before .is-within .ensures)) ∙ not-false _ (c .if2 .left) }) (omega arith)
+returns-3 c =
+    let at-pre = c .before .before .before .before .before in
+    two _ _ 2 (at-pre .pre .0) (first-most _ 1 (at-pre .pre .1)) (sym (at-pre .pre .1))
+    (record {
+      room = omega arith;
+      size = omega arith;
+      fits = (ap (λ r. isWithin (getD (at-pre .args .s .now) (at-pre .args .i + 1) 0) r) (second-of-two _ (at-pre .pre .1))
+          ∙ sym (c .before .is-within .ensures)) ∙ not-false _ (c .if2 .left);
+    }) (omega arith)
 
 pub two-at-spec : {M : Type 1} → statement M
 two-at-spec =

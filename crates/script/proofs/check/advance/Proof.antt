@@ -1,8 +1,8 @@
 use native.Mathlib.Omega.{arith}
 use mathlib.Core.Path.{_≡_, sym, _∙_}
 use mathlib.Core.List.{[]}
-use Rattle.model.specs.Drawing.{opening, attribute, declaration, reading, text, other, closing, broken}
-use Rattle.script.specs.declared.cursor.Step.the-variants.{Open, Attribute, Declaration, Reading, Text, Other, Close, Broken, End}
+use Rattle.model.specs.Drawing.{other, closing}
+use Rattle.script.specs.declared.cursor.Step.the-variants.{End}
 use Rattle.script.proofs.Commands.{told, goes}
 use Rattle.script.proofs.Judging.{turning, stops, ends}
 use borrow.Author.Needs.{needs}
@@ -88,31 +88,66 @@ judge-end-requires : tie.Need-judge-end-requires
 judge-end-requires c κs = search needs
 
 returns : tie.Need-returns
-returns c = λ ks h. turning (c .before .before .before .before .before .before .before .before .args .script .now) (c .before .before .before .before .before .before .before .before .args .characters .now) (c .before .before .before .before .before .before .before .before .args .s) (c .before .before .before .before .before .before .before .before .args .c) ks (opening (c .before .before .before .name .given .0 .0) (c .before .before .before .name .given .0 .1 .0)) (c .before .before .before .name .given .0 .1 .1 .0) (c .before .judge-open .result) (c .onward .result) (told (c .before .before .before .before .before .before .before .before .args .script .now) (c .before .before .before .before .before .before .before .before .args .c) (c .before .before .before .before .before .next .result) (Open (c .before .before .before .name .given .0 .0) (c .before .before .before .name .given .0 .1 .0) (c .before .before .before .name .given .0 .1 .1 .0)) (c .before .before .before .name .given .1) (c .before .before .before .before .before .next .ensures .0)) (goes (c .before .before .before .before .before .before .before .before .args .script .now) (c .before .before .before .before .before .next .result) (Open (c .before .before .before .name .given .0 .0) (c .before .before .before .name .given .0 .1 .0) (c .before .before .before .name .given .0 .1 .1 .0)) (c .before .before .before .name .given .1) (c .before .before .before .before .before .next .ensures .1)) (c .before .judge-open .ensures (c .before .before .before .before .before .before .before .before .args .characters .now) ((c .before .before .before .before .before .before .before .before .args .c) .chars) ks h) (c .onward .ensures)
+returns c =
+    λ ks h. turning _ _ _ _ ks _ _ (c .before .judge-open .result) _
+    (told _ _ _ _ (c .before .before .before .name .given .1) (c .before .before .before .before .before .next .ensures .0))
+    (goes _ _ _ (c .before .before .before .name .given .1) (c .before .before .before .before .before .next .ensures .1))
+    (c .before .judge-open .ensures _ _ ks h) (c .onward .ensures)
 
 returns-2 : tie.Need-returns-2
-returns-2 c = λ ks h. turning (c .before .before .before .before .before .before .before .before .args .script .now) (c .before .before .before .before .before .before .before .before .args .characters .now) (c .before .before .before .before .before .before .before .before .args .s) (c .before .before .before .before .before .before .before .before .args .c) ks (attribute (c .before .before .before .name2 .given .0 .0) (c .before .before .before .name2 .given .0 .1 .0) (c .before .before .before .name2 .given .0 .1 .1 .0)) (c .before .before .before .name2 .given .0 .1 .1 .1 .0) (c .before .judge-attribute .result) (c .onward2 .result) (told (c .before .before .before .before .before .before .before .before .args .script .now) (c .before .before .before .before .before .before .before .before .args .c) (c .before .before .before .before .before .next .result) (Attribute (c .before .before .before .name2 .given .0 .0) (c .before .before .before .name2 .given .0 .1 .0) (c .before .before .before .name2 .given .0 .1 .1 .0) (c .before .before .before .name2 .given .0 .1 .1 .1 .0)) (c .before .before .before .name2 .given .1) (c .before .before .before .before .before .next .ensures .0)) (goes (c .before .before .before .before .before .before .before .before .args .script .now) (c .before .before .before .before .before .next .result) (Attribute (c .before .before .before .name2 .given .0 .0) (c .before .before .before .name2 .given .0 .1 .0) (c .before .before .before .name2 .given .0 .1 .1 .0) (c .before .before .before .name2 .given .0 .1 .1 .1 .0)) (c .before .before .before .name2 .given .1) (c .before .before .before .before .before .next .ensures .1)) (c .before .judge-attribute .ensures ks h) (c .onward2 .ensures)
+returns-2 c =
+    λ ks h. turning _ _ _ _ ks _ _ (c .before .judge-attribute .result) _
+    (told _ _ _ _ (c .before .before .before .name2 .given .1) (c .before .before .before .before .before .next .ensures .0))
+    (goes _ _ _ (c .before .before .before .name2 .given .1) (c .before .before .before .before .before .next .ensures .1))
+    (c .before .judge-attribute .ensures ks h) (c .onward2 .ensures)
 
 returns-3 : tie.Need-returns-3
-returns-3 c = λ ks h. turning (c .before .before .before .before .before .before .before .before .args .script .now) (c .before .before .before .before .before .before .before .before .args .characters .now) (c .before .before .before .before .before .before .before .before .args .s) (c .before .before .before .before .before .before .before .before .args .c) ks (declaration (c .before .before .before .name3 .given .0 .0) (c .before .before .before .name3 .given .0 .1 .0) (c .before .before .before .name3 .given .0 .1 .1 .0)) (c .before .before .before .name3 .given .0 .1 .1 .1 .0) (c .before .judge-declaration .result) (c .onward3 .result) (told (c .before .before .before .before .before .before .before .before .args .script .now) (c .before .before .before .before .before .before .before .before .args .c) (c .before .before .before .before .before .next .result) (Declaration (c .before .before .before .name3 .given .0 .0) (c .before .before .before .name3 .given .0 .1 .0) (c .before .before .before .name3 .given .0 .1 .1 .0) (c .before .before .before .name3 .given .0 .1 .1 .1 .0)) (c .before .before .before .name3 .given .1) (c .before .before .before .before .before .next .ensures .0)) (goes (c .before .before .before .before .before .before .before .before .args .script .now) (c .before .before .before .before .before .next .result) (Declaration (c .before .before .before .name3 .given .0 .0) (c .before .before .before .name3 .given .0 .1 .0) (c .before .before .before .name3 .given .0 .1 .1 .0) (c .before .before .before .name3 .given .0 .1 .1 .1 .0)) (c .before .before .before .name3 .given .1) (c .before .before .before .before .before .next .ensures .1)) (c .before .judge-declaration .ensures ks h) (c .onward3 .ensures)
+returns-3 c =
+    λ ks h. turning _ _ _ _ ks _ _ (c .before .judge-declaration .result) _
+    (told _ _ _ _ (c .before .before .before .name3 .given .1) (c .before .before .before .before .before .next .ensures .0))
+    (goes _ _ _ (c .before .before .before .name3 .given .1) (c .before .before .before .before .before .next .ensures .1))
+    (c .before .judge-declaration .ensures ks h) (c .onward3 .ensures)
 
 returns-4 : tie.Need-returns-4
-returns-4 c = λ ks h. turning (c .before .before .before .before .before .before .before .before .args .script .now) (c .before .before .before .before .before .before .before .before .args .characters .now) (c .before .before .before .before .before .before .before .before .args .s) (c .before .before .before .before .before .before .before .before .args .c) ks (reading (c .before .before .before .kind .given .0 .0) (c .before .before .before .kind .given .0 .1 .0) (c .before .before .before .kind .given .0 .1 .1 .0)) (c .before .before .before .kind .given .0 .1 .1 .1 .0) (c .before .judge-reading .result) (c .onward4 .result) (told (c .before .before .before .before .before .before .before .before .args .script .now) (c .before .before .before .before .before .before .before .before .args .c) (c .before .before .before .before .before .next .result) (Reading (c .before .before .before .kind .given .0 .0) (c .before .before .before .kind .given .0 .1 .0) (c .before .before .before .kind .given .0 .1 .1 .0) (c .before .before .before .kind .given .0 .1 .1 .1 .0)) (c .before .before .before .kind .given .1) (c .before .before .before .before .before .next .ensures .0)) (goes (c .before .before .before .before .before .before .before .before .args .script .now) (c .before .before .before .before .before .next .result) (Reading (c .before .before .before .kind .given .0 .0) (c .before .before .before .kind .given .0 .1 .0) (c .before .before .before .kind .given .0 .1 .1 .0) (c .before .before .before .kind .given .0 .1 .1 .1 .0)) (c .before .before .before .kind .given .1) (c .before .before .before .before .before .next .ensures .1)) (c .before .judge-reading .ensures ((c .before .before .before .before .before .before .before .before .args .c) .chars) ks h) (c .onward4 .ensures)
+returns-4 c =
+    λ ks h. turning _ _ _ _ ks _ _ (c .before .judge-reading .result) _
+    (told _ _ _ _ (c .before .before .before .kind .given .1) (c .before .before .before .before .before .next .ensures .0))
+    (goes _ _ _ (c .before .before .before .kind .given .1) (c .before .before .before .before .before .next .ensures .1))
+    (c .before .judge-reading .ensures _ ks h) (c .onward4 .ensures)
 
 returns-5 : tie.Need-returns-5
-returns-5 c = λ ks h. turning (c .before .before .before .before .before .before .before .before .args .script .now) (c .before .before .before .before .before .before .before .before .args .characters .now) (c .before .before .before .before .before .before .before .before .args .s) (c .before .before .before .before .before .before .before .before .args .c) ks (text (c .before .before .before .len .given .0 .0)) (c .before .before .before .len .given .0 .1 .0) (c .before .judge-text .result) (c .onward5 .result) (told (c .before .before .before .before .before .before .before .before .args .script .now) (c .before .before .before .before .before .before .before .before .args .c) (c .before .before .before .before .before .next .result) (Text (c .before .before .before .len .given .0 .0) (c .before .before .before .len .given .0 .1 .0)) (c .before .before .before .len .given .1) (c .before .before .before .before .before .next .ensures .0)) (goes (c .before .before .before .before .before .before .before .before .args .script .now) (c .before .before .before .before .before .next .result) (Text (c .before .before .before .len .given .0 .0) (c .before .before .before .len .given .0 .1 .0)) (c .before .before .before .len .given .1) (c .before .before .before .before .before .next .ensures .1)) (c .before .judge-text .ensures ks h) (c .onward5 .ensures)
+returns-5 c =
+    λ ks h. turning _ _ _ _ ks _ _ (c .before .judge-text .result) _
+    (told _ _ _ _ (c .before .before .before .len .given .1) (c .before .before .before .before .before .next .ensures .0))
+    (goes _ _ _ (c .before .before .before .len .given .1) (c .before .before .before .before .before .next .ensures .1))
+    (c .before .judge-text .ensures ks h) (c .onward5 .ensures)
 
 returns-6 : tie.Need-returns-6
-returns-6 c = λ ks h. turning (c .before .before .before .before .before .before .before .before .args .script .now) (c .before .before .before .before .before .before .before .before .args .characters .now) (c .before .before .before .before .before .before .before .before .args .s) (c .before .before .before .before .before .before .before .before .args .c) ks other (c .before .before .before .n .given .0 .0) (c .before .judge-other .result) (c .onward6 .result) (told (c .before .before .before .before .before .before .before .before .args .script .now) (c .before .before .before .before .before .before .before .before .args .c) (c .before .before .before .before .before .next .result) (Other (c .before .before .before .n .given .0 .0)) (c .before .before .before .n .given .1) (c .before .before .before .before .before .next .ensures .0)) (goes (c .before .before .before .before .before .before .before .before .args .script .now) (c .before .before .before .before .before .next .result) (Other (c .before .before .before .n .given .0 .0)) (c .before .before .before .n .given .1) (c .before .before .before .before .before .next .ensures .1)) (c .before .judge-other .ensures (c .before .before .before .before .before .before .before .before .args .characters .now) ((c .before .before .before .before .before .before .before .before .args .c) .chars) ks h) (c .onward6 .ensures)
+returns-6 c =
+    λ ks h. turning _ _ _ _ ks other _ (c .before .judge-other .result) _
+    (told _ _ _ _ (c .before .before .before .n .given .1) (c .before .before .before .before .before .next .ensures .0))
+    (goes _ _ _ (c .before .before .before .n .given .1) (c .before .before .before .before .before .next .ensures .1))
+    (c .before .judge-other .ensures _ _ ks h) (c .onward6 .ensures)
 
 returns-7 : tie.Need-returns-7
-returns-7 c = λ ks h. turning (c .before .before .before .before .before .before .before .before .args .script .now) (c .before .before .before .before .before .before .before .before .args .characters .now) (c .before .before .before .before .before .before .before .before .args .s) (c .before .before .before .before .before .before .before .before .args .c) ks closing (c .before .before .before .n2 .given .0 .0) (c .before .judge-close .result) (c .onward7 .result) (told (c .before .before .before .before .before .before .before .before .args .script .now) (c .before .before .before .before .before .before .before .before .args .c) (c .before .before .before .before .before .next .result) (Close (c .before .before .before .n2 .given .0 .0)) (c .before .before .before .n2 .given .1) (c .before .before .before .before .before .next .ensures .0)) (goes (c .before .before .before .before .before .before .before .before .args .script .now) (c .before .before .before .before .before .next .result) (Close (c .before .before .before .n2 .given .0 .0)) (c .before .before .before .n2 .given .1) (c .before .before .before .before .before .next .ensures .1)) (c .before .judge-close .ensures (c .before .before .before .before .before .before .before .before .args .characters .now) ((c .before .before .before .before .before .before .before .before .args .c) .chars) ks h) (c .onward7 .ensures)
+returns-7 c =
+    λ ks h. turning _ _ _ _ ks closing _ (c .before .judge-close .result) _
+    (told _ _ _ _ (c .before .before .before .n2 .given .1) (c .before .before .before .before .before .next .ensures .0))
+    (goes _ _ _ (c .before .before .before .n2 .given .1) (c .before .before .before .before .before .next .ensures .1))
+    (c .before .judge-close .ensures _ _ ks h) (c .onward7 .ensures)
 
 returns-8 : tie.Need-returns-8
-returns-8 c = λ ks h. stops (c .before .before .before .before .before .before .before .args .script .now) (c .before .before .before .before .before .before .before .args .characters .now) (c .before .before .before .before .before .before .before .args .s) (c .before .before .before .before .before .before .before .args .c) ks (broken (c .before .before .b .given .0 .0)) [] (c .judge-broken .result) (told (c .before .before .before .before .before .before .before .args .script .now) (c .before .before .before .before .before .before .before .args .c) (c .before .before .before .before .next .result) (Broken (c .before .before .b .given .0 .0)) (c .before .before .b .given .1) (c .before .before .before .before .next .ensures .0)) (c .judge-broken .ensures (c .before .before .before .before .before .before .before .args .characters .now) ((c .before .before .before .before .before .before .before .args .c) .chars) ks h .0) (c .judge-broken .ensures (c .before .before .before .before .before .before .before .args .characters .now) ((c .before .before .before .before .before .before .before .args .c) .chars) ks h .1)
+returns-8 c =
+    let args = c .before .before .before .before .before .before .before .args in
+    λ ks h. stops _ _ (args .s) _ ks _ [] _
+    (told _ _ _ _ (c .before .before .b .given .1) (c .before .before .before .before .next .ensures .0))
+    ((c .judge-broken .ensures (args .characters .now) (args .c .chars) ks h) .0)
+    ((c .judge-broken .ensures (args .characters .now) (args .c .chars) ks h) .1)
 
 returns-9 : tie.Need-returns-9
-returns-9 c = λ ks h. ends (c .before .before .before .before .before .before .args .script .now) (c .before .before .before .before .before .before .args .characters .now) (c .before .before .before .before .before .before .args .s) (c .before .before .before .before .before .before .args .c) ks (c .judge-end .result) (told (c .before .before .before .before .before .before .args .script .now) (c .before .before .before .before .before .before .args .c) (c .before .before .before .next .result) End (c .before .enum-told .given .1) (c .before .before .before .next .ensures .0)) (c .judge-end .ensures ks h)
+returns-9 c =
+    λ ks h. ends _ _ (c .before .before .before .before .before .before .args .s) _ ks _
+    (told _ _ _ End (c .before .enum-told .given .1) (c .before .before .before .next .ensures .0)) (c .judge-end .ensures ks h)
 
 pub advance-spec : {M : Type 1} → statement M
 advance-spec =

@@ -16,10 +16,10 @@ abbrev μ-loop : tie.MeasureT-loop
 μ-loop script characters s₀ c₀ s c = length script - c .at
 
 returns : tie.Need-returns Inv-loop μ-loop
-returns c = too-long (c .before .before .before .args .script .now) (c .before .before .before .args .characters .now) (c .if1 .taken)
+returns c = too-long _ _ (c .if1 .taken)
 
 returns-2 : tie.Need-returns-2 Inv-loop μ-loop
-returns-2 c = too-many (c .before .before .before .before .args .script .now) (c .before .before .before .before .args .characters .now) (c .before .if1 .left) (c .if2 .taken)
+returns-2 c = too-many _ _ (c .before .if1 .left) (c .if2 .taken)
 
 start-requires : tie.Need-start-requires Inv-loop μ-loop
 start-requires c κs = search needs
@@ -28,7 +28,9 @@ start-requires-2 : tie.Need-start-requires-2 Inv-loop μ-loop
 start-requires-2 c κs = search needs
 
 loop-holds : tie.Need-loop-holds Inv-loop μ-loop
-loop-holds c = checking (c .before .before .before .before .before .before .args .script .now) (c .before .before .before .before .before .before .args .characters .now) (c .before .start .result) (c .start2 .result) (c .before .before .before .if1 .left) (c .before .before .if2 .left) (c .before .start .ensures) (c .start2 .ensures)
+loop-holds c =
+    checking _ _ _ _ (c .before .before .before .if1 .left) (c .before .before .if2 .left) (c .before .start .ensures)
+    (c .start2 .ensures)
 
 advance-requires : tie.Need-advance-requires Inv-loop μ-loop
 advance-requires c κs = ((c .loop .inv) .fit, (c .loop .inv) .inside)
@@ -37,16 +39,30 @@ enum-known-next : tie.Need-enum-known-next Inv-loop μ-loop
 enum-known-next c = search needs
 
 loop-less : tie.Need-loop-less Inv-loop μ-loop
-loop-less c = omega (arith, (subst (λ r. Turned (c .before .before .before .before .before .before .before .before .before .before .before .args .script .now) (c .before .before .before .before .before .before .before .before .before .before .before .args .characters .now) (c .before .before .before .before .loop .s) (c .before .before .before .before .loop .c) ((c .before .before .before .before .loop .inv) .kinds) r) (c .before .next .given .1) (c .before .before .before .advance .ensures ((c .before .before .before .before .loop .inv) .kinds) ((c .before .before .before .before .loop .inv) .held))) .further, (subst (λ r. Turned (c .before .before .before .before .before .before .before .before .before .before .before .args .script .now) (c .before .before .before .before .before .before .before .before .before .before .before .args .characters .now) (c .before .before .before .before .loop .s) (c .before .before .before .before .loop .c) ((c .before .before .before .before .loop .inv) .kinds) r) (c .before .next .given .1) (c .before .before .before .advance .ensures ((c .before .before .before .before .loop .inv) .kinds) ((c .before .before .before .before .loop .inv) .held))) .fit .at)
+loop-less c =
+    let loop = c .before .before .before .before .loop in
+    let args = c .before .before .before .before .before .before .before .before .before .before .before .args in
+    let the-subst = subst (λ r. Turned (args .script .now) (args .characters .now) (loop .s) (loop .c) (loop .inv .kinds) r)
+    (c .before .next .given .1) (c .before .before .before .advance .ensures _ (loop .inv .held)) in
+    omega (arith, the-subst .further, the-subst .fit .at)
 
 loop-again : tie.Need-loop-again Inv-loop μ-loop
-loop-again c = checking-on (c .before .before .before .before .before .before .before .before .before .before .before .args .script .now) (c .before .before .before .before .before .before .before .before .before .before .before .args .characters .now) (c .before .before .before .before .loop .s) (c .before .before .before .before .loop .c) (c .before .before .before .before .loop .inv) _ _ (subst (λ r. Turned (c .before .before .before .before .before .before .before .before .before .before .before .args .script .now) (c .before .before .before .before .before .before .before .before .before .before .before .args .characters .now) (c .before .before .before .before .loop .s) (c .before .before .before .before .loop .c) ((c .before .before .before .before .loop .inv) .kinds) r) (c .before .next .given .1) (c .before .before .before .advance .ensures ((c .before .before .before .before .loop .inv) .kinds) ((c .before .before .before .before .loop .inv) .held)))
+loop-again c =
+    let loop = c .before .before .before .before .loop in
+    let args = c .before .before .before .before .before .before .before .before .before .before .before .args in
+    checking-on _ _ _ _ (loop .inv) _ _ (subst
+    (λ r. Turned (args .script .now) (args .characters .now) (loop .s) (loop .c) (loop .inv .kinds) r) (c .before .next .given .1)
+    (c .before .before .before .advance .ensures _ (loop .inv .held)))
 
 enum-known-n : tie.Need-enum-known-n Inv-loop μ-loop
 enum-known-n c = search needs
 
 returns-3 : tie.Need-returns-3 Inv-loop μ-loop
-returns-3 c = subst (λ r. Turned (c .before .before .before .before .before .before .before .before .before .before .before .args .script .now) (c .before .before .before .before .before .before .before .before .before .before .before .args .characters .now) (c .before .before .before .before .loop .s) (c .before .before .before .before .loop .c) ((c .before .before .before .before .loop .inv) .kinds) r) (c .before .n .given .1) (c .before .before .before .advance .ensures ((c .before .before .before .before .loop .inv) .kinds) ((c .before .before .before .before .loop .inv) .held)) ∙ (c .before .before .before .before .loop .inv) .same
+returns-3 c =
+    let loop = c .before .before .before .before .loop in
+    let args = c .before .before .before .before .before .before .before .before .before .before .before .args in
+    subst (λ r. Turned (args .script .now) (args .characters .now) (loop .s) (loop .c) (loop .inv .kinds) r)
+    (c .before .n .given .1) (c .before .before .before .advance .ensures _ (loop .inv .held)) ∙ loop .inv .same
 
 pub check-spec : {M : Type 1} → statement M
 check-spec =

@@ -15,10 +15,20 @@ returns-2 : tie.Need-returns-2
 returns-2 c = simp (le-leb _ _ (c .before .before .if1 .left), sym (c .before .is-attribute .ensures) ∙ c .if2 .taken)
 
 returns-3 : tie.Need-returns-3
-returns-3 c = simp (le-leb _ _ (c .before .before .before .if1 .left), sym (c .before .before .is-attribute .ensures) ∙ c .before .if2 .left, eq-eqb _ _ (c .if3 .taken))
+returns-3 c =
+    simp (
+      le-leb _ _ (c .before .before .before .if1 .left),
+      sym (c .before .before .is-attribute .ensures) ∙ c .before .if2 .left,
+      eq-eqb _ _ (c .if3 .taken),
+    )
 
 returns-4 : tie.Need-returns-4
-returns-4 c = simp (le-leb _ _ (c .before .before .before .if1 .left), sym (c .before .before .is-attribute .ensures) ∙ c .before .if2 .left, ne-eqb _ _ (c .if3 .left))
+returns-4 c =
+    simp (
+      le-leb _ _ (c .before .before .before .if1 .left),
+      sym (c .before .before .is-attribute .ensures) ∙ c .before .if2 .left,
+      ne-eqb _ _ (c .if3 .left),
+    )
 
 pub is-bad-attribute-spec : {M : Type 1} → statement M
 is-bad-attribute-spec =

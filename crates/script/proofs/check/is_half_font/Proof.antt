@@ -12,16 +12,20 @@ enum-known-last : tie.Need-enum-known-last
 enum-known-last c = search needs
 
 returns : tie.Need-returns
-returns c = λ ks h. sym ((half-at _ _ _ (c .before .before .last .given .0 .1 .1 .0) (c .before .before .last .given .1) ks h) ∙ rw (lt-leb 32 (c .before .before .last .given .0 .1 .1 .0) (c .if1 .taken)))
+returns c = λ ks h. sym (half-at _ _ _ _ (c .before .before .last .given .1) ks h ∙ rw (lt-leb 32 _ (c .if1 .taken)))
 
 returns-2 : tie.Need-returns-2
-returns-2 c = λ ks h. sym ((half-at _ _ _ (c .before .before .before .last .given .0 .1 .1 .0) (c .before .before .before .last .given .1) ks h) ∙ rw (le-leb 32 (c .before .before .before .last .given .0 .1 .1 .0) (c .before .if1 .left), le-ltb (c .before .before .before .last .given .0 .1 .1 .0) 1536 (c .if2 .taken)))
+returns-2 c =
+    λ ks h. sym (half-at _ _ _ _ (c .before .before .before .last .given .1) ks h
+    ∙ rw (le-leb 32 _ (c .before .if1 .left), le-ltb _ 1536 (c .if2 .taken)))
 
 returns-3 : tie.Need-returns-3
 returns-3 c = λ ks h. half-nothing _ (c .enum-told .given .1) ks
 
 returns-4 : tie.Need-returns-4
-returns-4 c = λ ks h. sym ((half-at _ _ _ (c .before .before .before .last .given .0 .1 .1 .0) (c .before .before .before .last .given .1) ks h) ∙ rw (le-leb 32 (c .before .before .before .last .given .0 .1 .1 .0) (c .before .if1 .left), lt-ltb (c .before .before .before .last .given .0 .1 .1 .0) 1536 (c .if2 .left)))
+returns-4 c =
+    λ ks h. sym (half-at _ _ _ _ (c .before .before .before .last .given .1) ks h
+    ∙ rw (le-leb 32 _ (c .before .if1 .left), lt-ltb _ 1536 (c .if2 .left)))
 
 pub is-half-font-spec : {M : Type 1} → statement M
 is-half-font-spec =

@@ -22,25 +22,54 @@ is-bad-attribute-requires c κs = search needs
 
 returns-2 : tie.Need-returns-2
 unfolding testsOf
-returns-2 c = λ ks h. (over _ _ _ (sym (c .before .before .before .is-half-font .ensures ks h) ∙ c .before .before .if1 .left) (hit _ _ (sym (c .before .is-bad-attribute .ensures) ∙ c .if2 .taken)), λ e. omega arith)
+returns-2 c =
+    λ ks h. (
+      over _ _ _ (sym (c .before .before .before .is-half-font .ensures ks h) ∙ c .before .before .if1 .left)
+          (hit _ _ (sym (c .before .is-bad-attribute .ensures) ∙ c .if2 .taken)),
+      λ e. omega arith,
+    )
 
 may-attribute-requires : tie.Need-may-attribute-requires
 may-attribute-requires c κs = search needs
 
 returns-3 : tie.Need-returns-3
 unfolding testsOf
-returns-3 c = λ ks h. (over _ _ _ (sym (c .before .before .before .before .before .is-half-font .ensures ks h) ∙ c .before .before .before .before .if1 .left) (over _ _ _ (sym (c .before .before .before .is-bad-attribute .ensures) ∙ c .before .before .if2 .left) (hit _ _ (ap not (sym (c .before .may-attribute .ensures)) ∙ c .if3 .taken))), λ e. omega arith)
+returns-3 c =
+    λ ks h. (
+      over _ _ _
+          (sym (c .before .before .before .before .before .is-half-font .ensures ks h) ∙ c .before .before .before .before .if1 .left)
+          (over _ _ _ (sym (c .before .before .before .is-bad-attribute .ensures) ∙ c .before .before .if2 .left)
+          (hit _ _ (ap not (sym (c .before .may-attribute .ensures)) ∙ c .if3 .taken))),
+      λ e. omega arith,
+    )
 
 test-string-requires : tie.Need-test-string-requires
 test-string-requires c κs = search needs
 
 returns-4 : tie.Need-returns-4
 unfolding testsOf
-returns-4 c = λ ks h. (over _ _ _ (sym (c .before .before .before .before .before .before .before .is-half-font .ensures ks h) ∙ c .before .before .before .before .before .before .if1 .left) (over _ _ _ (sym (c .before .before .before .before .before .is-bad-attribute .ensures) ∙ c .before .before .before .before .if2 .left) (over _ _ _ (ap not (sym (c .before .before .before .may-attribute .ensures)) ∙ c .before .before .if3 .left) (c .before .test-string .ensures))), c .if4 .taken)
+returns-4 c =
+    λ ks h. (
+      over _ _ _ (sym (c .before .before .before .before .before .before .before .is-half-font .ensures ks h)
+          ∙ c .before .before .before .before .before .before .if1 .left)
+          (over _ _ _
+          (sym (c .before .before .before .before .before .is-bad-attribute .ensures) ∙ c .before .before .before .before .if2 .left)
+          (over _ _ _ (ap not (sym (c .before .before .before .may-attribute .ensures)) ∙ c .before .before .if3 .left)
+          (c .before .test-string .ensures))),
+      c .if4 .taken,
+    )
 
 returns-5 : tie.Need-returns-5
 unfolding testsOf
-returns-5 c = λ ks h. attribute-passes (c .before .before .before .before .before .before .before .before .before .args .characters .now) (c .before .before .before .before .before .before .before .before .before .args .s) (c .before .before .before .before .before .before .before .before .before .args .at) ks (c .before .before .before .before .before .before .before .before .before .args .name) (c .before .before .before .before .before .before .before .before .before .args .space) (c .before .before .before .before .before .before .before .before .before .args .len) (over _ _ _ (sym (c .before .before .before .before .before .before .before .is-half-font .ensures ks h) ∙ c .before .before .before .before .before .before .if1 .left) (over _ _ _ (sym (c .before .before .before .before .before .is-bad-attribute .ensures) ∙ c .before .before .before .before .if2 .left) (over _ _ _ (ap not (sym (c .before .before .before .may-attribute .ensures)) ∙ c .before .before .if3 .left) (sym (c .if4 .left) ∙ c .before .test-string .ensures)))) (string-inside (c .before .before .before .before .before .before .before .before .before .args .characters .now) (c .before .before .before .before .before .before .before .before .before .args .at) (c .before .before .before .before .before .before .before .before .before .args .len) (sym (c .before .test-string .ensures) ∙ c .if4 .left))
+returns-5 c =
+    let at-if1 = c .before .before .before .before .before .before in
+    λ ks h. attribute-passes _ _ _ ks _ _ _ (over _ _ _ (sym (at-if1 .before .is-half-font .ensures ks h) ∙ at-if1 .if1 .left)
+    (over _ _ _
+    (sym (c .before .before .before .before .before .is-bad-attribute .ensures) ∙ c .before .before .before .before .if2 .left)
+    (over _ _ _ (ap not (sym (c .before .before .before .may-attribute .ensures)) ∙ c .before .before .if3 .left)
+    (sym (c .if4 .left) ∙ c .before .test-string .ensures))))
+    (string-inside (at-if1 .before .before .before .args .characters .now) _ _
+    (sym (c .before .test-string .ensures) ∙ c .if4 .left))
 
 pub judge-attribute-spec : {M : Type 1} → statement M
 judge-attribute-spec =

@@ -17,14 +17,21 @@ returns c = λ chars at ks h. (hit _ _ (sym (c .before .is-half-font .ensures ks
 
 returns-2 : tie.Need-returns-2
 unfolding testsOf
-returns-2 c = λ chars at ks h. (over _ _ _ (sym (c .before .before .is-half-font .ensures ks h) ∙ c .before .if1 .left) (hit _ _ (eq-eqb _ _ (c .if2 .taken))), λ e. omega arith)
+returns-2 c =
+    λ chars at ks h. (
+      over _ _ _ (sym (c .before .before .is-half-font .ensures ks h) ∙ c .before .if1 .left)
+          (hit _ _ (eq-eqb _ _ (c .if2 .taken))),
+      λ e. omega arith,
+    )
 
 sub-left : tie.Need-sub-left
 sub-left c = search needs
 
 returns-3 : tie.Need-returns-3
 unfolding testsOf
-returns-3 c = λ chars at ks h. close-passes chars (c .before .before .before .args .s) at ks (over _ _ _ (sym (c .before .before .is-half-font .ensures ks h) ∙ c .before .if1 .left) (over _ _ _ (ne-eqb _ _ (c .if2 .left)) passed))
+returns-3 c =
+    λ chars at ks h. close-passes chars _ at ks (over _ _ _
+    (sym (c .before .before .is-half-font .ensures ks h) ∙ c .before .if1 .left) (over _ _ _ (ne-eqb _ _ (c .if2 .left)) passed))
 
 pub judge-close-spec : {M : Type 1} → statement M
 judge-close-spec = tie.close (tie.spec is-half-font-requires returns returns-2 sub-left returns-3)

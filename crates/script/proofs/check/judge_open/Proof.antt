@@ -20,25 +20,50 @@ is-bad-open-requires c κs = search needs
 
 returns-2 : tie.Need-returns-2
 unfolding testsOf
-returns-2 c = λ chars at ks h. (over _ _ _ (sym (c .before .before .before .is-half-font .ensures ks h) ∙ c .before .before .if1 .left) (hit _ _ (sym (c .before .is-bad-open .ensures) ∙ c .if2 .taken)), λ e. omega arith)
+returns-2 c =
+    λ chars at ks h. (
+      over _ _ _ (sym (c .before .before .before .is-half-font .ensures ks h) ∙ c .before .before .if1 .left)
+          (hit _ _ (sym (c .before .is-bad-open .ensures) ∙ c .if2 .taken)),
+      λ e. omega arith,
+    )
 
 is-second-requires : tie.Need-is-second-requires
 is-second-requires c κs = search needs
 
 returns-3 : tie.Need-returns-3
 unfolding testsOf
-returns-3 c = λ chars at ks h. (over _ _ _ (sym (c .before .before .before .before .before .is-half-font .ensures ks h) ∙ c .before .before .before .before .if1 .left) (over _ _ _ (sym (c .before .before .before .is-bad-open .ensures) ∙ c .before .before .if2 .left) (hit _ _ (sym (c .before .is-second .ensures) ∙ c .if3 .taken))), λ e. omega arith)
+returns-3 c =
+    λ chars at ks h. (
+      over _ _ _
+          (sym (c .before .before .before .before .before .is-half-font .ensures ks h) ∙ c .before .before .before .before .if1 .left)
+          (over _ _ _ (sym (c .before .before .before .is-bad-open .ensures) ∙ c .before .before .if2 .left)
+          (hit _ _ (sym (c .before .is-second .ensures) ∙ c .if3 .taken))),
+      λ e. omega arith,
+    )
 
 returns-4 : tie.Need-returns-4
 unfolding testsOf
-returns-4 c = λ chars at ks h. (over _ _ _ (sym (c .before .before .before .before .before .before .is-half-font .ensures ks h) ∙ c .before .before .before .before .before .if1 .left) (over _ _ _ (sym (c .before .before .before .before .is-bad-open .ensures) ∙ c .before .before .before .if2 .left) (over _ _ _ (sym (c .before .before .is-second .ensures) ∙ c .before .if3 .left) (hit _ _ (le-leb _ _ (c .if4 .taken))))), λ e. omega arith)
+returns-4 c =
+    λ chars at ks h. (
+      over _ _ _ (sym (c .before .before .before .before .before .before .is-half-font .ensures ks h)
+          ∙ c .before .before .before .before .before .if1 .left)
+          (over _ _ _ (sym (c .before .before .before .before .is-bad-open .ensures) ∙ c .before .before .before .if2 .left)
+          (over _ _ _ (sym (c .before .before .is-second .ensures) ∙ c .before .if3 .left) (hit _ _ (le-leb _ _ (c .if4 .taken))))),
+      λ e. omega arith,
+    )
 
 add-t11 : tie.Need-add-t11
 add-t11 c = search needs
 
 returns-5 : tie.Need-returns-5
 unfolding testsOf
-returns-5 c = λ chars at ks h. open-passes chars (c .before .before .before .before .before .before .before .args .s) at ks (c .before .before .before .before .before .before .before .args .name) (c .before .before .before .before .before .before .before .args .space) (over _ _ _ (sym (c .before .before .before .before .before .before .is-half-font .ensures ks h) ∙ c .before .before .before .before .before .if1 .left) (over _ _ _ (sym (c .before .before .before .before .is-bad-open .ensures) ∙ c .before .before .before .if2 .left) (over _ _ _ (sym (c .before .before .is-second .ensures) ∙ c .before .if3 .left) (over _ _ _ (lt-leb _ _ (c .if4 .left)) passed))))
+returns-5 c =
+    λ chars at ks h. open-passes chars _ at ks _ _ (over _ _ _ (sym
+    (c .before .before .before .before .before .before .is-half-font .ensures ks h)
+    ∙ c .before .before .before .before .before .if1 .left)
+    (over _ _ _ (sym (c .before .before .before .before .is-bad-open .ensures) ∙ c .before .before .before .if2 .left)
+    (over _ _ _ (sym (c .before .before .is-second .ensures) ∙ c .before .if3 .left)
+    (over _ _ _ (lt-leb _ _ (c .if4 .left)) passed))))
 
 pub judge-open-spec : {M : Type 1} → statement M
 judge-open-spec =

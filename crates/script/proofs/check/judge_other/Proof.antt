@@ -17,7 +17,7 @@ returns c = λ chars at ks h. (hit _ _ (sym (c .before .is-half-font .ensures ks
 
 returns-2 : tie.Need-returns-2
 unfolding testsOf
-returns-2 c = λ chars at ks h. other-passes chars (c .before .before .args .s) at ks (over _ _ _ (sym (c .before .is-half-font .ensures ks h) ∙ c .if1 .left) passed)
+returns-2 c = λ chars at ks h. other-passes chars _ at ks (over _ _ _ (sym (c .before .is-half-font .ensures ks h) ∙ c .if1 .left) passed)
 
 pub judge-other-spec : {M : Type 1} → statement M
 judge-other-spec = tie.close (tie.spec is-half-font-requires returns returns-2)

@@ -17,18 +17,32 @@ returns c = λ ks h. (hit _ _ (sym (c .before .is-half-font .ensures ks h) ∙ c
 
 returns-2 : tie.Need-returns-2
 unfolding testsOf
-returns-2 c = λ ks h. (over _ _ _ (sym (c .before .before .is-half-font .ensures ks h) ∙ c .before .if1 .left) (hit _ _ (eq-eqb _ _ (c .if2 .taken))), λ e. omega arith)
+returns-2 c =
+    λ ks h. (
+      over _ _ _ (sym (c .before .before .is-half-font .ensures ks h) ∙ c .before .if1 .left)
+          (hit _ _ (eq-eqb _ _ (c .if2 .taken))),
+      λ e. omega arith,
+    )
 
 test-string-requires : tie.Need-test-string-requires
 test-string-requires c κs = search needs
 
 returns-3 : tie.Need-returns-3
 unfolding testsOf
-returns-3 c = λ ks h. (over _ _ _ (sym (c .before .before .before .before .is-half-font .ensures ks h) ∙ c .before .before .before .if1 .left) (over _ _ _ (ne-eqb _ _ (c .before .before .if2 .left)) (c .before .test-string .ensures)), c .if3 .taken)
+returns-3 c =
+    λ ks h. (
+      over _ _ _
+          (sym (c .before .before .before .before .is-half-font .ensures ks h) ∙ c .before .before .before .if1 .left)
+          (over _ _ _ (ne-eqb _ _ (c .before .before .if2 .left)) (c .before .test-string .ensures)),
+      c .if3 .taken,
+    )
 
 returns-4 : tie.Need-returns-4
 unfolding testsOf
-returns-4 c = λ ks h. text-passes (c .before .before .before .before .before .before .args .characters .now) (c .before .before .before .before .before .before .args .s) (c .before .before .before .before .before .before .args .at) ks (c .before .before .before .before .before .before .args .len) (over _ _ _ (sym (c .before .before .before .before .is-half-font .ensures ks h) ∙ c .before .before .before .if1 .left) (over _ _ _ (ne-eqb _ _ (c .before .before .if2 .left)) (sym (c .if3 .left) ∙ c .before .test-string .ensures)))
+returns-4 c =
+    λ ks h. text-passes _ _ _ ks _ (over _ _ _
+    (sym (c .before .before .before .before .is-half-font .ensures ks h) ∙ c .before .before .before .if1 .left)
+    (over _ _ _ (ne-eqb _ _ (c .before .before .if2 .left)) (sym (c .if3 .left) ∙ c .before .test-string .ensures)))
 
 pub judge-text-spec : {M : Type 1} → statement M
 judge-text-spec =

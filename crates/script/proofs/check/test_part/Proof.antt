@@ -38,10 +38,19 @@ is-utf8-requires : tie.Need-is-utf8-requires
 is-utf8-requires c κs = search needs
 
 returns-3 : tie.Need-returns-3
-returns-3 c = over _ _ _ (le-ltb _ _ (c .before .before .before .before .before .if1 .left)) (over _ _ _ (sym (c .before .before .before .before .is-repeated .ensures) ∙ c .before .before .before .if2 .left) (over _ _ _ ((utf8-part (c .before .before .before .before .before .before .before .args .characters .now) (c .before .before .before .before .before .before .before .args .start + c .before .before .before .before .before .before .before .args .offset) (c .before .before .before .before .before .before .before .args .len) (c .before .before .before .before .before .before .before .args .start + (c .before .before .before .before .before .before .before .args .offset + c .before .before .before .before .before .before .before .args .len)) _ _ (c .before .is-utf8 .ensures) (omega arith)) (c .if3 .taken)) passed))
+returns-3 c =
+    let args = c .before .before .before .before .before .before .before .args in
+    over _ _ _ (le-ltb _ _ (c .before .before .before .before .before .if1 .left))
+    (over _ _ _ (sym (c .before .before .before .before .is-repeated .ensures) ∙ c .before .before .before .if2 .left)
+    (over _ _ _ ((utf8-part _ (args .start + args .offset) _ _ _ _ (c .before .is-utf8 .ensures) (omega arith)) (c .if3 .taken))
+    passed))
 
 returns-4 : tie.Need-returns-4
-returns-4 c = over _ _ _ (le-ltb _ _ (c .before .before .before .before .before .if1 .left)) (over _ _ _ (sym (c .before .before .before .before .is-repeated .ensures) ∙ c .before .before .before .if2 .left) (hit _ _ ((utf8-part (c .before .before .before .before .before .before .before .args .characters .now) (c .before .before .before .before .before .before .before .args .start + c .before .before .before .before .before .before .before .args .offset) (c .before .before .before .before .before .before .before .args .len) (c .before .before .before .before .before .before .before .args .start + (c .before .before .before .before .before .before .before .args .offset + c .before .before .before .before .before .before .before .args .len)) _ _ (c .before .is-utf8 .ensures) (omega arith)) (c .if3 .left))))
+returns-4 c =
+    let args = c .before .before .before .before .before .before .before .args in
+    over _ _ _ (le-ltb _ _ (c .before .before .before .before .before .if1 .left))
+    (over _ _ _ (sym (c .before .before .before .before .is-repeated .ensures) ∙ c .before .before .before .if2 .left)
+    (hit _ _ ((utf8-part _ (args .start + args .offset) _ _ _ _ (c .before .is-utf8 .ensures) (omega arith)) (c .if3 .left))))
 
 pub test-part-spec : {M : Type 1} → statement M
 test-part-spec =

@@ -1,6 +1,5 @@
 use native.Mathlib.Omega.{arith}
 use borrow.Author.Tests.{lt-ltb, le-ltb}
-use Prim.Native.Nat.{_+_}
 use Rattle.script.proofs.Parts.{utf8-part, hit, over, passed}
 use borrow.Author.Needs.{needs}
 use Rattle.script.proofs.check.test_string.Statement.{statement}
@@ -25,10 +24,16 @@ is-utf8-requires : tie.Need-is-utf8-requires
 is-utf8-requires c κs = search needs
 
 returns-2 : tie.Need-returns-2
-returns-2 c = over _ _ _ (le-ltb _ _ (c .before .before .before .if1 .left)) (over _ _ _ ((utf8-part (c .before .before .before .before .before .args .characters .now) (c .before .before .before .before .before .args .at) (c .before .before .before .before .before .args .len) (c .before .before .before .before .before .args .at + c .before .before .before .before .before .args .len) _ _ (c .before .is-utf8 .ensures) (omega arith)) (c .if2 .taken)) passed)
+returns-2 c =
+    over _ _ _ (le-ltb _ _ (c .before .before .before .if1 .left))
+    (over _ _ _ ((utf8-part _ (c .before .before .before .before .before .args .at) _ _ _ _ (c .before .is-utf8 .ensures)
+    (omega arith)) (c .if2 .taken)) passed)
 
 returns-3 : tie.Need-returns-3
-returns-3 c = over _ _ _ (le-ltb _ _ (c .before .before .before .if1 .left)) (hit _ _ ((utf8-part (c .before .before .before .before .before .args .characters .now) (c .before .before .before .before .before .args .at) (c .before .before .before .before .before .args .len) (c .before .before .before .before .before .args .at + c .before .before .before .before .before .args .len) _ _ (c .before .is-utf8 .ensures) (omega arith)) (c .if2 .left)))
+returns-3 c =
+    over _ _ _ (le-ltb _ _ (c .before .before .before .if1 .left))
+    (hit _ _ ((utf8-part _ (c .before .before .before .before .before .args .at) _ _ _ _ (c .before .is-utf8 .ensures)
+    (omega arith)) (c .if2 .left)))
 
 pub test-string-spec : {M : Type 1} → statement M
 test-string-spec =

@@ -24,7 +24,9 @@ unfolding operands
 returns-5 c = simp (c .match .keys5)
 
 returns-6 : tie.Need-returns-6
-returns-6 c = no-operands (c .before .args .b) (c .match .rest .0 .0 .0 .0 .1) (c .match .rest .0 .0 .0 .1) (c .match .rest .0 .0 .1) (c .match .rest .0 .1) (c .match .rest .1)
+returns-6 c =
+    no-operands _ (c .match .rest .0 .0 .0 .0 .1) (c .match .rest .0 .0 .0 .1) (c .match .rest .0 .0 .1) (c .match .rest .0 .1)
+    (c .match .rest .1)
 
 pub operands-of-spec : {M : Type 1} → statement M
 operands-of-spec = tie.close (tie.spec returns returns-2 returns-3 returns-4 returns-5 returns-6)

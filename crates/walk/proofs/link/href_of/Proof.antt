@@ -1,4 +1,4 @@
-use Rattle.walk.proofs.Linking.{href-first, href-second}
+use Rattle.walk.proofs.Linking.{readable, href-first, href-second}
 use borrow.Author.Needs.{needs}
 use Rattle.walk.proofs.link.href_of.Statement.{statement}
 use Rattle.walk.proofs.link.href_of.Tie as tie
@@ -10,7 +10,10 @@ enum-told : tie.Need-enum-told
 enum-told c = search needs
 
 iri-of-requires : tie.Need-iri-of-requires
-iri-of-requires c κs = search needs
+iri-of-requires c κs =
+    let at = c .before .before .before .before .before in
+    readable (at .args .script .now) (at .args .characters .now) (at .args .inside) (c .before .before .attribute-in .result)
+    (c .before .before .attribute-in .ensures .1)
 
 enum-told-2 : tie.Need-enum-told-2
 enum-told-2 c = search needs
@@ -19,19 +22,23 @@ attribute-in-requires-2 : tie.Need-attribute-in-requires-2
 attribute-in-requires-2 c κs = search needs
 
 iri-of-requires-2 : tie.Need-iri-of-requires-2
-iri-of-requires-2 c κs = search needs
+iri-of-requires-2 c κs =
+    let at = c .before .before .before .before .before .before in
+    readable (at .args .script .now) (at .args .characters .now) (at .args .inside) (c .attribute-in2 .result)
+    (c .attribute-in2 .ensures .1)
 
 returns : tie.Need-returns
 returns c = (
-  href-first _ _ (c .before .before .before .before .before .before .args .inside) _ (c .iri-of .result) _ _
+  href-first _ _ _ (c .iri-of .result) _ _
       (c .before .before .before .attribute-in .ensures .0) _ (c .before .enum-told .given .1) (c .iri-of .ensures .0),
   c .iri-of .ensures .1,
 )
 
 returns-2 : tie.Need-returns-2
 returns-2 c = (
-  href-second _ _ (c .before .before .before .before .before .before .before .args .inside) _ (c .iri-of2 .result) _ _
-      (c .before .before .before .before .attribute-in .ensures .0) _ (c .before .before .enum-told2 .given .1) (c .before .attribute-in2 .result)
+  href-second _ _ _ (c .iri-of2 .result) _ _
+      (c .before .before .before .before .attribute-in .ensures .0) _ (c .before .before .enum-told2 .given .1)
+      (c .before .attribute-in2 .result)
       (c .before .attribute-in2 .ensures .0) (c .iri-of2 .ensures .0),
   c .iri-of2 .ensures .1,
 )

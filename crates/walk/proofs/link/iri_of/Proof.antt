@@ -1,5 +1,5 @@
 use Rattle.walk.proofs.Finding.{fit-chars}
-use Rattle.walk.proofs.Linking.{value-fit, iri-value}
+use Rattle.walk.proofs.Linking.{read-fit, iri-value}
 use borrow.Author.Needs.{needs}
 use Rattle.walk.proofs.link.iri_of.Statement.{statement}
 use Rattle.walk.proofs.link.iri_of.Tie as tie
@@ -9,17 +9,16 @@ enum-known-value c = search needs
 
 reading-of-requires : tie.Need-reading-of-requires
 reading-of-requires c κs =
-    let held = value-fit _ _ _ _ _ (c .before .value .given .1) (c .before .before .before .before .before .pre) in
-    (held .rest .nodes .fit, fit-chars _ _ (held .own))
+    let held = read-fit _ _ _ (c .before .value .given .1) (c .before .before .before .before .before .pre) in
+    (held .1, fit-chars _ _ (held .0))
 
 enum-told : tie.Need-enum-told
 enum-told c = search needs
 
 returns : tie.Need-returns
 returns c = (
-  iri-value (c .before .before .before .before .before .before .args .script .now) _
-      (c .before .before .before .before .before .before .args .from) _ _ (c .before .before .value .given .1) (c .reading-of .result)
-      (c .reading-of .ensures .0),
+  iri-value (c .before .before .before .before .before .before .args .script .now) _ _ _ (c .before .before .value .given .1)
+      (c .reading-of .result) (c .reading-of .ensures .0),
   c .reading-of .ensures .1,
 )
 

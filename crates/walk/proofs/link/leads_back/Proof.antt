@@ -47,9 +47,14 @@ returns c =
     back-first _ _ _ _ _ _ _ _ (c .before .before .before .before .before .before .before .loop .inv) _ _ _
     (c .before .before .before .before .u .given .1) (c .before .before .before .before .before .before .next-use .ensures) _
     (c .before .before .use-href .ensures .0) _ (c .before .same-parts .ensures) (c .if1 .taken)
-    ∙ (let at = c .before .before .before .before .before .before .before .before .before .before .before .before in led-back (at .args .script .now) (at .args .characters .now) (at .args .e) (at .args .l) (at .args .link)
+    ∙ (let at = c .before .before .before .before .before .before .before .before .before .before .before .before in led-back
+    (at .args .script .now) (at .args .characters .now) (at .args .e) (at .args .l) (at .args .link)
     (c .before .before .before .before .before .before .before .before .before .leading-id .result)
-    (record { use-stands = at .pre .0; leads = at .pre .1 .1 .1; by = c .before .before .before .before .before .before .before .before .before .leading-id .ensures .0 }) _)
+    (record {
+      use-stands = at .pre .0;
+      leads = at .pre .1 .1 .1;
+      by = c .before .before .before .before .before .before .before .before .before .leading-id .ensures .0;
+    }) _)
 
 same-parts-requires-2 : tie.Need-same-parts-requires-2 Inv-loop μ-loop
 same-parts-requires-2 c κs = (
@@ -64,9 +69,14 @@ returns-2 c =
     (c .before .before .before .before .before .before .before .before .next-use .ensures) _
     (c .before .before .before .before .use-href .ensures .0) _ (c .before .before .before .same-parts .ensures) _
     (c .before .same-parts2 .ensures) (c .before .before .if1 .left) (c .if2 .taken)
-    ∙ (let at = c .before .before .before .before .before .before .before .before .before .before .before .before .before .before in led-back (at .args .script .now) (at .args .characters .now) (at .args .e) (at .args .l) (at .args .link)
+    ∙ (let at = c .before .before .before .before .before .before .before .before .before .before .before .before .before .before in
+    led-back (at .args .script .now) (at .args .characters .now) (at .args .e) (at .args .l) (at .args .link)
     (c .before .before .before .before .before .before .before .before .before .before .before .leading-id .result)
-    (record { use-stands = at .pre .0; leads = at .pre .1 .1 .1; by = c .before .before .before .before .before .before .before .before .before .before .before .leading-id .ensures .0 }) _)
+    (record {
+      use-stands = at .pre .0;
+      leads = at .pre .1 .1 .1;
+      by = c .before .before .before .before .before .before .before .before .before .before .before .leading-id .ensures .0;
+    }) _)
 
 loop-less : tie.Need-loop-less Inv-loop μ-loop
 loop-less c =
@@ -88,9 +98,16 @@ enum-told c = search needs
 returns-3 : tie.Need-returns-3 Inv-loop μ-loop
 returns-3 c =
     back-end _ _ _ _ _ _ _ _ (c .before .before .before .loop .inv) _ (c .enum-told .given .1)
-    (c .before .before .next-use .ensures) ∙ (let at = c .before .before .before .before .before .before .before .before in led-back (at .args .script .now) (at .args .characters .now) (at .args .e) (at .args .l) (at .args .link)
+    (c .before .before .next-use .ensures)
+    ∙ (let at = c .before .before .before .before .before .before .before .before in
+    led-back (at .args .script .now)
+    (at .args .characters .now) (at .args .e) (at .args .l) (at .args .link)
     (c .before .before .before .before .before .leading-id .result)
-    (record { use-stands = at .pre .0; leads = at .pre .1 .1 .1; by = c .before .before .before .before .before .leading-id .ensures .0 }) _)
+    (record {
+      use-stands = at .pre .0;
+      leads = at .pre .1 .1 .1;
+      by = c .before .before .before .before .before .leading-id .ensures .0;
+    }) _)
 
 pub leads-back-spec : {M : Type 1} → statement M
 leads-back-spec =

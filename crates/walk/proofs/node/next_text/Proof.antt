@@ -6,7 +6,8 @@ use mathlib.Core.Path.{sym, _∙_}
 use Rattle.walk.proofs.Walks.{item-told}
 use Rattle.model.specs.Drawing.{textsIn}
 use Rattle.walk.specs.Values.{eventsAt}
-use Rattle.walk.proofs.Along.{Along, along-none, at-item, over, texts-begin, texts-text, texts-other, texts-close, texts-out, texts-end}
+use Rattle.walk.proofs.Along.{Along, along-none, at-item, over, texts-begin, texts-text, texts-other, texts-close, texts-out}
+use Rattle.walk.proofs.Along.{texts-end}
 use Rattle.walk.proofs.node.next_text.Statement.{statement}
 use Rattle.walk.proofs.node.next_text.Tie as tie
 

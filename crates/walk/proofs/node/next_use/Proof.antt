@@ -6,7 +6,8 @@ use mathlib.Core.Path.{sym, _∙_}
 use Rattle.walk.proofs.Walks.{item-told}
 use Rattle.model.specs.Drawing.{usesIn}
 use Rattle.walk.specs.Values.{eventsAt}
-use Rattle.walk.proofs.Along.{Along, along-none, at-item, over, uses-hit, uses-miss, uses-text, uses-other, uses-close, uses-out, uses-end}
+use Rattle.walk.proofs.Along.{Along, along-none, at-item, over, uses-hit, uses-miss, uses-text, uses-other, uses-close, uses-out}
+use Rattle.walk.proofs.Along.{uses-end}
 use Rattle.walk.proofs.node.next_use.Statement.{statement}
 use Rattle.walk.proofs.node.next_use.Tie as tie
 

@@ -6,7 +6,8 @@ use mathlib.Core.Path.{sym, _∙_}
 use Rattle.walk.proofs.Walks.{item-told}
 use Rattle.walk.specs.Values.{eventsAt}
 use Rattle.walk.specs.Nodes.{leave}
-use Rattle.walk.proofs.Along.{Along, along-none, at-item, over, leave-begin, leave-text, leave-other, leave-close, leave-out, leave-end}
+use Rattle.walk.proofs.Along.{Along, along-none, at-item, over, leave-begin, leave-text, leave-other, leave-close, leave-out}
+use Rattle.walk.proofs.Along.{leave-end}
 use Rattle.walk.proofs.node.past_element.Statement.{statement}
 use Rattle.walk.proofs.node.past_element.Tie as tie
 
