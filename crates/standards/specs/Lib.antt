@@ -1,0 +1,2 @@
+pub mod SvgSpace
+pub mod Theorems

@@ -1,0 +1,190 @@
+-- Spaces in one text: SVG 1.1's text, and what `trim_text` makes of it.
+use Prim.Native.Nat.{ℕ, suc, _+_}
+use mathlib.Core.Path.{_≡_, refl, sym, ap, _∙_}
+use mathlib.Core.Bool.{Bool, true, false}
+use mathlib.Core.List.{List, [], _∷_}
+use native.Mathlib.Omega.{arith}
+use borrow.Author.Tests.{eqb-true, eqb-false, eq-eqb, ne-eqb}
+use lib.Dec.{eqb}
+use lib.ListN.{length}
+use Rattle.model.specs.Base.{pick, and, among}
+use Rattle.model.specs.Text.{XmlSpace, default, preserve, converted, trimTextAfter, trimText}
+use Rattle.standards.specs.SvgSpace.{NEWLINE, TAB, BLANK, RETURN, without, convert, noLeading, isNothing, noTrailing, isBlankNext, consolidated, asDefault, asPreserve, Free}
+
+-- THE STANDARD'S DEFAULT AS ONE PASS
+
+-- Where the pass is: nothing visible yet, in a word, behind a word and a space.
+data Pass : Type 0 where
+  front word gap : Pass
+
+-- Each word, with one space between two of them.
+words : Pass → List ℕ → List ℕ
+words p [] = []
+words front (b ∷ bs) = pick (eqb b BLANK) (λ u. words front bs) (λ u. b ∷ words word bs)
+words word (b ∷ bs) = pick (eqb b BLANK) (λ u. words gap bs) (λ u. b ∷ words word bs)
+words gap (b ∷ bs) = pick (eqb b BLANK) (λ u. words gap bs) (λ u. BLANK ∷ b ∷ words word bs)
+
+-- What is left behind a space.
+behind : List ℕ → List ℕ
+behind r = pick (isNothing r) (λ u. []) (λ u. BLANK ∷ r)
+
+behind-twice : (r : List ℕ) → consolidated (behind (behind r)) ≡ consolidated (behind r)
+unfolding consolidated behind
+behind-twice [] = refl
+behind-twice (c ∷ r) = refl
+
+inner : (bs : List ℕ) → (consolidated (noTrailing bs) ≡ words word bs) × (consolidated (behind (noTrailing bs)) ≡ words gap bs)
+unfolding consolidated noTrailing words behind
+inner [] = (refl, refl)
+inner (b ∷ bs) = go (eqb b BLANK) refl (inner bs)
+  where
+    go : (c : Bool) → eqb b BLANK ≡ c → (consolidated (noTrailing bs) ≡ words word bs) × (consolidated (behind (noTrailing bs)) ≡ words gap bs) →
+        (consolidated (noTrailing (b ∷ bs)) ≡ words word (b ∷ bs)) × (consolidated (behind (noTrailing (b ∷ bs))) ≡ words gap (b ∷ bs))
+    go true e h = rw (eqb-true b BLANK e) (h .1, behind-twice (noTrailing bs) ∙ h .1)
+    go false e h = simp e (ap (λ r. b ∷ r) (h .0), ap (λ r. BLANK ∷ b ∷ r) (h .0))
+
+-- Stripped and consolidated is: each word, with one space between two of them.
+stripped : (bs : List ℕ) → consolidated (noTrailing (noLeading bs)) ≡ words front bs
+unfolding consolidated noTrailing noLeading words
+stripped [] = refl
+stripped (b ∷ bs) = go (eqb b BLANK) refl (stripped bs)
+  where
+    go : (c : Bool) → eqb b BLANK ≡ c → consolidated (noTrailing (noLeading bs)) ≡ words front bs →
+        consolidated (noTrailing (noLeading (b ∷ bs))) ≡ words front (b ∷ bs)
+    go true e h = rw e h
+    go false e h = simp e (ap (λ r. b ∷ r) (inner bs .0))
+
+-- TRIM_TEXT
+
+-- The text with each character converted as `trim_text` converts it.
+spaced : List ℕ → List ℕ
+spaced bs = convert TAB BLANK (convert NEWLINE BLANK (convert RETURN NEWLINE bs))
+
+-- A space behind a space is dropped; p is what stands before.
+squeezed : ℕ → List ℕ → List ℕ
+squeezed p [] = []
+squeezed p (b ∷ bs) = pick (and (eqb b BLANK) (eqb b p)) (λ u. squeezed p bs) (λ u. b ∷ squeezed b bs)
+
+converted-as : (b : ℕ) (bs : List ℕ) → spaced (b ∷ bs) ≡ converted b ∷ spaced bs
+unfolding spaced convert converted among
+converted-as b bs = ap (λ c. c ∷ spaced bs) (go (eqb b 13) (eqb b 10) (eqb b 9) refl refl refl)
+  where
+    go : (x y z : Bool) → eqb b 13 ≡ x → eqb b 10 ≡ y → eqb b 9 ≡ z →
+        pick (eqb (pick (eqb (pick (eqb b 13) (λ u. 10) (λ u. b)) 10) (λ u. 32) (λ u. pick (eqb b 13) (λ u. 10) (λ u. b))) 9) (λ u. 32)
+        (λ u. pick (eqb (pick (eqb b 13) (λ u. 10) (λ u. b)) 10) (λ u. 32) (λ u. pick (eqb b 13) (λ u. 10) (λ u. b))) ≡ converted b
+    go true y z e f g = simp e
+    go false true z e f g = simp (e, f)
+    go false false true e f g = simp (e, f, g)
+    go false false false e f g = simp (e, f, g)
+
+-- Preserve converts, and Default also drops a space behind a space.
+trim-preserve : (p : ℕ) (bs : List ℕ) → trimTextAfter preserve p bs ≡ spaced bs
+unfolding trimTextAfter spaced convert
+trim-preserve p [] = refl
+trim-preserve p (b ∷ bs) = rw (converted-as b bs) (ap (λ r. converted b ∷ r) (trim-preserve (converted b) bs))
+
+trim-default : (p : ℕ) (bs : List ℕ) → trimTextAfter default p bs ≡ squeezed p (spaced bs)
+unfolding trimTextAfter squeezed spaced convert
+trim-default p [] = refl
+trim-default p (b ∷ bs) =
+    go (and (eqb (converted b) BLANK) (eqb (converted b) p)) (trim-default p bs) (trim-default (converted b) bs)
+    ∙ sym (ap (squeezed p) (converted-as b bs))
+  where
+    go : (c : Bool) → trimTextAfter default p bs ≡ squeezed p (spaced bs) → trimTextAfter default (converted b) bs ≡ squeezed (converted b) (spaced bs) →
+        pick c (λ u. trimTextAfter default p bs) (λ u. converted b ∷ trimTextAfter default (converted b) bs)
+        ≡ pick c (λ u. squeezed p (spaced bs)) (λ u. converted b ∷ squeezed (converted b) (spaced bs))
+    go true h g = h
+    go false h g = ap (λ r. converted b ∷ r) g
+
+-- THE EDGES
+
+-- Without a space in front, if there is one.
+abbrev pub noFirst : List ℕ → List ℕ
+noFirst [] = []
+noFirst (b ∷ bs) = pick (eqb b BLANK) (λ u. bs) (λ u. b ∷ bs)
+
+-- Without a space at the end, if there is one.
+unfoldable pub noLast : List ℕ → List ℕ
+noLast [] = []
+noLast (b ∷ []) = pick (eqb b BLANK) (λ u. []) (λ u. b ∷ [])
+noLast (b ∷ c ∷ bs) = b ∷ noLast (c ∷ bs)
+
+-- The first space goes: what is left is squeezed as if a space stood before.
+first-goes : (p : ℕ) (bs : List ℕ) → eqb BLANK p ≡ false → noFirst (squeezed p bs) ≡ squeezed BLANK bs
+unfolding squeezed
+first-goes p [] h = refl
+first-goes p (b ∷ bs) h = go (eqb b BLANK) refl
+  where
+    go : (c : Bool) → eqb b BLANK ≡ c → noFirst (squeezed p (b ∷ bs)) ≡ squeezed BLANK (b ∷ bs)
+    go true e = rw (eqb-true b BLANK e) (simp h)
+    go false e = simp e
+
+-- The last space goes: what is left are the words.
+last-goes : (bs : List ℕ) (b : ℕ) → eqb b BLANK ≡ false →
+    (noLast (b ∷ squeezed b bs) ≡ b ∷ words word bs) × (noLast (b ∷ BLANK ∷ squeezed BLANK bs) ≡ b ∷ words gap bs)
+unfolding noLast squeezed words
+last-goes [] b h = (rw h refl, refl)
+last-goes (c ∷ bs) b h = go (eqb c BLANK) refl (last-goes bs b h) (λ e. last-goes bs c e)
+  where
+    go : (d : Bool) → eqb c BLANK ≡ d → (noLast (b ∷ squeezed b bs) ≡ b ∷ words word bs) × (noLast (b ∷ BLANK ∷ squeezed BLANK bs) ≡ b ∷ words gap bs) →
+        (eqb c BLANK ≡ false → (noLast (c ∷ squeezed c bs) ≡ c ∷ words word bs) × (noLast (c ∷ BLANK ∷ squeezed BLANK bs) ≡ c ∷ words gap bs)) →
+        (noLast (b ∷ squeezed b (c ∷ bs)) ≡ b ∷ words word (c ∷ bs)) × (noLast (b ∷ BLANK ∷ squeezed BLANK (c ∷ bs)) ≡ b ∷ words gap (c ∷ bs))
+    go true e k g =
+        let n : eqb BLANK b ≡ false = ne-eqb BLANK b (λ q. eqb-false b BLANK h (sym q)) in
+        rw (eqb-true c BLANK e) (simp n (k .1), k .1)
+    go false e k g = simp e (ap (λ r. b ∷ r) (g e .0), ap (λ r. b ∷ BLANK ∷ r) (g e .0))
+
+edges-front : (bs : List ℕ) → noLast (squeezed BLANK bs) ≡ words front bs
+unfolding noLast squeezed words
+edges-front [] = refl
+edges-front (b ∷ bs) = go (eqb b BLANK) refl (edges-front bs)
+  where
+    go : (c : Bool) → eqb b BLANK ≡ c → noLast (squeezed BLANK bs) ≡ words front bs → noLast (squeezed BLANK (b ∷ bs)) ≡ words front (b ∷ bs)
+    go true e h = rw (eqb-true b BLANK e) h
+    go false e h = simp e (last-goes bs b e .0)
+
+-- Nothing is removed where there is nothing to remove.
+none-without : (c : ℕ) (bs : List ℕ) → Free c bs → without c bs ≡ bs
+unfolding without
+none-without c [] h = refl
+none-without c (b ∷ bs) h = rw (h .0) (ap (λ r. b ∷ r) (none-without c bs (h .1)))
+
+none-converted : (c d : ℕ) (bs : List ℕ) → Free c bs → convert c d bs ≡ bs
+unfolding convert
+none-converted c d [] h = refl
+none-converted c d (b ∷ bs) h = rw (h .0) (ap (λ r. b ∷ r) (none-converted c d bs (h .1)))
+
+-- What was converted is gone.
+converted-free : (c d : ℕ) (bs : List ℕ) → eqb d c ≡ false → Free c (convert c d bs)
+unfolding convert
+converted-free c d [] h = tt
+converted-free c d (b ∷ bs) h = (go (eqb b c) refl, converted-free c d bs h)
+  where
+    go : (x : Bool) → eqb b c ≡ x → eqb (pick (eqb b c) (λ u. d) (λ u. b)) c ≡ false
+    go true e = rw e h
+    go false e = simp e
+
+-- The standard's default text, where newlines are first made spaces.
+default-words : (bs : List ℕ) → asDefault (convert NEWLINE BLANK bs) ≡ words front (convert TAB BLANK (convert NEWLINE BLANK bs))
+unfolding asDefault
+default-words bs =
+    ap (λ r. consolidated (noTrailing (noLeading (convert TAB BLANK r)))) (none-without NEWLINE (convert NEWLINE BLANK bs) (converted-free NEWLINE BLANK bs refl))
+    ∙ stripped _
+
+-- THEOREMS
+
+-- PRESERVE. What `trim_text` makes of any text under Preserve is the standard's text, with carriage returns taken as newlines.
+pub preserve-is-standard : (bs : List ℕ) → trimText preserve bs ≡ asPreserve (convert RETURN NEWLINE bs)
+unfolding trimText asPreserve spaced
+preserve-is-standard bs = trim-preserve 48 bs
+
+-- So it is the standard's text of every text that has no carriage return, such as "a\n b": XML 1.0 leaves none of its line ends behind.
+pub preserve-without-return : (bs : List ℕ) → Free RETURN bs → trimText preserve bs ≡ asPreserve bs
+preserve-without-return bs h = preserve-is-standard bs ∙ ap asPreserve (none-converted RETURN NEWLINE bs h)
+
+-- DEFAULT. `trim_text`, then a space off each end: the standard's text of the source with its newlines (and carriage returns) made spaces.
+pub default-is-standard : (bs : List ℕ) → noLast (noFirst (trimText default bs)) ≡ asDefault (convert NEWLINE BLANK (convert RETURN NEWLINE bs))
+unfolding trimText spaced
+default-is-standard bs =
+    ap (λ r. noLast (noFirst r)) (trim-default 48 bs) ∙ ap noLast (first-goes 48 (spaced bs) refl)
+    ∙ edges-front (spaced bs) ∙ sym (default-words (convert RETURN NEWLINE bs))
