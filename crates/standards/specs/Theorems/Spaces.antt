@@ -1,6 +1,7 @@
 -- Spaces in one text: SVG 1.1's text, and what `trim_text` makes of it.
 use Prim.Native.Nat.{ℕ, suc, _+_}
 use mathlib.Core.Path.{_≡_, refl, sym, ap, _∙_}
+use mathlib.Core.Logic.{_⊎_, inl, inr}
 use mathlib.Core.Bool.{Bool, true, false}
 use mathlib.Core.List.{List, [], _∷_}
 use native.Mathlib.Omega.{arith}
@@ -9,7 +10,7 @@ use lib.Dec.{eqb}
 use lib.ListN.{length}
 use Rattle.model.specs.Base.{pick, and, among}
 use Rattle.model.specs.Text.{XmlSpace, default, preserve, converted, trimTextAfter, trimText}
-use Rattle.standards.specs.SvgSpace.{NEWLINE, TAB, BLANK, RETURN, without, convert, noLeading, isNothing, noTrailing, isBlankNext, consolidated, asDefault, asPreserve, Free}
+use Rattle.standards.specs.SvgSpace.{NEWLINE, TAB, BLANK, RETURN, without, convert, noLeading, isNothing, noTrailing, isBlankNext, consolidated, asDefault, asPreserve, Free, Place, ahead, inWord, inGap, atBreak, newline, blank, visible, sortOf, next, seamsHere, seamsFrom, seams}
 
 -- THE STANDARD'S DEFAULT AS ONE PASS
 
@@ -188,3 +189,122 @@ unfolding trimText spaced
 default-is-standard bs =
     ap (λ r. noLast (noFirst r)) (trim-default 48 bs) ∙ ap noLast (first-goes 48 (spaced bs) refl)
     ∙ edges-front (spaced bs) ∙ sym (default-words (convert RETURN NEWLINE bs))
+
+-- So it is the standard's text of every text that has neither newline nor carriage return, such as " a  b ".
+pub default-without-newline : (bs : List ℕ) → Free NEWLINE bs → Free RETURN bs → noLast (noFirst (trimText default bs)) ≡ asDefault bs
+default-without-newline bs h g =
+    default-is-standard bs
+    ∙ ap (λ r. asDefault (convert NEWLINE BLANK r)) (none-converted RETURN NEWLINE bs g) ∙ ap asDefault (none-converted NEWLINE BLANK bs h)
+
+-- NEWLINES. The text with newlines as spaces, and with newlines removed.
+asSpaces : List ℕ → List ℕ
+asSpaces bs = convert TAB BLANK (convert NEWLINE BLANK bs)
+
+removed : List ℕ → List ℕ
+removed bs = convert TAB BLANK (without NEWLINE bs)
+
+-- What a character makes of both, by its kind.
+by-sort : (b : ℕ) (bs : List ℕ) →
+    ((sortOf b ≡ newline) × (asSpaces (b ∷ bs) ≡ BLANK ∷ asSpaces bs) × (removed (b ∷ bs) ≡ removed bs))
+    ⊎ ((sortOf b ≡ blank) × (asSpaces (b ∷ bs) ≡ BLANK ∷ asSpaces bs) × (removed (b ∷ bs) ≡ BLANK ∷ removed bs))
+    ⊎ ((sortOf b ≡ visible) × (asSpaces (b ∷ bs) ≡ b ∷ asSpaces bs) × (removed (b ∷ bs) ≡ b ∷ removed bs) × (eqb b BLANK ≡ false))
+unfolding asSpaces removed convert without sortOf
+by-sort b bs = go (eqb b 10) (eqb b 9) (eqb b 32) refl refl refl
+  where
+    go : (x y z : Bool) → eqb b 10 ≡ x → eqb b 9 ≡ y → eqb b 32 ≡ z →
+        ((sortOf b ≡ newline) × (asSpaces (b ∷ bs) ≡ BLANK ∷ asSpaces bs) × (removed (b ∷ bs) ≡ removed bs))
+        ⊎ ((sortOf b ≡ blank) × (asSpaces (b ∷ bs) ≡ BLANK ∷ asSpaces bs) × (removed (b ∷ bs) ≡ BLANK ∷ removed bs))
+        ⊎ ((sortOf b ≡ visible) × (asSpaces (b ∷ bs) ≡ b ∷ asSpaces bs) × (removed (b ∷ bs) ≡ b ∷ removed bs) × (eqb b BLANK ≡ false))
+    go true y z e f g = inl (simp e, simp e, simp e)
+    go false true z e f g = inr (inl (simp (e, f), simp (e, f), simp (e, f)))
+    go false false true e f g = inr (inl (simp (e, f, g), rw (eqb-true b 32 g) refl, rw (eqb-true b 32 g) refl))
+    go false false false e f g = inr (inr (simp (e, f, g), simp (e, f), simp (e, f), g))
+
+-- Where the pass over each of the two texts is.
+abbrev spacesPass : Place → Pass
+spacesPass ahead = front
+spacesPass inWord = word
+spacesPass inGap = gap
+spacesPass atBreak = gap
+
+abbrev removedPass : Place → Pass
+removedPass ahead = front
+removedPass inWord = word
+removedPass inGap = gap
+removedPass atBreak = word
+
+-- One character more for each seam, and the same text where there is none.
+abbrev ApartBy : Place → ℕ → List ℕ → List ℕ → Type 0
+ApartBy p n x y =
+    (length (words (spacesPass p) x) ≡ length (words (removedPass p) y) + n) × (n ≡ 0 → words (spacesPass p) x ≡ words (removedPass p) y)
+
+longer : (a b n : ℕ) (x y : List ℕ) → a ≡ b → (length x ≡ length y + n) × (n ≡ 0 → x ≡ y) →
+    (length (a ∷ x) ≡ length (b ∷ y) + n) × (n ≡ 0 → a ∷ x ≡ b ∷ y)
+longer a b n x y e h = (omega (arith, h .0), λ z. rw (e, h .1 z) refl)
+
+seam-more : (b : ℕ) (n : ℕ) (x y : List ℕ) → (length x ≡ length y + n) × (n ≡ 0 → x ≡ y) →
+    (length (BLANK ∷ b ∷ x) ≡ length (b ∷ y) + suc n) × (suc n ≡ 0 → BLANK ∷ b ∷ x ≡ b ∷ y)
+seam-more b n x y h = (omega (arith, h .0), λ z. absurd (omega arith))
+
+of-nothing : (asSpaces [] ≡ []) × (removed [] ≡ [])
+unfolding asSpaces removed convert without
+of-nothing = (refl, refl)
+
+apart-by : (bs : List ℕ) (p : Place) → ApartBy p (seamsFrom p bs) (asSpaces bs) (removed bs)
+unfolding words seamsFrom
+apart-by [] p = rw (of-nothing .0, of-nothing .1) (refl, λ h. refl)
+apart-by (b ∷ bs) p = go p (by-sort b bs) (λ q. apart-by bs q)
+  where
+    go : (p : Place) → ((sortOf b ≡ newline) × (asSpaces (b ∷ bs) ≡ BLANK ∷ asSpaces bs) × (removed (b ∷ bs) ≡ removed bs))
+        ⊎ ((sortOf b ≡ blank) × (asSpaces (b ∷ bs) ≡ BLANK ∷ asSpaces bs) × (removed (b ∷ bs) ≡ BLANK ∷ removed bs))
+        ⊎ ((sortOf b ≡ visible) × (asSpaces (b ∷ bs) ≡ b ∷ asSpaces bs) × (removed (b ∷ bs) ≡ b ∷ removed bs) × (eqb b BLANK ≡ false)) →
+        ((q : Place) → ApartBy q (seamsFrom q bs) (asSpaces bs) (removed bs)) → ApartBy p (seamsFrom p (b ∷ bs)) (asSpaces (b ∷ bs)) (removed (b ∷ bs))
+    go ahead (inl h) r = rw (h .0, h .1, h .2) (r ahead)
+    go inWord (inl h) r = rw (h .0, h .1, h .2) (r atBreak)
+    go inGap (inl h) r = rw (h .0, h .1, h .2) (r inGap)
+    go atBreak (inl h) r = rw (h .0, h .1, h .2) (r atBreak)
+    go ahead (inr (inl h)) r = rw (h .0, h .1, h .2) (r ahead)
+    go inWord (inr (inl h)) r = rw (h .0, h .1, h .2) (r inGap)
+    go inGap (inr (inl h)) r = rw (h .0, h .1, h .2) (r inGap)
+    go atBreak (inr (inl h)) r = rw (h .0, h .1, h .2) (r inGap)
+    go ahead (inr (inr h)) r = simp (h .0, h .1, h .2, h .3) (longer b b _ _ _ refl (r inWord))
+    go inWord (inr (inr h)) r = simp (h .0, h .1, h .2, h .3) (longer b b _ _ _ refl (r inWord))
+    go inGap (inr (inr h)) r = simp (h .0, h .1, h .2, h .3) (longer BLANK BLANK _ _ _ refl (longer b b _ _ _ refl (r inWord)))
+    go atBreak (inr (inr h)) r = simp (h .0, h .1, h .2, h .3) (seam-more b _ _ _ (r inWord))
+
+as-words : (bs : List ℕ) → (asDefault (convert NEWLINE BLANK bs) ≡ words front (asSpaces bs)) × (asDefault bs ≡ words front (removed bs))
+unfolding asSpaces removed asDefault
+as-words bs = (default-words bs, stripped _)
+
+-- Newlines made spaces instead of removed: one space more for each seam, and no other difference in length.
+pub seams-longer : (bs : List ℕ) → length (asDefault (convert NEWLINE BLANK bs)) ≡ length (asDefault bs) + seams bs
+unfolding seams
+seams-longer bs = rw (as-words bs .0, as-words bs .1) (apart-by bs ahead .0)
+
+-- Where there is no seam the two are the same text.
+pub seams-none : (bs : List ℕ) → seams bs ≡ 0 → asDefault (convert NEWLINE BLANK bs) ≡ asDefault bs
+unfolding seams
+seams-none bs h = rw (as-words bs .0, as-words bs .1) (apart-by bs ahead .1 h)
+
+-- WHICH TEXTS WITH NEWLINES STILL AGREE: those in which newlines alone stand nowhere between two visible characters, such as
+-- "\n  a\n  b\n", the usual indented text.
+pub newline-agrees : (bs : List ℕ) → Free RETURN bs → seams bs ≡ 0 → noLast (noFirst (trimText default bs)) ≡ asDefault bs
+newline-agrees bs h g =
+    default-is-standard bs ∙ ap (λ r. asDefault (convert NEWLINE BLANK r)) (none-converted RETURN NEWLINE bs h) ∙ seams-none bs g
+
+-- THE DIFFERENCE: every other text is longer than the standard's, by one space for each seam.
+pub newline-differs : (bs : List ℕ) → Free RETURN bs → length (noLast (noFirst (trimText default bs))) ≡ length (asDefault bs) + seams bs
+newline-differs bs h =
+    ap length (default-is-standard bs ∙ ap (λ r. asDefault (convert NEWLINE BLANK r)) (none-converted RETURN NEWLINE bs h)) ∙ seams-longer bs
+
+-- The smallest case: "a", a newline, "b". The Rust's text is "a b", the standard's "ab"; there is one seam.
+pub newline-case :
+    (noLast (noFirst (trimText default (97 ∷ 10 ∷ 98 ∷ []))) ≡ 97 ∷ 32 ∷ 98 ∷ []) × (asDefault (97 ∷ 10 ∷ 98 ∷ []) ≡ 97 ∷ 98 ∷ [])
+    × (seams (97 ∷ 10 ∷ 98 ∷ []) ≡ 1)
+unfolding trimText trimTextAfter converted among noLast asDefault without convert noLeading noTrailing consolidated seams seamsFrom sortOf
+newline-case = (refl, refl, refl)
+
+-- A carriage return, which only a character reference can write, becomes a space; the standard names it nowhere and keeps it.
+pub return-case : (trimText preserve (13 ∷ []) ≡ 32 ∷ []) × (asPreserve (13 ∷ []) ≡ 13 ∷ [])
+unfolding trimText trimTextAfter converted among asPreserve convert
+return-case = (refl, refl)
