@@ -1,3 +1,4 @@
 -- What is proved of the definitions of `model` from the standards' sentences. Nothing here needs to be believed: it is checked.
 pub mod Spaces
 pub mod Trimmings
+pub mod Shaved
