@@ -2,3 +2,4 @@
 pub mod Spaces
 pub mod Trimmings
 pub mod Shaved
+pub mod OneText

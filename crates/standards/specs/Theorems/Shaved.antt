@@ -24,7 +24,7 @@ pub data Shaved : List ℕ → List ℕ → Type 0 where
 
 -- ONE SPACE OFF AN END
 
-first-off : (b : ℕ) (bs : List ℕ) → cutList 1 0 (b ∷ bs) ≡ bs
+pub first-off : (b : ℕ) (bs : List ℕ) → cutList 1 0 (b ∷ bs) ≡ bs
 first-off b bs = ap (λ n. slice n (cutTo 0 (length (b ∷ bs)) 1 0) (b ∷ bs)) one ∙ ap (λ n. slice 1 n (b ∷ bs)) all ∙ take-length bs
   where
     one : cutFrom 0 (length (b ∷ bs)) 1 ≡ 1
@@ -33,7 +33,7 @@ first-off b bs = ap (λ n. slice n (cutTo 0 (length (b ∷ bs)) 1 0) (b ∷ bs))
     all : cutTo 0 (length (b ∷ bs)) 1 0 ≡ suc (length bs)
     all = omega arith
 
-last-off : (b : ℕ) (bs : List ℕ) → cutList 0 1 (b ∷ bs) ≡ take (length bs) (b ∷ bs)
+pub last-off : (b : ℕ) (bs : List ℕ) → cutList 0 1 (b ∷ bs) ≡ take (length bs) (b ∷ bs)
 last-off b bs = ap (λ n. slice n (cutTo 0 (length (b ∷ bs)) 0 1) (b ∷ bs)) no-first ∙ ap (λ n. slice 0 n (b ∷ bs)) all
   where
     no-first : cutFrom 0 (length (b ∷ bs)) 0 ≡ 0
