@@ -3,3 +3,4 @@ pub mod Spaces
 pub mod Trimmings
 pub mod Shaved
 pub mod OneText
+pub mod WholeTexts

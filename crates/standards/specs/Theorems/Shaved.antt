@@ -201,10 +201,17 @@ module _ (f₀ : ℕ → List ℕ) where
       still (b ∷ c ∷ v) h g k = rw (first-off b (c ∷ v)) k
 
   -- Behind the trimming of text nodes that come one behind another, every text is as it was with spaces taken off its ends.
-  pub trimming-kept : (w : XmlSpace) (a : TextNode) (more : List TextNode) → Rising (a .node) more → Kept (told (trimming w (a ∷ more)) f₀)
+  pub trimming-kept : (w : XmlSpace) (m : ℕ) (is : List TextNode) → Rising m is → (j : ℕ) → Shaved (f₀ j) (told (trimming w is) f₀ j)
   unfolding told trimming
-  trimming-kept w a [] r = kept-pick (isDefault w) _ _ f₀ (λ e. single-kept a f₀ (λ j. whole)) (λ e j. whole)
-  trimming-kept w a (b ∷ more) r = pairs-kept (b ∷ more) true none a tt r f₀ (λ j. whole)
+  trimming-kept w m [] r = λ j. whole
+  trimming-kept w m (a ∷ []) r = kept-pick (isDefault w) _ _ f₀ (λ e. single-kept a f₀ (λ j. whole)) (λ e j. whole)
+  trimming-kept w m (a ∷ b ∷ more) r = pairs-kept (b ∷ more) true none a tt (r .1) f₀ (λ j. whole)
+
+-- One trimming after another.
+pub shaved-then : {u v w : List ℕ} → Shaved u v → Shaved v w → Shaved u w
+shaved-then r whole = r
+shaved-then r (front s) = front (shaved-then r s)
+shaved-then r (back s) = back (shaved-then r s)
 
 -- WHAT FOLLOWS
 

@@ -154,7 +154,7 @@ module _ (i a b : ℕ) (t : Tree) where
       either (inr u) = inr (inr u)
 
   -- The bounds of any node after the cut lie within what they were.
-  within-cut : (Q : ℕ → Type 0) → Placed Q t → Q i → (j : ℕ) → Q j →
+  pub within-cut : (Q : ℕ → Type 0) → Placed Q t → Q i → (j : ℕ) → Q j →
       (fromOf t j ≤ fromOf (cutText i a b t) j) × (fromOf (cutText i a b t) j ≤ toOf (cutText i a b t) j) × (toOf (cutText i a b t) j ≤ toOf t j)
   unfolding newFrom newTo
   within-cut Q p q j r = go (ℕ-discrete j i)
@@ -167,11 +167,11 @@ module _ (i a b : ℕ) (t : Tree) where
           let h = p .inside j r in
           rw (bound-else j 6 (inl refl) d, bound-else j 7 (inr refl) d) (omega arith, h .1, omega arith)
 
-  lengths : (length (cutText i a b t .nodes) ≡ length (t .nodes)) × (length (cutText i a b t .text) ≡ length (t .text))
+  pub lengths : (length (cutText i a b t .nodes) ≡ length (t .nodes)) × (length (cutText i a b t .text) ≡ length (t .text))
   unfolding cutText
   lengths = let h = bounds-lengths i (cutFrom (fromOf t i) (toOf t i) a) (cutTo (fromOf t i) (toOf t i) a b) t in (h .nodes, h .text)
 
-  placed-cut : (Q : ℕ → Type 0) → Placed Q t → Q i → Placed Q (cutText i a b t)
+  pub placed-cut : (Q : ℕ → Type 0) → Placed Q t → Q i → Placed Q (cutText i a b t)
   placed-cut Q p q = record {
     inside = λ j r. let h = p .inside j r in let w = within-cut Q p q j r in (rw nodes-long (h .0), w .1, rw text-long (omega (arith, h .2, w .2)));
     apart = λ j k r s d. still j k (within-cut Q p q j r) (within-cut Q p q k s) (p .apart j k r s d);
