@@ -1,6 +1,6 @@
 -- Every text node of every build: its text is what `trim_text` made of its sources, with spaces taken off its ends.
 use Prim.Native.Nat.{ℕ, zero, suc, _+_, _-_, _*_, _≤_, _<_}
-use mathlib.Core.Path.{_≡_, refl, sym, ap, _∙_, subst}
+use mathlib.Core.Path.{_≡_, refl, sym, ap, ap₂, _∙_, subst}
 use mathlib.Core.Logic.{_⊎_, inl, inr}
 use mathlib.Core.Bool.{Bool, true, false}
 use mathlib.Core.List.{List, [], _∷_}
@@ -8,21 +8,24 @@ use native.Mathlib.Omega.{arith}
 use native.Mathlib.Decide.{decLt, ℕ-discrete}
 use borrow.Author.Tests.{eqb-true, leb-true, ltb-true}
 use lib.Dec.{eqb, leb, ltb}
-use lib.ListN.{length, getD, set, take, length-take, length-drop, length-append}
-use lib.Seq.{sets, slice, getD-set-other, length-sets, ext-getD, getD-take, getD-drop, length-slice}
+use lib.ListN.{length, getD, set, take, replicate, length-set, length-take, length-drop, length-append}
+use lib.Seq.{sets, slice, getD-set-same, getD-set-other, length-sets, ext-getD, getD-take, getD-drop, length-slice}
 use Rattle.model.specs.Base.{pick, and}
-use Rattle.model.specs.Drawing.{Element, Source}
-use Rattle.model.specs.Tables.{Tree, Out, refused, done, then, ELEMENT, TEXT, word, kindOf, parentOf, fromOf, toOf, textOf, setText, Entry, nodeRoom, attributeRoom, textRoom, addElement, addText, appended}
+use Rattle.model.specs.Drawing.{Element, Source, Event, events, valuesIn}
+use Rattle.model.specs.Tables.{Tree, Out, refused, done, then, ELEMENT, TEXT, word, kindOf, parentOf, fromOf, toOf, textOf, setText, Entry, nodeRoom, attributeRoom, textRoom, addElement, addText, appended, cleared, rooted, setNone}
 use Rattle.model.specs.Element.{entriesOf, mostNodes, parseSvgElement}
 use Rattle.model.specs.Text.{XmlSpace, default, isDefault, SPACE, converted, trimTextAfter, trimText, totalSize, joined, spaceOf, getXmlspace, appendText, Trimming, stop, look, cut, cutText, cutFrom, cutTo, run, TextNode, depthBelow, textNodes, ownTextNodes, trimming, trimTextNodes}
 use Rattle.model.specs.Parse.{Ops, plain}
-use Rattle.model.specs.Noted.{Note, size, Noted, In, noteOf, withNotes, noting}
+use Rattle.model.specs.Noted.{Note, size, Noted, In, noteOf, withNotes, noting, notedParsed, notedTree, notesOf, notes, stripped}
+use Rattle.model.specs.Repair.{Cut, cutEntry, applyCut, applied, repairs, repaired}
+use Rattle.model.specs.Build.{Result, build, answered, withRepairs, withRoot, parsed, tested, firstIsSvg}
 use Rattle.model.specs.Theorems.Laws.{appended-old, appended-new, room-fits}
 use Rattle.model.specs.Theorems.Agree.{agree-outs, agree-slice, sets-in}
 use Rattle.model.specs.Theorems.Unused.{element-lengths, text-lengths}
 use Rattle.model.specs.Theorems.Good.{Fits, Apart}
 use Rattle.model.specs.Theorems.Reach.{Within, within-trimming, own-collected}
-use Rattle.model.specs.Theorems.Always.{Always, always-then}
+use Rattle.model.specs.Theorems.Always.{Always, always-then, parsed-always}
+use Rattle.model.specs.Theorems.Whole.{build-checked, build-noted}
 use Rattle.standards.specs.Theorems.Trimmings.{cutList, told, Placed, within-cut, placed-cut, lengths, run-told}
 use Rattle.standards.specs.Theorems.Shaved.{Shaved, whole, front, back, shaved-then, Rising, trimming-kept}
 
@@ -349,3 +352,107 @@ module _ (chars : List ℕ) (s : Noted) (h : Held chars s) where
           (within-trimming Noticed v _ (own-collected Noticed chars (s .tree) v e (s .tree .nodeCount) l (λ j x y k. h .noted j y k)))
           (trimming-kept (textOf (s .tree)) v e _ (own-rising chars (s .tree) v e (s .tree .nodeCount)))
       go (no l) = rw (nothing-own chars (s .tree) v e (s .tree .nodeCount) (omega arith)) (rw (stopped v (s .tree)) h)
+
+-- EVERY BUILD
+
+module _ (chars : List ℕ) where
+  element-step : (x : Element) (c : ℕ) (i : Bool) (p : ℕ) (s : Noted) → Held chars s → Always (Held chars) (noting (plain chars) .element x c i p s)
+  unfolding parseSvgElement
+  element-step x c i p s h =
+      let t = s .tree in
+      let es = entriesOf t p c i x in
+      always-then (λ r. Held chars (record { tree = r; notes = s .notes })) (Held chars) (parseSvgElement x c i p t) _
+      (always-test _ (leb (t .attributeCount + length es) (attributeRoom t)) _ _
+      (λ a. always-test _ (leb (t .nodeCount) mostNodes) _ _
+      (λ b. always-test _ (ltb (t .nodeCount) (nodeRoom t)) _ _ (λ r. element-held chars c es p s (room-fits t r) h) (λ r e. omega arith))
+      (λ b e. omega arith)) (λ a e. omega arith))
+      (λ r k. k)
+
+  text-step : (e : ℕ) (from : List Source) (p : ℕ) (s : Noted) → Held chars s → Always (Held chars) (noting (plain chars) .text e from p s)
+  unfolding appendText textRoom
+  text-step e from p s h =
+      let t = s .tree in
+      let ns = noteOf e from (t .nodeCount) (t .textCount) ∷ s .notes in
+      always-then (λ r. Held chars (record { tree = r; notes = ns })) (Held chars) (appendText chars from p t) _
+      (always-test _ (leb (t .textCount + totalSize from) (textRoom t)) _ _
+      (λ a. always-test _ (ltb (t .nodeCount) (nodeRoom t)) _ _
+      (λ b. text-held chars (spaceOf chars t p) e from p s (room-fits t b) (omega (arith, leb-true (t .textCount + totalSize from) (textRoom t) a)) h)
+      (λ b k. omega arith)) (λ a k. omega arith))
+      (λ r k. k)
+
+  root-held : (n m b : ℕ) → ltb 0 (nodeRoom (cleared n m b)) ≡ true → Held chars (record { tree = rooted (cleared n m b); notes = [] })
+  unfolding rooted cleared
+  root-held n m b h = record {
+    room = rw length-set (omega (arith, room-fits (cleared n m b) h));
+    bytes = omega arith;
+    below = λ k i. absurd i;
+    fits = λ k i. absurd i;
+    apart = tt;
+    noted = λ i l e.
+        let q : i ≡ 0 = omega arith in
+        let z : _≡_ {A = ℕ} 1 3 = sym (getD-set-same (replicate n 0) 0 1 0 (omega (arith, room-fits (cleared n m b) h))) ∙ (rw q at e) in
+        absurd (omega arith);
+    made = λ k i. absurd i;
+  }
+
+  -- With the notes, up to the repairs.
+  tree-held : (all : List Event) (n m b : ℕ) → Always (Held chars) (notedTree (plain chars) all (cleared n m b))
+  unfolding notedTree withRoot notedParsed tested
+  tree-held all n m b =
+      always-then (λ r. Held chars (record { tree = r; notes = [] })) (Held chars) (withRoot (cleared n m b)) _
+      (always-test _ (ltb 0 (nodeRoom (cleared n m b))) _ _ (λ h. root-held n m b h) (λ h e. omega arith))
+      (λ r k. always-then (Held chars) (Held chars) (parsed (noting (plain chars)) all (record { tree = r; notes = [] })) _
+      (parsed-always (Held chars) (noting (plain chars)) all element-step text-step (λ e s h. finish-held chars s h e) (record { tree = r; notes = [] }) k)
+      (λ s g. always-then (λ u. Held chars (record { tree = u; notes = s .notes })) (Held chars) (tested (s .tree)) _
+      (always-test _ (firstIsSvg (s .tree)) _ _ (λ e. g) (λ e f. omega arith)) (λ u k. k)))
+
+-- The repairs change no text.
+one-cut : (c : Cut) (t : Tree) → (applyCut t c .nodes ≡ t .nodes) × (applyCut t c .text ≡ t .text) × (applyCut t c .nodeCount ≡ t .nodeCount)
+unfolding applyCut setNone
+one-cut c t = go (eqb (cutEntry t (c .pass) (c .node)) 0)
+  where
+    go : (b : Bool) → (pick b (λ u. t) (λ u. setNone (cutEntry t (c .pass) (c .node) - 1) t) .nodes ≡ t .nodes)
+        × (pick b (λ u. t) (λ u. setNone (cutEntry t (c .pass) (c .node) - 1) t) .text ≡ t .text)
+        × (pick b (λ u. t) (λ u. setNone (cutEntry t (c .pass) (c .node) - 1) t) .nodeCount ≡ t .nodeCount)
+    go true = (refl, refl, refl)
+    go false = (refl, refl, refl)
+
+cuts-texts : (cs : List Cut) (t : Tree) → (applied t cs .nodes ≡ t .nodes) × (applied t cs .text ≡ t .text) × (applied t cs .nodeCount ≡ t .nodeCount)
+unfolding applied
+cuts-texts [] t = (refl, refl, refl)
+cuts-texts (c ∷ cs) t = let h = cuts-texts cs (applyCut t c) in let g = one-cut c t in (h .0 ∙ g .0, h .1 ∙ g .1, h .2 ∙ g .2)
+
+-- THEOREM. In every build that is accepted, every text node has a note of what it is made from, and its text is what `trim_text` made of
+-- these sources, with spaces taken off its ends.
+pub texts-made : (script chars : List ℕ) (n m b : ℕ) → build script chars n m b .number ≡ 0 →
+    (i : ℕ) → i < build script chars n m b .tree .nodeCount → kindOf (build script chars n m b .tree) i ≡ TEXT →
+    (k : Note) × In k (notes script chars n m b) × (k .node ≡ i) × Made chars k (build script chars n m b .tree)
+unfolding notes notesOf stripped repaired textOf
+texts-made script chars n m b h i l k = made
+  where
+    all : List Event
+    all = events script chars
+
+    answer : Out Noted → Result
+    answer o = answered chars (cleared n m b) (withRepairs chars all (stripped o))
+
+    go : (o : Out Noted) → Always (Held chars) o → answer o .number ≡ 0 → i < answer o .tree .nodeCount → kindOf (answer o .tree) i ≡ TEXT →
+        (k : Note) × In k (notesOf o) × (k .node ≡ i) × Made chars k (answer o .tree)
+    go (refused q) a h l e = absurd (a h)
+    go (done s) a h l e =
+        let c = cuts-texts (repairs chars (valuesIn all) (s .tree)) (s .tree) in
+        let q = a .noted i (rw (← c .2) l) (ap (λ (ns : List ℕ). getD ns (8 * i + 0) 0) (sym (c .0)) ∙ e) in
+        let m = a .made (q .0) (q .1) in
+        (q .0, q .1, q .2, record {
+      space = m .space;
+      shaved = subst (λ (v : List ℕ). Shaved (trimText (m .space) (joined chars (q .0 .texts))) v)
+          (ap₂ (λ (ns ts : List ℕ). slice (getD ns (8 * q .0 .node + 6) 0) (getD ns (8 * q .0 .node + 7) 0) ts) (sym (c .0)) (sym (c .1))) (m .shaved);
+    })
+
+    is : build script chars n m b ≡ answer (notedTree (plain chars) all (cleared n m b))
+    is = build-noted script chars n m b (build-checked script chars n m b h)
+
+    made : (k : Note) × In k (notes script chars n m b) × (k .node ≡ i) × Made chars k (build script chars n m b .tree)
+    made = subst (λ (r : Result). (k : Note) × In k (notes script chars n m b) × (k .node ≡ i) × Made chars k (r .tree)) (sym is)
+        (go (notedTree (plain chars) all (cleared n m b)) (tree-held chars all n m b)
+        (subst (λ (r : Result). r .number ≡ 0) is h) (subst (λ (r : Result). i < r .tree .nodeCount) is l) (subst (λ (r : Result). kindOf (r .tree) i ≡ TEXT) is k))
