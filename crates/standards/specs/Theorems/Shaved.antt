@@ -10,10 +10,12 @@ use lib.Dec.{eqb, ltb}
 use lib.ListN.{length, getD, take, drop, length-append}
 use lib.Seq.{slice, take-length, take-suc}
 use Rattle.model.specs.Base.{pick, and, given}
-use Rattle.model.specs.Utf8.{isBlank}
+use Rattle.model.specs.Utf8.{isBlank, isUtf8}
 use Rattle.model.specs.Text.{XmlSpace, SPACE, isDefault, Trimming, stop, look, cut, cutFrom, cutTo, TextNode, beginsWithSpace, endsWithSpace, isEmpty, single, between, outerSpaces, lastEdge, pair, standsFor, isNil, pairs, trimming, removeFirstSpace, removeLastSpace}
 use Rattle.model.specs.Theorems.Sim.{and-left, and-right}
 use Rattle.standards.specs.SvgSpace.{without}
+use Rattle.standards.specs.Theorems.Spaces.{NoTwo}
+use Rattle.standards.specs.Theorems.Sequences.{first-space-utf8, last-space-utf8}
 use Rattle.standards.specs.Theorems.Trimmings.{cutList, withText, told}
 
 -- The second text is the first with spaces taken off its ends.
@@ -215,11 +217,6 @@ shaved-then r (back s) = back (shaved-then r s)
 
 -- WHAT FOLLOWS
 
--- No two spaces in a row.
-abbrev pub NoTwo : List ℕ → Type 0
-NoTwo [] = Unit {0}
-NoTwo (b ∷ bs) = (eqb b SPACE ≡ true → beginsWithSpace bs ≡ false) × NoTwo bs
-
 no-two-front : (w : List ℕ) (b : ℕ) → NoTwo (w ++ (b ∷ [])) → NoTwo w
 no-two-front [] b h = tt
 no-two-front (a ∷ []) b h = (λ e. refl, tt)
@@ -252,3 +249,9 @@ unfolding without
 shaved-visible whole = refl
 shaved-visible (front s) = shaved-visible s
 shaved-visible (back {w = w} s) = sym (without-last w) ∙ shaved-visible s
+
+-- Sequences of UTF-8 stay whole.
+pub shaved-utf8 : {v w : List ℕ} → Shaved v w → isUtf8 v ≡ true → isUtf8 w ≡ true
+shaved-utf8 whole h = h
+shaved-utf8 (front {w = w} s) h = first-space-utf8 w (shaved-utf8 s h)
+shaved-utf8 (back {w = w} s) h = last-space-utf8 w (shaved-utf8 s h)

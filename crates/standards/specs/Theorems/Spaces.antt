@@ -2,7 +2,7 @@
 use Prim.Native.Nat.{ℕ, suc, _+_}
 use mathlib.Core.Path.{_≡_, refl, sym, ap, _∙_}
 use mathlib.Core.Logic.{_⊎_, inl, inr}
-use mathlib.Core.Bool.{Bool, true, false}
+use mathlib.Core.Bool.{Bool, true, false, false≢true}
 use mathlib.Core.List.{List, [], _∷_}
 use native.Mathlib.Omega.{arith}
 use borrow.Author.Tests.{eqb-true, eqb-false, eq-eqb, ne-eqb}
@@ -308,3 +308,49 @@ newline-case = (refl, refl, refl)
 pub return-case : (trimText preserve (13 ∷ []) ≡ 32 ∷ []) × (asPreserve (13 ∷ []) ≡ 13 ∷ [])
 unfolding trimText trimTextAfter converted among asPreserve convert
 return-case = (refl, refl)
+
+-- WHAT STAYS UNDER DEFAULT AND PRESERVE
+
+squeezed-visible : (p : ℕ) (bs : List ℕ) → without BLANK (squeezed p bs) ≡ without BLANK bs
+unfolding squeezed without
+squeezed-visible p [] = refl
+squeezed-visible p (b ∷ bs) = go (eqb b BLANK) refl (squeezed-visible p bs) (squeezed-visible b bs)
+  where
+    drop-or-keep : (c : Bool) → without BLANK (squeezed p bs) ≡ without BLANK bs → without BLANK (squeezed BLANK bs) ≡ without BLANK bs →
+        without BLANK (pick c (λ u. squeezed p bs) (λ u. BLANK ∷ squeezed BLANK bs)) ≡ without BLANK bs
+    drop-or-keep true h g = h
+    drop-or-keep false h g = g
+
+    go : (c : Bool) → eqb b BLANK ≡ c → without BLANK (squeezed p bs) ≡ without BLANK bs → without BLANK (squeezed b bs) ≡ without BLANK bs →
+        without BLANK (squeezed p (b ∷ bs)) ≡ without BLANK (b ∷ bs)
+    go true e h g = let q = eqb-true b BLANK e in rw q (drop-or-keep (eqb BLANK p) h (rw q at g))
+    go false e h g = simp e (ap (λ r. b ∷ r) g)
+
+-- The characters other than white space are the source's, in their order, under both.
+pub trim-visible : (w : XmlSpace) (bs : List ℕ) → without BLANK (trimText w bs) ≡ without BLANK (asPreserve (convert RETURN NEWLINE bs))
+unfolding trimText asPreserve spaced
+trim-visible default bs = ap (without BLANK) (trim-default 48 bs) ∙ squeezed-visible 48 (spaced bs)
+trim-visible preserve bs = ap (without BLANK) (trim-preserve 48 bs)
+
+-- No two spaces in a row.
+abbrev pub NoTwo : List ℕ → Type 0
+NoTwo [] = Unit {0}
+NoTwo (b ∷ bs) = (eqb b BLANK ≡ true → isBlankNext bs ≡ false) × NoTwo bs
+
+squeezed-no-two : (bs : List ℕ) (p : ℕ) → NoTwo (squeezed p bs) × (eqb p BLANK ≡ true → isBlankNext (squeezed p bs) ≡ false)
+unfolding squeezed
+squeezed-no-two [] p = (tt, λ e. refl)
+squeezed-no-two (b ∷ bs) p = go (and (eqb b BLANK) (eqb b p)) refl (squeezed-no-two bs p) (squeezed-no-two bs b)
+  where
+    go : (c : Bool) → and (eqb b BLANK) (eqb b p) ≡ c → NoTwo (squeezed p bs) × (eqb p BLANK ≡ true → isBlankNext (squeezed p bs) ≡ false) →
+        NoTwo (squeezed b bs) × (eqb b BLANK ≡ true → isBlankNext (squeezed b bs) ≡ false) →
+        NoTwo (pick c (λ u. squeezed p bs) (λ u. b ∷ squeezed b bs))
+        × (eqb p BLANK ≡ true → isBlankNext (pick c (λ u. squeezed p bs) (λ u. b ∷ squeezed b bs)) ≡ false)
+    go true e h g = h
+    go false e h g = ((g .1, g .0), λ q. ne-eqb b BLANK (λ z.
+        let y : and (eqb b BLANK) (eqb b p) ≡ true = rw (z, eqb-true p BLANK q) refl in absurd (false≢true (sym e ∙ y))))
+
+-- Under Default no two spaces stand in a row.
+pub trim-no-two : (bs : List ℕ) → NoTwo (trimText default bs)
+unfolding trimText
+trim-no-two bs = rw (trim-default 48 bs) (squeezed-no-two (spaced bs) 48 .0)

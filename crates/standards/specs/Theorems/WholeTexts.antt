@@ -11,6 +11,7 @@ use lib.Dec.{eqb, leb, ltb}
 use lib.ListN.{length, getD, set, take, replicate, length-set, length-take, length-drop, length-append}
 use lib.Seq.{sets, slice, getD-set-same, getD-set-other, length-sets, ext-getD, getD-take, getD-drop, length-slice}
 use Rattle.model.specs.Base.{pick, and}
+use Rattle.model.specs.Utf8.{isUtf8}
 use Rattle.model.specs.Drawing.{Element, Source, Event, events, valuesIn}
 use Rattle.model.specs.Tables.{Tree, Out, refused, done, then, ELEMENT, TEXT, word, kindOf, parentOf, fromOf, toOf, textOf, setText, Entry, nodeRoom, attributeRoom, textRoom, addElement, addText, appended, cleared, rooted, setNone}
 use Rattle.model.specs.Element.{entriesOf, mostNodes, parseSvgElement}
@@ -26,8 +27,11 @@ use Rattle.model.specs.Theorems.Good.{Fits, Apart}
 use Rattle.model.specs.Theorems.Reach.{Within, within-trimming, own-collected}
 use Rattle.model.specs.Theorems.Always.{Always, always-then, parsed-always}
 use Rattle.model.specs.Theorems.Whole.{build-checked, build-noted}
+use Rattle.standards.specs.SvgSpace.{NEWLINE, BLANK, RETURN, without, convert, asPreserve}
+use Rattle.standards.specs.Theorems.Spaces.{NoTwo, trim-no-two, trim-visible}
+use Rattle.standards.specs.Theorems.Sequences.{trim-text-utf8}
 use Rattle.standards.specs.Theorems.Trimmings.{cutList, told, Placed, within-cut, placed-cut, lengths, run-told}
-use Rattle.standards.specs.Theorems.Shaved.{Shaved, whole, front, back, shaved-then, Rising, trimming-kept}
+use Rattle.standards.specs.Theorems.Shaved.{Shaved, whole, front, back, shaved-then, Rising, trimming-kept, shaved-shorter, shaved-visible, shaved-no-two, shaved-utf8}
 
 -- TEXTS AFTER AN APPEND
 
@@ -456,3 +460,21 @@ texts-made script chars n m b h i l k = made
     made = subst (λ (r : Result). (k : Note) × In k (notes script chars n m b) × (k .node ≡ i) × Made chars k (r .tree)) (sym is)
         (go (notedTree (plain chars) all (cleared n m b)) (tree-held chars all n m b)
         (subst (λ (r : Result). r .number ≡ 0) is h) (subst (λ (r : Result). i < r .tree .nodeCount) is l) (subst (λ (r : Result). kindOf (r .tree) i ≡ TEXT) is k))
+
+-- WHAT FOLLOWS for each text node of a build, k its note and t the build's tree (`texts-made` gives them).
+module _ (chars : List ℕ) (k : Note) (t : Tree) (m : Made chars k t) where
+  -- No node gains a character: its text is no longer than its sources are together.
+  pub no-longer : length (textOf t (k .node)) ≤ size k
+  no-longer = omega (arith, shaved-shorter (m .shaved), made-fits (m .space) chars (k .texts))
+
+  -- Its characters other than white space are those of its sources, in their order.
+  pub same-visible : without BLANK (textOf t (k .node)) ≡ without BLANK (asPreserve (convert RETURN NEWLINE (joined chars (k .texts))))
+  same-visible = shaved-visible (m .shaved) ∙ trim-visible (m .space) (joined chars (k .texts))
+
+  -- Where its xml:space is default, as in <text> a  b </text>, no two spaces stand in a row.
+  pub no-two-spaces : m .space ≡ default → NoTwo (textOf t (k .node))
+  no-two-spaces e = shaved-no-two (m .shaved) (rw e (trim-no-two (joined chars (k .texts))))
+
+  -- Where its sources are UTF-8, as every text is that check takes, so is its text.
+  pub still-utf8 : isUtf8 (joined chars (k .texts)) ≡ true → isUtf8 (textOf t (k .node)) ≡ true
+  still-utf8 h = shaved-utf8 (m .shaved) (trim-text-utf8 (m .space) (joined chars (k .texts)) h)
