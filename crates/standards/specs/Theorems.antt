@@ -5,3 +5,4 @@ pub mod Trimmings
 pub mod Shaved
 pub mod OneText
 pub mod WholeTexts
+pub mod TextElement

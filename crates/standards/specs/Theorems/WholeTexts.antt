@@ -46,7 +46,7 @@ stored vs xs p h =
 
 module _ (bs : List ℕ) (n p : ℕ) (t : Tree) where
   -- The words of a node that was there, links apart.
-  text-old : (j k : ℕ) → j < t .nodeCount → k < 8 → (2 ≤ k → k ≤ 4 → ⊥) → word (addText bs n p t .nodes) j k ≡ word (t .nodes) j k
+  pub text-old : (j k : ℕ) → j < t .nodeCount → k < 8 → (2 ≤ k → k ≤ 4 → ⊥) → word (addText bs n p t .nodes) j k ≡ word (t .nodes) j k
   unfolding addText
   text-old j k l b h = appended-old TEXT 0 (t .textCount) (t .textCount + length bs) (t .nodes) p (t .nodeCount) j k l b h
 
