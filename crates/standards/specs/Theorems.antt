@@ -6,3 +6,4 @@ pub mod Shaved
 pub mod OneText
 pub mod WholeTexts
 pub mod TextElement
+pub mod Edges
