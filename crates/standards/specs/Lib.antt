@@ -1,2 +1,3 @@
 pub mod SvgSpace
+pub mod CssCascade
 pub mod Theorems

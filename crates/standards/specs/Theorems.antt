@@ -7,3 +7,4 @@ pub mod OneText
 pub mod WholeTexts
 pub mod TextElement
 pub mod Edges
+pub mod Cascade
