@@ -1,3 +1,4 @@
 pub mod SvgSpace
+pub mod SvgHref
 pub mod CssCascade
 pub mod Theorems

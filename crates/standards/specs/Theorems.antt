@@ -8,3 +8,5 @@ pub mod WholeTexts
 pub mod TextElement
 pub mod Edges
 pub mod Cascade
+pub mod Attributes
+pub mod CascadeCases

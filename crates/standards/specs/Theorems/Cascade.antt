@@ -152,7 +152,7 @@ all-out t p tag (d ∷ ds) es =
 -- THE ENTRY OF A NAME AFTER AN INSERTION
 
 -- The entry, if there is one, has that name.
-abbrev Called : ℕ → Option Entry → Type 0
+abbrev pub Called : ℕ → Option Entry → Type 0
 Called a none = Unit {0}
 Called a (some e) = e .name ≡ a
 
@@ -161,7 +161,7 @@ abbrev stepped : Option Entry → Entry → Option Entry
 stepped none e = some e
 stepped (some old) e = some (standing e old)
 
-entry-called : (a : ℕ) (es : List Entry) → Called a (entryOf a es)
+pub entry-called : (a : ℕ) (es : List Entry) → Called a (entryOf a es)
 unfolding entryOf
 entry-called a [] = tt
 entry-called a (e ∷ es) = go (eqb (e .name) a) refl (entry-called a es)
@@ -170,7 +170,7 @@ entry-called a (e ∷ es) = go (eqb (e .name) a) refl (entry-called a es)
     go true q h = eqb-true (e .name) a q
     go false q h = h
 
-none-there : (a : ℕ) (es : List Entry) → hasEntry a es ≡ false → entryOf a es ≡ none
+pub none-there : (a : ℕ) (es : List Entry) → hasEntry a es ≡ false → entryOf a es ≡ none
 unfolding hasEntry entryOf
 none-there a [] h = refl
 none-there a (e ∷ es) h = go (eqb (e .name) a) h (none-there a es)
@@ -180,7 +180,7 @@ none-there a (e ∷ es) h = go (eqb (e .name) a) h (none-there a es)
     go true q h = absurd (false≢true (sym q))
     go false q h = h q
 
-at-end : (a : ℕ) (es : List Entry) (e : Entry) → entryOf a (es ++ (e ∷ [])) ≡ orElse (entryOf a es) (pick (eqb (e .name) a) (λ u. some e) (λ u. none))
+pub at-end : (a : ℕ) (es : List Entry) (e : Entry) → entryOf a (es ++ (e ∷ [])) ≡ orElse (entryOf a es) (pick (eqb (e .name) a) (λ u. some e) (λ u. none))
 unfolding entryOf
 at-end a [] e = refl
 at-end a (x ∷ es) e = go (eqb (x .name) a) (at-end a es e)
@@ -363,7 +363,7 @@ module _ (t : Tree) (p : ℕ) where
       go none h = default-called a (inheritDefault a)
       go (some e) h = h
 
-  append-called : (tag a i : ℕ) (v : Part) (c : ℕ) → Called a (appendAttribute t p tag a i v c)
+  pub append-called : (tag a i : ℕ) (v : Part) (c : ℕ) → Called a (appendAttribute t p tag a i v c)
   unfolding appendAttribute
   append-called tag a i v c = go (or (or (eqb a AId.Style) (eqb a AId.Class)) (and (eqb tag EId.Tspan) (eqb a AId.Href))) (and (allowsInheritValue a) (sameBytes (v .bytes) inheritWord))
     where
