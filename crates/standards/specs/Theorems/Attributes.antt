@@ -18,7 +18,7 @@ use Rattle.model.specs.Tables.{Tree, Entry}
 use Rattle.model.specs.Element.{inheritWord, resolveInherit, appendAttribute, isTaken, hasEntry, onFirst, withValue, overwriteHref, withMore, addAttribute}
 use Rattle.standards.specs.CssCascade.{firstOf, lastOf, those}
 use Rattle.standards.specs.SvgHref.{NONE, XLINK, isHref, hrefs, valueIn, usedHref}
-use Rattle.standards.specs.Theorems.Cascade.{Called, append-called, entryOf, entry-called, none-there, at-end}
+use Rattle.standards.specs.Theorems.Cascade.{one-of-one, Called, append-called, entryOf, entry-called, none-there, at-end}
 
 -- WHAT A LINK FOLLOWS
 
@@ -116,3 +116,125 @@ href-last o (x ∷ xs) = go (eqb (x .name) AId.Href) (eqb (x .namespace) 0) refl
     go true false p true q k =
         k (orElse o (some (x .value))) ∙ ap (λ r. orElse (valueIn (lastOf (those (isHref NONE) xs))) r) (else-more o (x .value) (valueIn (firstOf (those (isHref XLINK) xs))))
     go true false p false q k = k o
+
+-- ONE ATTRIBUTE
+
+taken-href : (g : Bool) (x : Attribute) → x .name ≡ AId.Href → or (eqb (x .namespace) 0) (eqb (x .namespace) 2) ≡ true → isTaken g x ≡ true
+unfolding isTaken isAttribute isDeclaredOnly among
+taken-href g x h n = rw (h, n, low) (go g)
+  where
+    low : leb (x .namespace) 3 ≡ true
+    low = either (eqb (x .namespace) 0) (eqb (x .namespace) 2) refl refl n
+      where
+        either : (a b : Bool) → eqb (x .namespace) 0 ≡ a → eqb (x .namespace) 2 ≡ b → or a b ≡ true → leb (x .namespace) 3 ≡ true
+        either true b p q k = rw (eqb-true (x .namespace) 0 p) refl
+        either false true p q k = rw (eqb-true (x .namespace) 2 q) refl
+        either false false p q k = absurd (false≢true k)
+
+    go : (g : Bool) → and (not (and g false)) true ≡ true
+    go true = refl
+    go false = refl
+
+other-href : (g : Bool) (x : Attribute) → x .name ≡ AId.Href → or (eqb (x .namespace) 0) (eqb (x .namespace) 2) ≡ false → isTaken g x ≡ false
+unfolding isTaken isAttribute isDeclaredOnly among
+other-href g x h n = rw (h, n) (go (leb (x .namespace) 3) g)
+  where
+    go : (l g : Bool) → and (and l true) (and (not (and g false)) false) ≡ false
+    go true true = refl
+    go true false = refl
+    go false g = refl
+
+with-first : (v : Value) (es : List Entry) → hasEntry AId.Href es ≡ true →
+    entryOf AId.Href (onFirst (withValue v) AId.Href es) ≡ given (entryOf AId.Href es) (λ e. some (withValue v e)) (λ u. none)
+unfolding hasEntry entryOf onFirst
+with-first v [] h = absurd (false≢true h)
+with-first v (e ∷ es) h = go (eqb (e .name) AId.Href) refl h (with-first v es)
+  where
+    go : (b : Bool) → eqb (e .name) AId.Href ≡ b → pick b (λ u. true) (λ u. hasEntry AId.Href es) ≡ true →
+        (hasEntry AId.Href es ≡ true → entryOf AId.Href (onFirst (withValue v) AId.Href es) ≡ given (entryOf AId.Href es) (λ e. some (withValue v e)) (λ u. none)) →
+        entryOf AId.Href (pick b (λ u. withValue v e ∷ es) (λ u. e ∷ onFirst (withValue v) AId.Href es))
+        ≡ given (pick b (λ u. some e) (λ u. entryOf AId.Href es)) (λ e. some (withValue v e)) (λ u. none)
+    go true q k r = rw q refl
+    go false q k r = rw q (r k)
+
+has-some : (a : ℕ) (es : List Entry) → hasEntry a es ≡ true → entryOf a es ≡ none → ⊥
+unfolding hasEntry entryOf
+has-some a [] h g = false≢true h
+has-some a (e ∷ es) h g = go (eqb (e .name) a) h g (has-some a es)
+  where
+    go : (b : Bool) → pick b (λ u. true) (λ u. hasEntry a es) ≡ true → pick b (λ u. some e) (λ u. entryOf a es) ≡ none →
+        (hasEntry a es ≡ true → entryOf a es ≡ none → ⊥) → ⊥
+    go true h g r = false≢true (sym (ap (λ o. given o (λ x. true) (λ u. false)) g))
+    go false h g r = r h g
+
+pub with-more : (a : ℕ) (es : List Entry) (o : Option Entry) (b : ℕ) → Called b o → eqb b a ≡ false → entryOf a (withMore es o) ≡ entryOf a es
+with-more a es none b c h = refl
+with-more a es (some e) b c h = at-end a es e ∙ rw (c, h) (nothing (entryOf a es))
+  where
+    nothing : (o : Option Entry) → orElse o none ≡ o
+    nothing none = refl
+    nothing (some x) = refl
+
+module _ (t : Tree) (p tag : ℕ) (g : Bool) (span : eqb tag EId.Tspan ≡ false) where
+  made-href : (v : Value) → appendAttribute t p tag AId.Href 0 (v .part) (v .command) ≡ some (hrefEntry v)
+  unfolding appendAttribute allowsInheritValue among
+  made-href v = rw span refl
+
+  -- An href that is taken, behind the entries so far.
+  href-taken : (es : List Entry) (o : Option Value) (x : Attribute) → x .name ≡ AId.Href → entryOf AId.Href es ≡ hrefEntryOf o → (z : Bool) → eqb (x .namespace) 0 ≡ z →
+      entryOf AId.Href (pick (hasEntry AId.Href es) (λ v. overwriteHref x es) (λ v. withMore es (appendAttribute t p tag (x .name) 0 (x .value .part) (x .value .command))))
+      ≡ hrefEntryOf (pick z (λ u. some (x .value)) (λ u. orElse o (some (x .value))))
+  href-taken es o x h e z n = go (hasEntry AId.Href es) refl z n o e
+    where
+      new : hasEntry AId.Href es ≡ false → entryOf AId.Href (withMore es (appendAttribute t p tag (x .name) 0 (x .value .part) (x .value .command))) ≡ some (hrefEntry (x .value))
+      new q = rw (h, made-href (x .value)) (at-end AId.Href es (hrefEntry (x .value)) ∙ rw (none-there AId.Href es q) refl)
+
+      go : (b : Bool) → hasEntry AId.Href es ≡ b → (z : Bool) → eqb (x .namespace) 0 ≡ z → (o : Option Value) → entryOf AId.Href es ≡ hrefEntryOf o →
+          entryOf AId.Href (pick b (λ v. overwriteHref x es) (λ v. withMore es (appendAttribute t p tag (x .name) 0 (x .value .part) (x .value .command))))
+          ≡ hrefEntryOf (pick z (λ u. some (x .value)) (λ u. orElse o (some (x .value))))
+      go true q z n none e = absurd (has-some AId.Href es q e)
+      go true q true n (some v) e = rw n (with-first (x .value) es q ∙ rw e refl)
+      go true q false n (some v) e = rw n e
+      go false q z n (some v) e = absurd (false≢true (sym (ap (λ o. given o (λ x. true) (λ u. false)) (sym e ∙ none-there AId.Href es q))))
+      go false q true n none e = new q
+      go false q false n none e = new q
+
+  one-attribute : (es : List Entry) (o : Option Value) (x : Attribute) → entryOf AId.Href es ≡ hrefEntryOf o →
+      entryOf AId.Href (addAttribute t p tag g es x) ≡ hrefEntryOf (hrefStep o x)
+  unfolding addAttribute
+  one-attribute es o x e = go (eqb (x .name) AId.Href) refl
+    where
+      others : (a : Bool) → eqb (x .name) AId.Href ≡ false →
+          entryOf AId.Href (pick a (λ u. es) (λ u. withMore es (appendAttribute t p tag (x .name) 0 (x .value .part) (x .value .command)))) ≡ hrefEntryOf o
+      others true q = e
+      others false q = with-more AId.Href es (appendAttribute t p tag (x .name) 0 (x .value .part) (x .value .command)) (x .name) (append-called t p tag (x .name) 0 (x .value .part) (x .value .command)) q ∙ e
+
+      spaces : (a b : Bool) → eqb (x .name) AId.Href ≡ true → eqb (x .namespace) 0 ≡ a → eqb (x .namespace) 2 ≡ b →
+          entryOf AId.Href (addAttribute t p tag g es x) ≡ hrefEntryOf (hrefStep o x)
+      spaces true b q m n = simp (taken-href g x (eqb-true (x .name) AId.Href q) (rw m refl), q, m) (simp m at (href-taken es o x (eqb-true (x .name) AId.Href q) e true m))
+      spaces false true q m n =
+          simp (taken-href g x (eqb-true (x .name) AId.Href q) (rw (m, n) refl), q, m, n) (simp m at (href-taken es o x (eqb-true (x .name) AId.Href q) e false m))
+      spaces false false q m n = simp (other-href g x (eqb-true (x .name) AId.Href q) (rw (m, n) refl), q, m, n) e
+
+      go : (b : Bool) → eqb (x .name) AId.Href ≡ b → entryOf AId.Href (addAttribute t p tag g es x) ≡ hrefEntryOf (hrefStep o x)
+      go true q = spaces (eqb (x .namespace) 0) (eqb (x .namespace) 2) q refl refl
+      go false q = simp q (others (not (isTaken g x)) q)
+
+  many-attributes : (xs : List Attribute) (es : List Entry) (o : Option Value) → entryOf AId.Href es ≡ hrefEntryOf o →
+      entryOf AId.Href (folded (addAttribute t p tag g) es xs) ≡ hrefEntryOf (folded hrefStep o xs)
+  many-attributes [] es o h = h
+  many-attributes (x ∷ xs) es o h = many-attributes xs (addAttribute t p tag g es x) (hrefStep o x) (one-attribute es o x h)
+
+  -- THE TREE. For every list of attributes, in any order: the entry of href is the last one in no namespace, else the first one in XLink.
+  pub tree-href : (xs : List Attribute) →
+      entryOf AId.Href (folded (addAttribute t p tag g) [] xs) ≡ hrefEntryOf (orElse (valueIn (lastOf (hrefs NONE xs))) (valueIn (firstOf (hrefs XLINK xs))))
+  unfolding entryOf
+  tree-href xs = many-attributes xs [] none refl ∙ ap hrefEntryOf (href-last none xs)
+
+  -- So it is the href that SVG 2 says, and the one that `use` follows, wherever there is at most one in no namespace, as in every XML document:
+  -- <use xlink:href="#a" href="#b"/>, in either order.
+  pub tree-href-used : (xs : List Attribute) → length (hrefs NONE xs) ≤ 1 → entryOf AId.Href (folded (addAttribute t p tag g) [] xs) ≡ hrefEntryOf (usedHref xs)
+  unfolding usedHref
+  tree-href-used xs h =
+      tree-href xs ∙ ap (λ o. hrefEntryOf (orElse (valueIn o) (valueIn (firstOf (hrefs XLINK xs))))) (sym (one-of-one (hrefs NONE xs) h))
+      ∙ ap hrefEntryOf (else-in (firstOf (hrefs NONE xs)) (firstOf (hrefs XLINK xs)))

@@ -23,7 +23,7 @@ use Rattle.standards.specs.CssCascade.{firstOf, lastOf, those, winner}
 unfoldable pub kept : {A : Type 0} → (A → Bool) → List A → Option A
 kept important ds = orElse (firstOf (those important ds)) (lastOf ds)
 
-one-of-one : {A : Type 0} (xs : List A) → length xs ≤ 1 → firstOf xs ≡ lastOf xs
+pub one-of-one : {A : Type 0} (xs : List A) → length xs ≤ 1 → firstOf xs ≡ lastOf xs
 unfolding lastOf
 one-of-one [] h = refl
 one-of-one (x ∷ []) h = refl
