@@ -238,3 +238,83 @@ module _ (t : Tree) (p tag : ℕ) (g : Bool) (span : eqb tag EId.Tspan ≡ false
   tree-href-used xs h =
       tree-href xs ∙ ap (λ o. hrefEntryOf (orElse (valueIn o) (valueIn (firstOf (hrefs XLINK xs))))) (sym (one-of-one (hrefs NONE xs) h))
       ∙ ap hrefEntryOf (else-in (firstOf (hrefs NONE xs)) (firstOf (hrefs XLINK xs)))
+
+-- ATTRIBUTES OF ONE NAME
+
+off : (a : ℕ) (v : Value) → eqb a AId.Href ≡ false → (es : List Entry) → entryOf a (onFirst (withValue v) AId.Href es) ≡ entryOf a es
+unfolding entryOf onFirst
+off a v h [] = refl
+off a v h (e ∷ es) = go (eqb (e .name) AId.Href) refl (off a v h es)
+  where
+    go : (b : Bool) → eqb (e .name) AId.Href ≡ b → entryOf a (onFirst (withValue v) AId.Href es) ≡ entryOf a es →
+        entryOf a (pick b (λ u. withValue v e ∷ es) (λ u. e ∷ onFirst (withValue v) AId.Href es)) ≡ entryOf a (e ∷ es)
+    go true q k = rw (ne-eqb (e .name) a (λ z. eqb-false a AId.Href h (sym z ∙ eqb-true (e .name) AId.Href q))) refl
+    go false q k = rw k refl
+
+module _ (t : Tree) (p tag : ℕ) (g : Bool) where
+  -- The entry of the first attribute of that name that is taken and not dropped. A document has one in each namespace at most.
+  unfoldable pub firstMade : ℕ → List Attribute → Option Entry
+  firstMade a [] = none
+  firstMade a (x ∷ xs) = pick (and (isTaken g x) (eqb (x .name) a))
+      (λ u. orElse (appendAttribute t p tag (x .name) 0 (x .value .part) (x .value .command)) (firstMade a xs)) (λ u. firstMade a xs)
+
+  overwrite-other : (a : ℕ) (x : Attribute) (es : List Entry) → eqb a AId.Href ≡ false → entryOf a (overwriteHref x es) ≡ entryOf a es
+  overwrite-other a x es h = go (eqb (x .namespace) 0) (changed es)
+    where
+      changed : (es : List Entry) → entryOf a (onFirst (withValue (x .value)) AId.Href es) ≡ entryOf a es
+      changed = off a (x .value) h
+
+      go : (b : Bool) → entryOf a (onFirst (withValue (x .value)) AId.Href es) ≡ entryOf a es →
+          entryOf a (pick b (λ u. onFirst (withValue (x .value)) AId.Href es) (λ u. es)) ≡ entryOf a es
+      go true k = k
+      go false k = refl
+
+  pub attributes-first : (a : ℕ) → eqb a AId.Href ≡ false → (xs : List Attribute) (es : List Entry) →
+      entryOf a (folded (addAttribute t p tag g) es xs) ≡ orElse (entryOf a es) (firstMade a xs)
+  unfolding firstMade addAttribute
+  attributes-first a h [] es = nothing (entryOf a es)
+    where
+      nothing : (o : Option Entry) → o ≡ orElse o none
+      nothing none = refl
+      nothing (some x) = refl
+  attributes-first a h (x ∷ xs) es = go (isTaken g x) (eqb (x .name) AId.Href) refl (λ es. attributes-first a h xs es)
+    where
+      made : Option Entry
+      made = appendAttribute t p tag (x .name) 0 (x .value .part) (x .value .command)
+
+      assoc : (o q r : Option Entry) → orElse (orElse o q) r ≡ orElse o (orElse q r)
+      assoc none q r = refl
+      assoc (some y) q r = refl
+
+      new : (o : Option Entry) → Called (x .name) o → ((es : List Entry) → entryOf a (folded (addAttribute t p tag g) es xs) ≡ orElse (entryOf a es) (firstMade a xs)) →
+          entryOf a (folded (addAttribute t p tag g) (withMore es o) xs) ≡ orElse (entryOf a es) (pick (eqb (x .name) a) (λ u. orElse o (firstMade a xs)) (λ u. firstMade a xs))
+      new none c k = k es ∙ either (eqb (x .name) a)
+        where
+          either : (b : Bool) → orElse (entryOf a es) (firstMade a xs) ≡ orElse (entryOf a es) (pick b (λ u. firstMade a xs) (λ u. firstMade a xs))
+          either true = refl
+          either false = refl
+      new (some e) c k =
+          let end : entryOf a (es ++ (e ∷ [])) ≡ orElse (entryOf a es) (pick (eqb (x .name) a) (λ u. some e) (λ u. none)) = at-end a es e ∙ rw c refl in
+          k (es ++ (e ∷ [])) ∙ ap (λ o. orElse o (firstMade a xs)) end
+          ∙ assoc (entryOf a es) (pick (eqb (x .name) a) (λ u. some e) (λ u. none)) (firstMade a xs) ∙ ap (λ o. orElse (entryOf a es) o) (either (eqb (x .name) a))
+        where
+          either : (b : Bool) → orElse (pick b (λ u. some e) (λ u. none)) (firstMade a xs) ≡ pick b (λ u. some e) (λ u. firstMade a xs)
+          either true = refl
+          either false = refl
+
+      go : (y z : Bool) → eqb (x .name) AId.Href ≡ z →
+          ((es : List Entry) → entryOf a (folded (addAttribute t p tag g) es xs) ≡ orElse (entryOf a es) (firstMade a xs)) →
+          entryOf a (folded (addAttribute t p tag g)
+          (pick (not y) (λ u. es) (λ u. pick (and z (hasEntry AId.Href es)) (λ v. overwriteHref x es) (λ v. withMore es made))) xs)
+          ≡ orElse (entryOf a es) (pick (and y (eqb (x .name) a)) (λ u. orElse made (firstMade a xs)) (λ u. firstMade a xs))
+      go false z q k = k es
+      go true false q k = new made (append-called t p tag (x .name) 0 (x .value .part) (x .value .command)) k
+      go true true q k = over (hasEntry AId.Href es)
+        where
+          apart : eqb (x .name) a ≡ false
+          apart = ne-eqb (x .name) a (λ e. eqb-false a AId.Href h (sym e ∙ eqb-true (x .name) AId.Href q))
+
+          over : (b : Bool) → entryOf a (folded (addAttribute t p tag g) (pick b (λ v. overwriteHref x es) (λ v. withMore es made)) xs)
+              ≡ orElse (entryOf a es) (pick (eqb (x .name) a) (λ u. orElse made (firstMade a xs)) (λ u. firstMade a xs))
+          over true = k (overwriteHref x es) ∙ rw (overwrite-other a x es h, apart) refl
+          over false = new made (append-called t p tag (x .name) 0 (x .value .part) (x .value .command)) k
