@@ -3,6 +3,7 @@ use Prim.Native.Nat.{ℕ, suc}
 use mathlib.Core.Bool.{Bool, true, false}
 use mathlib.Core.Path.{_≡_}
 use mathlib.Core.List.{List, [], _∷_}
+use mathlib.Core.Option.{Option, none, some}
 use lib.Dec.{eqb}
 use Rattle.model.specs.Base.{pick, and}
 
@@ -71,6 +72,15 @@ asPreserve bs = convert TAB BLANK (convert NEWLINE BLANK bs)
 abbrev pub Free : ℕ → List ℕ → Type 0
 Free c [] = Unit {0}
 Free c (b ∷ bs) = (eqb b c ≡ false) × Free c bs
+
+-- WHICH xml:space IS IN FORCE
+
+-- XML 1.0, section 2.10, and SVG 1.1, section 10.15: what an element says holds for it and for all within it, unless one within says otherwise;
+-- where none says anything it is the default. `said` is what an element and those around it say, the innermost first.
+unfoldable pub inForce : {A : Type 0} → List (Option A) → A → A
+inForce [] d = d
+inForce (some w ∷ said) d = w
+inForce (none ∷ said) d = inForce said d
 
 -- THE SEAMS: where the two readings of a newline come apart
 

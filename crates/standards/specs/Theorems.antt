@@ -10,3 +10,5 @@ pub mod Edges
 pub mod Cascade
 pub mod Attributes
 pub mod CascadeCases
+pub mod Inheritance
+pub mod Properties
