@@ -12,3 +12,5 @@ pub mod Attributes
 pub mod CascadeCases
 pub mod Inheritance
 pub mod Properties
+pub mod InheritCases
+pub mod HrefCases
