@@ -7,10 +7,11 @@ pub mod OneText
 pub mod WholeTexts
 pub mod TextElement
 pub mod Edges
+pub mod Inheritance
 pub mod Cascade
 pub mod Attributes
+pub mod Stored
 pub mod CascadeCases
-pub mod Inheritance
 pub mod Properties
 pub mod InheritCases
 pub mod HrefCases
