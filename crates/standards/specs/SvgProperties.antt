@@ -37,7 +37,8 @@ ColorProfile = 15
 abbrev pub EnableBackground : ℕ
 EnableBackground = 29
 
--- The table. Of SVG 1.1's index it has every property that has a code: `font` and `marker` are shorthands, and the list of names has neither
+-- The table. Of SVG 1.1's index it has every property that has a code: `font` and `marker` are shorthands, and the list of names has
+-- neither
 -- cursor nor pointer-events. overflow is CSS 2.1's, to which the index refers.
 unfoldable pub properties : List Property
 properties =

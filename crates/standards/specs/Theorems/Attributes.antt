@@ -48,7 +48,8 @@ use-follows e =
     ∙ else-in (firstOf (hrefs NONE (e .attributes))) (firstOf (hrefs XLINK (e .attributes))))
 
 -- TREF, which SVG 2 no longer has, follows the href in XLink first. THE DIFFERENCE: it is the one in XLink wherever there is one.
-pub tref-follows : (e : Element) → trefHref e ≡ iriOf (valueIn (orElse (firstOf (hrefs XLINK (e .attributes))) (firstOf (hrefs NONE (e .attributes)))))
+pub tref-follows : (e : Element) → trefHref e ≡ iriOf
+    (valueIn (orElse (firstOf (hrefs XLINK (e .attributes))) (firstOf (hrefs NONE (e .attributes)))))
 unfolding trefHref
 tref-follows e =
     ap (λ o. iriOf o) (ap (λ o. orElse o (attributeIn NONE AId.Href (e .attributes))) (first-in XLINK (e .attributes))
@@ -56,7 +57,8 @@ tref-follows e =
     ∙ else-in (firstOf (hrefs XLINK (e .attributes))) (firstOf (hrefs NONE (e .attributes))))
 
 -- Where an element has hrefs in one of the two namespaces alone, as nearly every drawing has, tref too follows the one that SVG 2 says.
-pub tref-agrees : (e : Element) → (hrefs NONE (e .attributes) ≡ []) ⊎ (hrefs XLINK (e .attributes) ≡ []) → trefHref e ≡ iriOf (usedHref (e .attributes))
+pub tref-agrees : (e : Element) → (hrefs NONE (e .attributes) ≡ []) ⊎ (hrefs XLINK (e .attributes) ≡ []) →
+    trefHref e ≡ iriOf (usedHref (e .attributes))
 unfolding usedHref
 tref-agrees e (inl h) = tref-follows e ∙ rw h (ap (λ o. iriOf (valueIn o)) (nothing (firstOf (hrefs XLINK (e .attributes)))))
   where
@@ -104,17 +106,20 @@ href-last o (x ∷ xs) = go (eqb (x .name) AId.Href) (eqb (x .namespace) 0) refl
     else-more (some w) v r = refl
 
     go : (a b : Bool) → eqb (x .namespace) 0 ≡ b → (c : Bool) → eqb (x .namespace) 2 ≡ c →
-        ((o : Option Value) → folded hrefStep o xs ≡ orElse (valueIn (lastOf (those (isHref NONE) xs))) (orElse o (valueIn (firstOf (those (isHref XLINK) xs))))) →
+        ((o : Option Value) → folded hrefStep o xs ≡ orElse (valueIn (lastOf (those (isHref NONE) xs)))
+        (orElse o (valueIn (firstOf (those (isHref XLINK) xs))))) →
         folded hrefStep (pick (and a b) (λ u. some (x .value)) (λ u. pick (and a c) (λ u. orElse o (some (x .value))) (λ u. o))) xs
         ≡ orElse (valueIn (lastOf (pick (and a b) (λ u. x ∷ those (isHref NONE) xs) (λ u. those (isHref NONE) xs))))
         (orElse o (valueIn (firstOf (pick (and a c) (λ u. x ∷ those (isHref XLINK) xs) (λ u. those (isHref XLINK) xs)))))
     go false b p c q k = k o
     go true true p true q k = absurd (omega (arith, eqb-true (x .namespace) 0 p, eqb-true (x .namespace) 2 q))
     go true true p false q k =
-        k (some (x .value)) ∙ sym (ap (λ r. orElse r (orElse o (valueIn (firstOf (those (isHref XLINK) xs))))) (last-value (lastOf (those (isHref NONE) xs)) x)
+        k (some (x .value)) ∙ sym (ap (λ r. orElse r (orElse o (valueIn (firstOf (those (isHref XLINK) xs)))))
+        (last-value (lastOf (those (isHref NONE) xs)) x)
         ∙ under (valueIn (lastOf (those (isHref NONE) xs))) _ (x .value))
     go true false p true q k =
-        k (orElse o (some (x .value))) ∙ ap (λ r. orElse (valueIn (lastOf (those (isHref NONE) xs))) r) (else-more o (x .value) (valueIn (firstOf (those (isHref XLINK) xs))))
+        k (orElse o (some (x .value))) ∙ ap (λ r. orElse (valueIn (lastOf (those (isHref NONE) xs))) r)
+        (else-more o (x .value) (valueIn (firstOf (those (isHref XLINK) xs))))
     go true false p false q k = k o
 
 -- ONE ATTRIBUTE
@@ -135,7 +140,8 @@ taken-href g x h n = rw (h, n, low) (go g)
     go true = refl
     go false = refl
 
-other-href : (g : Bool) (x : Attribute) → x .name ≡ AId.Href → or (eqb (x .namespace) 0) (eqb (x .namespace) 2) ≡ false → isTaken g x ≡ false
+other-href : (g : Bool) (x : Attribute) → x .name ≡ AId.Href → or (eqb (x .namespace) 0) (eqb (x .namespace) 2) ≡ false →
+    isTaken g x ≡ false
 unfolding isTaken isAttribute isDeclaredOnly among
 other-href g x h n = rw (h, n) (go (leb (x .namespace) 3) g)
   where
@@ -151,7 +157,8 @@ with-first v [] h = absurd (false≢true h)
 with-first v (e ∷ es) h = go (eqb (e .name) AId.Href) refl h (with-first v es)
   where
     go : (b : Bool) → eqb (e .name) AId.Href ≡ b → pick b (λ u. true) (λ u. hasEntry AId.Href es) ≡ true →
-        (hasEntry AId.Href es ≡ true → entryOf AId.Href (onFirst (withValue v) AId.Href es) ≡ given (entryOf AId.Href es) (λ e. some (withValue v e)) (λ u. none)) →
+        (hasEntry AId.Href es ≡ true → entryOf AId.Href (onFirst (withValue v) AId.Href es)
+        ≡ given (entryOf AId.Href es) (λ e. some (withValue v e)) (λ u. none)) →
         entryOf AId.Href (pick b (λ u. withValue v e ∷ es) (λ u. e ∷ onFirst (withValue v) AId.Href es))
         ≡ given (pick b (λ u. some e) (λ u. entryOf AId.Href es)) (λ e. some (withValue v e)) (λ u. none)
     go true q k r = rw q refl
@@ -167,7 +174,8 @@ has-some a (e ∷ es) h g = go (eqb (e .name) a) h g (has-some a es)
     go true h g r = false≢true (sym (ap (λ o. given o (λ x. true) (λ u. false)) g))
     go false h g r = r h g
 
-pub with-more : (a : ℕ) (es : List Entry) (o : Option Entry) (b : ℕ) → Called b o → eqb b a ≡ false → entryOf a (withMore es o) ≡ entryOf a es
+pub with-more : (a : ℕ) (es : List Entry) (o : Option Entry) (b : ℕ) → Called b o → eqb b a ≡ false →
+    entryOf a (withMore es o) ≡ entryOf a es
 with-more a es none b c h = refl
 with-more a es (some e) b c h = at-end a es e ∙ rw (c, h) (nothing (entryOf a es))
   where
@@ -181,16 +189,21 @@ module _ (t : Tree) (p tag : ℕ) (g : Bool) (span : eqb tag EId.Tspan ≡ false
   made-href v = rw span refl
 
   -- An href that is taken, behind the entries so far.
-  href-taken : (es : List Entry) (o : Option Value) (x : Attribute) → x .name ≡ AId.Href → entryOf AId.Href es ≡ hrefEntryOf o → (z : Bool) → eqb (x .namespace) 0 ≡ z →
-      entryOf AId.Href (pick (hasEntry AId.Href es) (λ v. overwriteHref x es) (λ v. withMore es (appendAttribute t p tag (x .name) 0 (x .value .part) (x .value .command))))
+  href-taken : (es : List Entry) (o : Option Value) (x : Attribute) → x .name ≡ AId.Href → entryOf AId.Href es ≡ hrefEntryOf o →
+      (z : Bool) → eqb (x .namespace) 0 ≡ z →
+      entryOf AId.Href (pick (hasEntry AId.Href es) (λ v. overwriteHref x es)
+      (λ v. withMore es (appendAttribute t p tag (x .name) 0 (x .value .part) (x .value .command))))
       ≡ hrefEntryOf (pick z (λ u. some (x .value)) (λ u. orElse o (some (x .value))))
   href-taken es o x h e z n = go (hasEntry AId.Href es) refl z n o e
     where
-      new : hasEntry AId.Href es ≡ false → entryOf AId.Href (withMore es (appendAttribute t p tag (x .name) 0 (x .value .part) (x .value .command))) ≡ some (hrefEntry (x .value))
+      new : hasEntry AId.Href es ≡ false → entryOf AId.Href
+          (withMore es (appendAttribute t p tag (x .name) 0 (x .value .part) (x .value .command))) ≡ some (hrefEntry (x .value))
       new q = rw (h, made-href (x .value)) (at-end AId.Href es (hrefEntry (x .value)) ∙ rw (none-there AId.Href es q) refl)
 
-      go : (b : Bool) → hasEntry AId.Href es ≡ b → (z : Bool) → eqb (x .namespace) 0 ≡ z → (o : Option Value) → entryOf AId.Href es ≡ hrefEntryOf o →
-          entryOf AId.Href (pick b (λ v. overwriteHref x es) (λ v. withMore es (appendAttribute t p tag (x .name) 0 (x .value .part) (x .value .command))))
+      go : (b : Bool) → hasEntry AId.Href es ≡ b → (z : Bool) → eqb (x .namespace) 0 ≡ z → (o : Option Value) →
+          entryOf AId.Href es ≡ hrefEntryOf o →
+          entryOf AId.Href (pick b (λ v. overwriteHref x es)
+          (λ v. withMore es (appendAttribute t p tag (x .name) 0 (x .value .part) (x .value .command))))
           ≡ hrefEntryOf (pick z (λ u. some (x .value)) (λ u. orElse o (some (x .value))))
       go true q z n none e = absurd (has-some AId.Href es q e)
       go true q true n (some v) e = rw n (with-first (x .value) es q ∙ rw e refl)
@@ -205,15 +218,19 @@ module _ (t : Tree) (p tag : ℕ) (g : Bool) (span : eqb tag EId.Tspan ≡ false
   one-attribute es o x e = go (eqb (x .name) AId.Href) refl
     where
       others : (a : Bool) → eqb (x .name) AId.Href ≡ false →
-          entryOf AId.Href (pick a (λ u. es) (λ u. withMore es (appendAttribute t p tag (x .name) 0 (x .value .part) (x .value .command)))) ≡ hrefEntryOf o
+          entryOf AId.Href (pick a (λ u. es) (λ u. withMore es
+          (appendAttribute t p tag (x .name) 0 (x .value .part) (x .value .command)))) ≡ hrefEntryOf o
       others true q = e
-      others false q = with-more AId.Href es (appendAttribute t p tag (x .name) 0 (x .value .part) (x .value .command)) (x .name) (append-called t p tag (x .name) 0 (x .value .part) (x .value .command)) q ∙ e
+      others false q = with-more AId.Href es (appendAttribute t p tag (x .name) 0 (x .value .part) (x .value .command)) (x .name)
+          (append-called t p tag (x .name) 0 (x .value .part) (x .value .command)) q ∙ e
 
       spaces : (a b : Bool) → eqb (x .name) AId.Href ≡ true → eqb (x .namespace) 0 ≡ a → eqb (x .namespace) 2 ≡ b →
           entryOf AId.Href (addAttribute t p tag g es x) ≡ hrefEntryOf (hrefStep o x)
-      spaces true b q m n = simp (taken-href g x (eqb-true (x .name) AId.Href q) (rw m refl), q, m) (simp m at (href-taken es o x (eqb-true (x .name) AId.Href q) e true m))
+      spaces true b q m n = simp (taken-href g x (eqb-true (x .name) AId.Href q) (rw m refl), q, m)
+          (simp m at (href-taken es o x (eqb-true (x .name) AId.Href q) e true m))
       spaces false true q m n =
-          simp (taken-href g x (eqb-true (x .name) AId.Href q) (rw (m, n) refl), q, m, n) (simp m at (href-taken es o x (eqb-true (x .name) AId.Href q) e false m))
+          simp (taken-href g x (eqb-true (x .name) AId.Href q) (rw (m, n) refl), q, m, n)
+          (simp m at (href-taken es o x (eqb-true (x .name) AId.Href q) e false m))
       spaces false false q m n = simp (other-href g x (eqb-true (x .name) AId.Href q) (rw (m, n) refl), q, m, n) e
 
       go : (b : Bool) → eqb (x .name) AId.Href ≡ b → entryOf AId.Href (addAttribute t p tag g es x) ≡ hrefEntryOf (hrefStep o x)
@@ -227,13 +244,16 @@ module _ (t : Tree) (p tag : ℕ) (g : Bool) (span : eqb tag EId.Tspan ≡ false
 
   -- THE TREE. For every list of attributes, in any order: the entry of href is the last one in no namespace, else the first one in XLink.
   pub tree-href : (xs : List Attribute) →
-      entryOf AId.Href (folded (addAttribute t p tag g) [] xs) ≡ hrefEntryOf (orElse (valueIn (lastOf (hrefs NONE xs))) (valueIn (firstOf (hrefs XLINK xs))))
+      entryOf AId.Href (folded (addAttribute t p tag g) [] xs)
+      ≡ hrefEntryOf (orElse (valueIn (lastOf (hrefs NONE xs))) (valueIn (firstOf (hrefs XLINK xs))))
   unfolding entryOf
   tree-href xs = many-attributes xs [] none refl ∙ ap hrefEntryOf (href-last none xs)
 
-  -- So it is the href that SVG 2 says, and the one that `use` follows, wherever there is at most one in no namespace, as in every XML document:
+  -- So it is the href that SVG 2 says, and the one that `use` follows, wherever there is at most one in no namespace, as in every XML
+  -- document:
   -- <use xlink:href="#a" href="#b"/>, in either order.
-  pub tree-href-used : (xs : List Attribute) → length (hrefs NONE xs) ≤ 1 → entryOf AId.Href (folded (addAttribute t p tag g) [] xs) ≡ hrefEntryOf (usedHref xs)
+  pub tree-href-used : (xs : List Attribute) → length (hrefs NONE xs) ≤ 1 → entryOf AId.Href (folded (addAttribute t p tag g) [] xs)
+      ≡ hrefEntryOf (usedHref xs)
   unfolding usedHref
   tree-href-used xs h =
       tree-href xs ∙ ap (λ o. hrefEntryOf (orElse (valueIn o) (valueIn (firstOf (hrefs XLINK xs))))) (sym (one-of-one (hrefs NONE xs) h))
@@ -286,17 +306,22 @@ module _ (t : Tree) (p tag : ℕ) (g : Bool) where
       assoc none q r = refl
       assoc (some y) q r = refl
 
-      new : (o : Option Entry) → Called (x .name) o → ((es : List Entry) → entryOf a (folded (addAttribute t p tag g) es xs) ≡ orElse (entryOf a es) (firstMade a xs)) →
-          entryOf a (folded (addAttribute t p tag g) (withMore es o) xs) ≡ orElse (entryOf a es) (pick (eqb (x .name) a) (λ u. orElse o (firstMade a xs)) (λ u. firstMade a xs))
+      new : (o : Option Entry) → Called (x .name) o → ((es : List Entry) → entryOf a (folded (addAttribute t p tag g) es xs)
+          ≡ orElse (entryOf a es) (firstMade a xs)) →
+          entryOf a (folded (addAttribute t p tag g) (withMore es o) xs)
+          ≡ orElse (entryOf a es) (pick (eqb (x .name) a) (λ u. orElse o (firstMade a xs)) (λ u. firstMade a xs))
       new none c k = k es ∙ either (eqb (x .name) a)
         where
-          either : (b : Bool) → orElse (entryOf a es) (firstMade a xs) ≡ orElse (entryOf a es) (pick b (λ u. firstMade a xs) (λ u. firstMade a xs))
+          either : (b : Bool) → orElse (entryOf a es) (firstMade a xs)
+              ≡ orElse (entryOf a es) (pick b (λ u. firstMade a xs) (λ u. firstMade a xs))
           either true = refl
           either false = refl
       new (some e) c k =
-          let end : entryOf a (es ++ (e ∷ [])) ≡ orElse (entryOf a es) (pick (eqb (x .name) a) (λ u. some e) (λ u. none)) = at-end a es e ∙ rw c refl in
+          let end : entryOf a (es ++ (e ∷ [])) ≡ orElse (entryOf a es) (pick (eqb (x .name) a) (λ u. some e) (λ u. none)) =
+          at-end a es e ∙ rw c refl in
           k (es ++ (e ∷ [])) ∙ ap (λ o. orElse o (firstMade a xs)) end
-          ∙ assoc (entryOf a es) (pick (eqb (x .name) a) (λ u. some e) (λ u. none)) (firstMade a xs) ∙ ap (λ o. orElse (entryOf a es) o) (either (eqb (x .name) a))
+          ∙ assoc (entryOf a es) (pick (eqb (x .name) a) (λ u. some e) (λ u. none)) (firstMade a xs)
+          ∙ ap (λ o. orElse (entryOf a es) o) (either (eqb (x .name) a))
         where
           either : (b : Bool) → orElse (pick b (λ u. some e) (λ u. none)) (firstMade a xs) ≡ pick b (λ u. some e) (λ u. firstMade a xs)
           either true = refl

@@ -30,7 +30,8 @@ one-of-one (x ∷ []) h = refl
 one-of-one (x ∷ y ∷ xs) h = absurd (omega arith)
 
 -- Where at most one is important, the two rules keep the same one. Meets it: fill red, then fill blue !important, then fill green.
-pub kept-is-winner : {A : Type 0} (important : A → Bool) (ds : List A) → length (those important ds) ≤ 1 → kept important ds ≡ winner important ds
+pub kept-is-winner : {A : Type 0} (important : A → Bool) (ds : List A) → length (those important ds) ≤ 1 →
+    kept important ds ≡ winner important ds
 unfolding kept winner
 kept-is-winner important ds h = ap (λ o. orElse o (lastOf ds)) (one-of-one (those important ds) h)
 
@@ -78,14 +79,16 @@ module _ (t : Tree) (p tag : ℕ) (d : Declaration) where
   -- The longhands of a font declaration that the host has read, in the order of the list.
   unfoldable pub partLonghands : List Pair → List Longhand
   partLonghands [] = []
-  partLonghands (k ∷ ks) = given (readingOf (k .key) (d .value .readings)) (λ v. longhand (k .value) v ∷ partLonghands ks) (λ u. partLonghands ks)
+  partLonghands (k ∷ ks) = given (readingOf (k .key) (d .value .readings)) (λ v. longhand (k .value) v ∷ partLonghands ks)
+      (λ u. partLonghands ks)
 
   -- A declaration with its shorthand written out: `marker` sets three names, `font` resets twelve and sets those that the host has read,
   -- any other name sets itself if it is a presentation name.
   unfoldable pub writtenOut : List Longhand
   writtenOut =
       pick (eqb (d .name) marker)
-      (λ u. longhand AId.MarkerStart (d .value .part) ∷ longhand AId.MarkerMid (d .value .part) ∷ longhand AId.MarkerEnd (d .value .part) ∷ [])
+      (λ u. longhand AId.MarkerStart (d .value .part) ∷ longhand AId.MarkerMid (d .value .part) ∷ longhand AId.MarkerEnd
+      (d .value .part) ∷ [])
       (λ u. pick (eqb (d .name) AId.Font)
       (λ v. pick (and (isRead t p tag d 9) (isRead t p tag d 10)) (λ w. map resetLonghand fontResets ++ partLonghands fontParts) (λ w. []))
       (λ v. pick (isPresentation (d .name)) (λ w. longhand (d .name) (d .value .part) ∷ []) (λ w. [])))
@@ -115,17 +118,20 @@ module _ (t : Tree) (p tag : ℕ) (d : Declaration) where
     where
       go : (o : Option Part) → ((es : List Entry) → folded (insertPart t p tag d) es ks ≡ folded inserted es (partLonghands t p tag d ks)) →
           folded (insertPart t p tag d) (given o (λ v. insertAttribute t p tag d es (k .value) v) (λ u. es)) ks
-          ≡ folded inserted es (given o (λ v. longhand t p tag d (k .value) v ∷ partLonghands t p tag d ks) (λ u. partLonghands t p tag d ks))
+          ≡ folded inserted es (given o (λ v. longhand t p tag d (k .value) v ∷ partLonghands t p tag d ks)
+          (λ u. partLonghands t p tag d ks))
       go (some v) h = h (insertAttribute t p tag d es (k .value) v)
       go none h = h es
 
   -- `write_declaration` inserts the longhands one after another.
   write-out : (es : List Entry) → writeDeclaration t p tag d es ≡ folded inserted es (writtenOut t p tag d)
   unfolding writeDeclaration writtenOut
-  write-out es = go (eqb (d .name) marker) (eqb (d .name) AId.Font) (and (isRead t p tag d 9) (isRead t p tag d 10)) (isPresentation (d .name))
+  write-out es = go (eqb (d .name) marker) (eqb (d .name) AId.Font) (and (isRead t p tag d 9) (isRead t p tag d 10))
+      (isPresentation (d .name))
     where
       go : (x y z w : Bool) →
-          pick x (λ u. folded (λ es a. insertAttribute t p tag d es a (d .value .part)) es (AId.MarkerStart ∷ AId.MarkerMid ∷ AId.MarkerEnd ∷ []))
+          pick x (λ u. folded (λ es a. insertAttribute t p tag d es a (d .value .part)) es
+          (AId.MarkerStart ∷ AId.MarkerMid ∷ AId.MarkerEnd ∷ []))
           (λ u. pick y (λ v. pick z (λ w. folded (insertPart t p tag d) (folded (resetTo t p tag d) es fontResets) fontParts) (λ w. es))
           (λ v. pick w (λ w. insertAttribute t p tag d es (d .name) (d .value .part)) (λ w. es)))
           ≡ folded inserted es (
@@ -135,7 +141,8 @@ module _ (t : Tree) (p tag : ℕ) (d : Declaration) where
           (λ v. pick w (λ w. longhand t p tag d (d .name) (d .value .part) ∷ []) (λ w. []))))
       go true y z w = refl
       go false true true w =
-          parts-out fontParts (folded (resetTo t p tag d) es fontResets) ∙ ap (λ es. folded inserted es (partLonghands t p tag d fontParts)) (resets-out fontResets es)
+          parts-out fontParts (folded (resetTo t p tag d) es fontResets)
+          ∙ ap (λ es. folded inserted es (partLonghands t p tag d fontParts)) (resets-out fontResets es)
           ∙ sym (folded-append inserted es (map (resetLonghand t p tag d) fontResets) (partLonghands t p tag d fontParts))
       go false true false w = refl
       go false false z true = refl
@@ -180,7 +187,8 @@ none-there a (e ∷ es) h = go (eqb (e .name) a) h (none-there a es)
     go true q h = absurd (false≢true (sym q))
     go false q h = h q
 
-pub at-end : (a : ℕ) (es : List Entry) (e : Entry) → entryOf a (es ++ (e ∷ [])) ≡ orElse (entryOf a es) (pick (eqb (e .name) a) (λ u. some e) (λ u. none))
+pub at-end : (a : ℕ) (es : List Entry) (e : Entry) →
+    entryOf a (es ++ (e ∷ [])) ≡ orElse (entryOf a es) (pick (eqb (e .name) a) (λ u. some e) (λ u. none))
 unfolding entryOf
 at-end a [] e = refl
 at-end a (x ∷ es) e = go (eqb (x .name) a) (at-end a es e)
@@ -198,14 +206,16 @@ stood e old a h g = go (eqb (old .important) 0)
     go true = h
     go false = g
 
-on-first : (a : ℕ) (es : List Entry) (e : Entry) → e .name ≡ a → hasEntry a es ≡ true → entryOf a (onFirst (standing e) a es) ≡ stepped (entryOf a es) e
+on-first : (a : ℕ) (es : List Entry) (e : Entry) → e .name ≡ a → hasEntry a es ≡ true →
+    entryOf a (onFirst (standing e) a es) ≡ stepped (entryOf a es) e
 unfolding hasEntry entryOf onFirst
 on-first a [] e h g = absurd (false≢true g)
 on-first a (x ∷ es) e h g = go (eqb (x .name) a) refl g (on-first a es e h)
   where
     go : (b : Bool) → eqb (x .name) a ≡ b → pick b (λ u. true) (λ u. hasEntry a es) ≡ true →
         (hasEntry a es ≡ true → entryOf a (onFirst (standing e) a es) ≡ stepped (entryOf a es) e) →
-        entryOf a (pick b (λ u. standing e x ∷ es) (λ u. x ∷ onFirst (standing e) a es)) ≡ stepped (pick b (λ u. some x) (λ u. entryOf a es)) e
+        entryOf a (pick b (λ u. standing e x ∷ es) (λ u. x ∷ onFirst (standing e) a es))
+        ≡ stepped (pick b (λ u. some x) (λ u. entryOf a es)) e
     go true q k r = rw (eq-eqb (standing e x .name) a (stood e x a h (eqb-true (x .name) a q))) refl
     go false q k r = rw q (r k)
 
@@ -215,7 +225,8 @@ on-other a b [] e h g = refl
 on-other a b (x ∷ es) e h g = go (eqb (x .name) b) refl (on-other a b es e h g)
   where
     go : (c : Bool) → eqb (x .name) b ≡ c → entryOf a (onFirst (standing e) b es) ≡ entryOf a es →
-        entryOf a (pick c (λ u. standing e x ∷ es) (λ u. x ∷ onFirst (standing e) b es)) ≡ pick (eqb (x .name) a) (λ u. some x) (λ u. entryOf a es)
+        entryOf a (pick c (λ u. standing e x ∷ es) (λ u. x ∷ onFirst (standing e) b es))
+        ≡ pick (eqb (x .name) a) (λ u. some x) (λ u. entryOf a es)
     go true q r =
         let z : standing e x .name ≡ b = stood e x b h (eqb-true (x .name) b q) in
         let y : eqb (x .name) a ≡ false = rw (eqb-true (x .name) b q) g in
@@ -228,10 +239,12 @@ unfolding insertEntry
 insert-law a b es e h = go (eqb b a) refl (hasEntry b es) refl
   where
     go : (x : Bool) → eqb b a ≡ x → (y : Bool) → hasEntry b es ≡ y →
-        entryOf a (pick y (λ u. onFirst (standing e) b es) (λ u. es ++ (e ∷ []))) ≡ pick x (λ u. stepped (entryOf a es) e) (λ u. entryOf a es)
+        entryOf a (pick y (λ u. onFirst (standing e) b es) (λ u. es ++ (e ∷ [])))
+        ≡ pick x (λ u. stepped (entryOf a es) e) (λ u. entryOf a es)
     go true q true r =
         let z : b ≡ a = eqb-true b a q in
-        subst (λ (c : ℕ). e .name ≡ c → hasEntry c es ≡ true → entryOf a (onFirst (standing e) c es) ≡ stepped (entryOf a es) e) (sym z) (on-first a es e) h r
+        subst (λ (c : ℕ). e .name ≡ c → hasEntry c es ≡ true → entryOf a (onFirst (standing e) c es) ≡ stepped (entryOf a es) e) (sym z)
+        (on-first a es e) h r
     go true q false r =
         let z : b ≡ a = eqb-true b a q in
         at-end a es e ∙ rw (none-there a es (subst (λ (c : ℕ). hasEntry c es ≡ false) z r), eq-eqb (e .name) a (h ∙ z)) refl
@@ -258,7 +271,8 @@ abbrev AllCalled : List Longhand → Type 0
 AllCalled [] = Unit {0}
 AllCalled (l ∷ ls) = Called (l .name) (l .entry) × AllCalled ls
 
-inserted-all : (a : ℕ) (ls : List Longhand) (es : List Entry) → AllCalled ls → entryOf a (folded inserted es ls) ≡ folded stepped (entryOf a es) (applying a ls)
+inserted-all : (a : ℕ) (ls : List Longhand) (es : List Entry) → AllCalled ls →
+    entryOf a (folded inserted es ls) ≡ folded stepped (entryOf a es) (applying a ls)
 unfolding applying
 inserted-all a [] es h = refl
 inserted-all a (l ∷ ls) es h = go (l .entry) (h .0) (λ es. inserted-all a ls es (h .1))
@@ -268,16 +282,21 @@ inserted-all a (l ∷ ls) es h = go (l .entry) (h .0) (λ es. inserted-all a ls 
     one true e = refl
     one false e = refl
 
-    drops : (b : Bool) → folded stepped (entryOf a es) (applying a ls) ≡ folded stepped (entryOf a es) (pick b (λ u. applying a ls) (λ u. applying a ls))
+    drops : (b : Bool) → folded stepped (entryOf a es) (applying a ls)
+        ≡ folded stepped (entryOf a es) (pick b (λ u. applying a ls) (λ u. applying a ls))
     drops true = refl
     drops false = refl
 
-    go : (o : Option Entry) → Called (l .name) o → ((es : List Entry) → entryOf a (folded inserted es ls) ≡ folded stepped (entryOf a es) (applying a ls)) →
+    go : (o : Option Entry) → Called (l .name) o → ((es : List Entry) →
+        entryOf a (folded inserted es ls) ≡ folded stepped (entryOf a es) (applying a ls)) →
         entryOf a (folded inserted (insertEntry (l .name) es o) ls)
-        ≡ folded stepped (entryOf a es) (pick (eqb (l .name) a) (λ u. given o (λ e. e ∷ applying a ls) (λ v. applying a ls)) (λ u. applying a ls))
-    go none c k = k (insertEntry (l .name) es none) ∙ ap (λ es. folded stepped (entryOf a es) (applying a ls)) (insert-none (l .name) es) ∙ drops (eqb (l .name) a)
+        ≡ folded stepped (entryOf a es) (pick (eqb (l .name) a) (λ u. given o (λ e. e ∷ applying a ls) (λ v. applying a ls))
+        (λ u. applying a ls))
+    go none c k = k (insertEntry (l .name) es none) ∙ ap (λ es. folded stepped (entryOf a es) (applying a ls))
+        (insert-none (l .name) es) ∙ drops (eqb (l .name) a)
     go (some e) c k =
-        k (insertEntry (l .name) es (some e)) ∙ ap (λ o. folded stepped o (applying a ls)) (insert-law a (l .name) es e c) ∙ one (eqb (l .name) a) e
+        k (insertEntry (l .name) es (some e)) ∙ ap (λ o. folded stepped o (applying a ls)) (insert-law a (l .name) es e c)
+        ∙ one (eqb (l .name) a) e
 
 -- The list of what may be there.
 abbrev pub asList : {A : Type 0} → Option A → List A
@@ -347,11 +366,13 @@ module _ (t : Tree) (p : ℕ) where
   copy-called : (a w : ℕ) → Called a (copyFrom t p a w)
   copy-called a w = go (eqb w 0)
     where
-      at : (i : ℕ) (b : Bool) → eqb (attributeId t i a) 0 ≡ b → Called a (pick b (λ u. none) (λ u. some (entryAt t (attributeId t i a - 1))))
+      at : (i : ℕ) (b : Bool) → eqb (attributeId t i a) 0 ≡ b →
+          Called a (pick b (λ u. none) (λ u. some (entryAt t (attributeId t i a - 1))))
       at i true q = tt
       at i false q = id-name t i a (eqb-false (attributeId t i a) 0 q)
 
-      go : (b : Bool) → Called a (let j : ℕ = pick b (λ u. 0) (λ u. attributeId t (w - 1) a) in pick (eqb j 0) (λ u. none) (λ u. some (entryAt t (j - 1))))
+      go : (b : Bool) → Called a (let j : ℕ = pick b (λ u. 0) (λ u. attributeId t (w - 1) a) in pick (eqb j 0) (λ u. none)
+          (λ u. some (entryAt t (j - 1))))
       go true = tt
       go false = at (w - 1) (eqb (attributeId t (w - 1) a) 0) refl
 
@@ -365,7 +386,8 @@ module _ (t : Tree) (p : ℕ) where
 
   pub append-called : (tag a i : ℕ) (v : Part) (c : ℕ) → Called a (appendAttribute t p tag a i v c)
   unfolding appendAttribute
-  append-called tag a i v c = go (or (or (eqb a AId.Style) (eqb a AId.Class)) (and (eqb tag EId.Tspan) (eqb a AId.Href))) (and (allowsInheritValue a) (sameBytes (v .bytes) inheritWord))
+  append-called tag a i v c = go (or (or (eqb a AId.Style) (eqb a AId.Class)) (and (eqb tag EId.Tspan) (eqb a AId.Href)))
+      (and (allowsInheritValue a) (sameBytes (v .bytes) inheritWord))
     where
       go : (x y : Bool) → Called a (pick x (λ u. none) (λ u. pick y (λ w. resolveInherit t p a)
           (λ w. some (record { name = a; important = i; start = v .start; size = v .size; command = c }))))
@@ -397,7 +419,8 @@ module _ (t : Tree) (p tag : ℕ) (d : Declaration) where
 
   out-called : AllCalled (writtenOut t p tag d)
   unfolding writtenOut
-  out-called = go (eqb (d .name) marker) (eqb (d .name) AId.Font) (and (isRead t p tag d 9) (isRead t p tag d 10)) (isPresentation (d .name))
+  out-called = go (eqb (d .name) marker) (eqb (d .name) AId.Font) (and (isRead t p tag d 9) (isRead t p tag d 10))
+      (isPresentation (d .name))
     where
       v : Part
       v = d .value .part
@@ -407,7 +430,8 @@ module _ (t : Tree) (p tag : ℕ) (d : Declaration) where
           (λ u. pick y (λ v. pick z (λ w. map (resetLonghand t p tag d) fontResets ++ partLonghands t p tag d fontParts) (λ w. []))
           (λ u. pick w (λ w. longhand t p tag d (d .name) v ∷ []) (λ w. []))))
       go true y z w = (long-called AId.MarkerStart v, (long-called AId.MarkerMid v, (long-called AId.MarkerEnd v, tt)))
-      go false true true w = called-append (map (resetLonghand t p tag d) fontResets) (partLonghands t p tag d fontParts) (resets-called fontResets) (parts-called fontParts)
+      go false true true w = called-append (map (resetLonghand t p tag d) fontResets) (partLonghands t p tag d fontParts)
+          (resets-called fontResets) (parts-called fontParts)
       go false true false w = tt
       go false false z true = (long-called (d .name) v, tt)
       go false false z false = tt
@@ -423,7 +447,8 @@ all-called t p tag (d ∷ ds) = called-append (writtenOut t p tag d) (allWritten
 abbrev pub attributeEntry : Tree → ℕ → ℕ → Bool → ℕ → Element → Option Entry
 attributeEntry t p tag g a e = entryOf a (folded (addAttribute t p tag g) [] (e .attributes))
 
--- All that applies for a name: the presentation attribute first, then the declarations with their shorthands written out, `inherit` resolved
+-- All that applies for a name: the presentation attribute first, then the declarations with their shorthands written out, `inherit`
+-- resolved
 -- and dropped ones left out.
 abbrev pub allApplying : Tree → ℕ → ℕ → Bool → ℕ → Element → List Entry
 allApplying t p tag g a e = asList (attributeEntry t p tag g a e) ++ applying a (allWrittenOut t p tag (e .declarations))
@@ -434,7 +459,8 @@ pub value-stands : (t : Tree) (p tag : ℕ) (g : Bool) (a : ℕ) (e : Element) �
 unfolding entriesOf
 value-stands t p tag g a e =
     ap (entryOf a) (all-out t p tag (e .declarations) (folded (addAttribute t p tag g) [] (e .attributes)))
-    ∙ inserted-all a (allWrittenOut t p tag (e .declarations)) (folded (addAttribute t p tag g) [] (e .attributes)) (all-called t p tag (e .declarations))
+    ∙ inserted-all a (allWrittenOut t p tag (e .declarations)) (folded (addAttribute t p tag g) [] (e .attributes))
+    (all-called t p tag (e .declarations))
     ∙ steps-all (attributeEntry t p tag g a e) (applying a (allWrittenOut t p tag (e .declarations)))
 
 -- SO IT IS THE CASCADE'S WINNER wherever at most one of what applies is important, as in <rect fill="red" style="fill:blue"/>.

@@ -1,4 +1,5 @@
--- Several text nodes: the smallest drawings in which the edges are not SVG 1.1's. Each is a whole drawing, built, beside the standard's text.
+-- Several text nodes: the smallest drawings in which the edges are not SVG 1.1's. Each is a whole drawing, built, beside the standard's
+-- text.
 use Prim.Native.Nat.{ℕ}
 use mathlib.Core.Path.{_≡_, refl}
 use mathlib.Core.List.{List, [], _∷_, _++_}
@@ -21,15 +22,19 @@ pub gap-lost : (shown (say "a" ∷ el EId.Tspan (say " b" ∷ []) ∷ []) ≡ as
 unfolding computed without convert noLeading noTrailing consolidated asDefault
 gap-lost = (refl, refl)
 
--- A trailing space stays where a leading one went in the same step: <text> <tspan>b </tspan></text> gives "" and "b "; the standard's is "b".
+-- A trailing space stays where a leading one went in the same step: <text> <tspan>b </tspan></text> gives "" and "b "; the standard's is
+-- "b".
 -- So it is with " a" and "b ", which give "a" and "b ".
-pub trailing-stays : (shown (say " " ∷ el EId.Tspan (say "b " ∷ []) ∷ []) ≡ ascii "" ∷ ascii "b " ∷ []) × (asDefault (ascii " b ") ≡ ascii "b")
+pub trailing-stays : (shown (say " " ∷ el EId.Tspan (say "b " ∷ []) ∷ []) ≡ ascii "" ∷ ascii "b " ∷ [])
+    × (asDefault (ascii " b ") ≡ ascii "b")
     × (shown (say " a" ∷ el EId.Tspan (say "b " ∷ []) ∷ []) ≡ ascii "a" ∷ ascii "b " ∷ []) × (asDefault (ascii " ab ") ≡ ascii "ab")
 unfolding computed without convert noLeading noTrailing consolidated asDefault
 trailing-stays = (refl, refl, refl, refl)
 
--- A leading space stays where the first text was nothing but a space: <text><tspan> </tspan> b</text> gives "" and " b"; the standard's is "b".
-pub leading-stays : (shown (el EId.Tspan (say " " ∷ []) ∷ say " b" ∷ []) ≡ ascii "" ∷ ascii " b" ∷ []) × (asDefault (ascii "  b") ≡ ascii "b")
+-- A leading space stays where the first text was nothing but a space: <text><tspan> </tspan> b</text> gives "" and " b"; the standard's
+-- is "b".
+pub leading-stays : (shown (el EId.Tspan (say " " ∷ []) ∷ say " b" ∷ []) ≡ ascii "" ∷ ascii " b" ∷ [])
+    × (asDefault (ascii "  b") ≡ ascii "b")
 unfolding computed without convert noLeading noTrailing consolidated asDefault
 leading-stays = (refl, refl)
 
@@ -42,7 +47,8 @@ preserve-cut = (refl, refl)
 -- The last test asks for no space at all: <text xml:space="preserve">a <tspan xml:space="default"> </tspan></text> gives "a" and "";
 -- the standard keeps the space of "a ", which stands under preserve.
 pub preserve-end-cut :
-    (shown (space ∷ say "a " ∷ el EId.Tspan (attrIn 3 AId.Space "default" ∷ say " " ∷ []) ∷ []) ≡ ascii "a" ∷ ascii "" ∷ []) × (asPreserve (ascii "a ") ≡ ascii "a ")
+    (shown (space ∷ say "a " ∷ el EId.Tspan (attrIn 3 AId.Space "default" ∷ say " " ∷ []) ∷ []) ≡ ascii "a" ∷ ascii "" ∷ [])
+    × (asPreserve (ascii "a ") ≡ ascii "a ")
 unfolding computed convert asPreserve
 preserve-end-cut = (refl, refl)
 

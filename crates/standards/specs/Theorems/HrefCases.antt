@@ -6,7 +6,8 @@ use Rattle.model.specs.AId
 use Rattle.model.specs.Cases.{ascii, texts, names, values, seen, given-room, svg, el, attr, attrIn, read, say, computed}
 
 -- tref with both: <tref xlink:href="#a" href="#b"/> quotes the element a; by SVG 2's rule it would be b.
-pub tref-both : seen texts (given-room (svg (el EId.Text (el EId.Tref (attrIn 2 AId.Href "#a" ∷ read 1 1 1 ∷ attr AId.Href "#b" ∷ read 1 1 1 ∷ []) ∷ [])
+pub tref-both : seen texts (given-room (svg (el EId.Text
+    (el EId.Tref (attrIn 2 AId.Href "#a" ∷ read 1 1 1 ∷ attr AId.Href "#b" ∷ read 1 1 1 ∷ []) ∷ [])
     ∷ el EId.G (attr AId.Id "a" ∷ say "x" ∷ []) ∷ el EId.G (attr AId.Id "b" ∷ say "y" ∷ []) ∷ []))) ≡ ascii "x" ∷ []
 unfolding computed
 tref-both = refl
@@ -25,6 +26,7 @@ use-both = (refl, refl)
 pub two-plain : (seen names (given-room (svg (el EId.Use (attr AId.Href "#a" ∷ read 1 1 1 ∷ attr AId.Href "#b" ∷ read 1 1 1 ∷ [])
     ∷ el EId.G (attr AId.Id "a" ∷ []) ∷ [])))
     ≡ (EId.Svg ∷ []) ∷ (EId.Use ∷ []) ∷ (EId.G ∷ []) ∷ (EId.G ∷ []) ∷ [])
-    × (seen (values AId.Href) (given-room (svg (el EId.Use (attr AId.Href "#a" ∷ read 1 1 1 ∷ attr AId.Href "#b" ∷ read 1 1 1 ∷ []) ∷ []))) ≡ ascii "#b" ∷ [])
+    × (seen (values AId.Href) (given-room (svg (el EId.Use (attr AId.Href "#a" ∷ read 1 1 1 ∷ attr AId.Href "#b" ∷ read 1 1 1 ∷ [])
+    ∷ []))) ≡ ascii "#b" ∷ [])
 unfolding computed
 two-plain = (refl, refl)

@@ -56,14 +56,16 @@ module _ (chars : List ℕ) (t : Tree) where
   unfolding says getXmlspace
   here i e = (rw e refl, rw e refl)
 
-  space-from : (n w : ℕ) → pick (eqb (holderFrom t AId.Space n w) 0) (λ u. default) (λ u. getXmlspace chars t (holderFrom t AId.Space n w - 1) default)
+  space-from : (n w : ℕ) → pick (eqb (holderFrom t AId.Space n w) 0) (λ u. default)
+      (λ u. getXmlspace chars t (holderFrom t AId.Space n w - 1) default)
       ≡ inForce (map (says chars t) (upwardFrom t n w)) default
   unfolding holderFrom upwardFrom inForce
   space-from zero w = refl
   space-from (suc n) w = go (eqb w 0) refl (space-from n (parentOf t (w - 1)))
     where
       said : (b : Bool) → eqb (attributeId t (w - 1) AId.Space) 0 ≡ b → eqb w 0 ≡ false →
-          pick (eqb (holderFrom t AId.Space n (parentOf t (w - 1))) 0) (λ u. default) (λ u. getXmlspace chars t (holderFrom t AId.Space n (parentOf t (w - 1)) - 1) default)
+          pick (eqb (holderFrom t AId.Space n (parentOf t (w - 1))) 0) (λ u. default)
+          (λ u. getXmlspace chars t (holderFrom t AId.Space n (parentOf t (w - 1)) - 1) default)
           ≡ inForce (map (says chars t) (upwardFrom t n (parentOf t (w - 1)))) default →
           pick (eqb (pick (not b) (λ v. w) (λ v. holderFrom t AId.Space n (parentOf t (w - 1)))) 0) (λ u. default)
           (λ u. getXmlspace chars t (pick (not b) (λ v. w) (λ v. holderFrom t AId.Space n (parentOf t (w - 1))) - 1) default)
@@ -72,10 +74,13 @@ module _ (chars : List ℕ) (t : Tree) where
       said false e z h = rw (z, here (w - 1) e .0, here (w - 1) e .1) refl
 
       go : (b : Bool) → eqb w 0 ≡ b →
-          pick (eqb (holderFrom t AId.Space n (parentOf t (w - 1))) 0) (λ u. default) (λ u. getXmlspace chars t (holderFrom t AId.Space n (parentOf t (w - 1)) - 1) default)
+          pick (eqb (holderFrom t AId.Space n (parentOf t (w - 1))) 0) (λ u. default)
+          (λ u. getXmlspace chars t (holderFrom t AId.Space n (parentOf t (w - 1)) - 1) default)
           ≡ inForce (map (says chars t) (upwardFrom t n (parentOf t (w - 1)))) default →
-          pick (eqb (pick b (λ u. 0) (λ u. pick (hasAttribute t (w - 1) AId.Space) (λ v. w) (λ v. holderFrom t AId.Space n (parentOf t (w - 1))))) 0) (λ u. default)
-          (λ u. getXmlspace chars t (pick b (λ u. 0) (λ u. pick (hasAttribute t (w - 1) AId.Space) (λ v. w) (λ v. holderFrom t AId.Space n (parentOf t (w - 1)))) - 1) default)
+          pick (eqb (pick b (λ u. 0) (λ u. pick (hasAttribute t (w - 1) AId.Space) (λ v. w)
+          (λ v. holderFrom t AId.Space n (parentOf t (w - 1))))) 0) (λ u. default)
+          (λ u. getXmlspace chars t (pick b (λ u. 0) (λ u. pick (hasAttribute t (w - 1) AId.Space) (λ v. w)
+          (λ v. holderFrom t AId.Space n (parentOf t (w - 1)))) - 1) default)
           ≡ inForce (map (says chars t) (pick b (λ u. []) (λ u. (w - 1) ∷ upwardFrom t n (parentOf t (w - 1))))) default
       go true z h = refl
       go false z h = said (eqb (attributeId t (w - 1) AId.Space) 0) refl z h
@@ -127,16 +132,20 @@ module _ (t : Tree) (p a : ℕ) where
   inherit-from (suc n) w = go (eqb w 0) refl (inherit-from n (parentOf t (w - 1)))
     where
       has : (b : Bool) → eqb (attributeId t (w - 1) a) 0 ≡ b → eqb w 0 ≡ false →
-          from (holderFrom t a n (parentOf t (w - 1))) ≡ inherited true (map (λ i. held (ownEntry t a i)) (upwardFrom t n (parentOf t (w - 1)))) initialEntry →
+          from (holderFrom t a n (parentOf t (w - 1))) ≡ inherited true
+          (map (λ i. held (ownEntry t a i)) (upwardFrom t n (parentOf t (w - 1)))) initialEntry →
           from (pick (not b) (λ v. w) (λ v. holderFrom t a n (parentOf t (w - 1))))
-          ≡ inherited true (held (ownEntry t a (w - 1)) ∷ map (λ i. held (ownEntry t a i)) (upwardFrom t n (parentOf t (w - 1)))) initialEntry
+          ≡ inherited true (held (ownEntry t a (w - 1)) ∷ map (λ i. held (ownEntry t a i)) (upwardFrom t n (parentOf t (w - 1))))
+          initialEntry
       has true e z h = rw (own-lacks (w - 1) e) h
       has false e z h = from-node w z ∙ rw (own-has (w - 1) e) refl
 
       go : (b : Bool) → eqb w 0 ≡ b →
-          from (holderFrom t a n (parentOf t (w - 1))) ≡ inherited true (map (λ i. held (ownEntry t a i)) (upwardFrom t n (parentOf t (w - 1)))) initialEntry →
+          from (holderFrom t a n (parentOf t (w - 1))) ≡ inherited true
+          (map (λ i. held (ownEntry t a i)) (upwardFrom t n (parentOf t (w - 1)))) initialEntry →
           from (pick b (λ u. 0) (λ u. pick (hasAttribute t (w - 1) a) (λ v. w) (λ v. holderFrom t a n (parentOf t (w - 1)))))
-          ≡ inherited true (map (λ i. held (ownEntry t a i)) (pick b (λ u. []) (λ u. (w - 1) ∷ upwardFrom t n (parentOf t (w - 1))))) initialEntry
+          ≡ inherited true (map (λ i. held (ownEntry t a i)) (pick b (λ u. []) (λ u. (w - 1) ∷ upwardFrom t n (parentOf t (w - 1)))))
+          initialEntry
       go true z h = from-none
       go false z h = has (eqb (attributeId t (w - 1) a) 0) refl z h
 
@@ -157,6 +166,7 @@ module _ (t : Tree) (p a : ℕ) where
   unfolding resolveInherit inheritedFrom from upward
   inherit-is-inherited = go (isInheritable a)
     where
-      go : (b : Bool) → from (pick b (λ u. holderFrom t a (p + 1) (p + 1)) (λ u. p + 1)) ≡ inherited b (map (λ i. held (ownEntry t a i)) (upward t p)) initialEntry
+      go : (b : Bool) → from (pick b (λ u. holderFrom t a (p + 1) (p + 1)) (λ u. p + 1))
+          ≡ inherited b (map (λ i. held (ownEntry t a i)) (upward t p)) initialEntry
       go true = inherit-from (p + 1) (p + 1)
       go false = parent-alone

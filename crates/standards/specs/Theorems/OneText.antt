@@ -52,7 +52,8 @@ module _ (a : TextNode) (f : ℕ → List ℕ) where
       long : eqb (length (b ∷ c ∷ r)) 1 ≡ false
       long = ne-eqb (suc (suc (length r))) 1 (omega arith)
 
-      go : (x y : Bool) → eqb b SPACE ≡ x → endsWithSpace (b ∷ c ∷ r) ≡ y → told (looked (b ∷ c ∷ r)) f (a .node) ≡ noLast (noFirst (b ∷ c ∷ r))
+      go : (x y : Bool) → eqb b SPACE ≡ x → endsWithSpace (b ∷ c ∷ r) ≡ y →
+          told (looked (b ∷ c ∷ r)) f (a .node) ≡ noLast (noFirst (b ∷ c ∷ r))
       go true true h g = simp (long, h, g, self, e) (ap (cutList 0 1) (first-off b (c ∷ r)) ∙ last-off c r ∙ sym (last-cut-off c r g))
       go true false h g = simp (long, h, g, self, e) (first-off b (c ∷ r) ∙ sym (last-stays c r g))
       go false true h g = simp (long, h, g, self, e) (last-off b (c ∷ r) ∙ sym (last-cut-off b (c ∷ r) g))
@@ -90,6 +91,7 @@ module _ (chars : List ℕ) (t : Tree) (e : ℕ) (a : TextNode) (bs : List ℕ) 
       within = within-trimming (λ i. i ≡ a .node) default (a ∷ []) (refl, tt)
 
   -- PRESERVE: it is the standard's text of the source, with carriage returns taken as newlines.
-  pub one-text-preserve : OneText chars t e a preserve bs → textOf (trimTextNodes chars e t) (a .node) ≡ asPreserve (convert RETURN NEWLINE bs)
+  pub one-text-preserve : OneText chars t e a preserve bs → textOf (trimTextNodes chars e t) (a .node)
+      ≡ asPreserve (convert RETURN NEWLINE bs)
   unfolding trimTextNodes trimming run
   one-text-preserve h = rw (h .space, h .only) (h .made ∙ preserve-is-standard bs)

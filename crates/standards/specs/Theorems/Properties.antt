@@ -135,8 +135,10 @@ unfolding inherited
 inherited-mapped f b own [] d = refl
 inherited-mapped f b own (i ∷ xs) d = go b (own i) (inherited-mapped f b own xs d)
   where
-    go : (b : Bool) (o : Option _) → mapped f (inherited b (map (λ i. held (own i)) xs) (some d)) ≡ some (inherited b (map (λ i. mapped f (own i)) xs) (f d)) →
-        mapped f (inherited b (held o ∷ map (λ i. held (own i)) xs) (some d)) ≡ some (inherited b (mapped f o ∷ map (λ i. mapped f (own i)) xs) (f d))
+    go : (b : Bool) (o : Option _) → mapped f (inherited b (map (λ i. held (own i)) xs) (some d))
+        ≡ some (inherited b (map (λ i. mapped f (own i)) xs) (f d)) →
+        mapped f (inherited b (held o ∷ map (λ i. held (own i)) xs) (some d))
+        ≡ some (inherited b (mapped f o ∷ map (λ i. mapped f (own i)) xs) (f d))
     go b (some x) h = refl
     go true none h = h
     go false none h = refl
@@ -147,7 +149,8 @@ isNone [] = true
 isNone (d ∷ ds) = false
 
 all-pass : (a b c d e f : Bool) →
-    unless a notSet ++ unless b notHandedDown ++ unless c handedDown ++ unless d asWritten ++ unless e dropped ++ unless f otherInitial ≡ [] →
+    unless a notSet ++ unless b notHandedDown ++ unless c handedDown ++ unless d asWritten ++ unless e dropped ++ unless f otherInitial
+    ≡ [] →
     (a ≡ true) × (b ≡ true) × (c ≡ true) × (d ≡ true) × (e ≡ true) × (f ≡ true)
 all-pass true true true true true true h = (refl, refl, refl, refl, refl, refl)
 all-pass true true true true true false h = absurd (false≢true (ap isNone h))
@@ -192,15 +195,17 @@ agrees : (r : Property) (v : List ℕ) → r .initial ≡ some v → differences
 unfolding differencesOf
 agrees r v e h =
     let a = r .name in
-    let z = all-pass (isPresentation a) (or (not (r .inherits)) (isInheritable a)) (or (r .inherits) (not (isInheritable a))) (allowsInheritValue a)
+    let z = all-pass (isPresentation a) (or (not (r .inherits)) (isInheritable a)) (or (r .inherits) (not (isInheritable a)))
+    (allowsInheritValue a)
     (or (not (allowsInheritValue a)) (not (eqb (inheritDefault a) 0)))
     (or (eqb (inheritDefault a) 0) (isInitial (r .initial) (fixedBytes (inheritDefault a)))) h in
     let f = is-fixed (allowsInheritValue a) (eqb (inheritDefault a) 0) (z .3) (z .4) in
     record {
-  inherits = both-ways (r .inherits) (isInheritable a) (z .1) (z .2);
-  fixed = f;
-  initial = sym (same-bytes v (fixedBytes (inheritDefault a)) (of-initial (eqb (inheritDefault a) 0) (r .initial) (fixedBytes (inheritDefault a)) v f e (z .5)));
-}
+      inherits = both-ways (r .inherits) (isInheritable a) (z .1) (z .2);
+      fixed = f;
+      initial = sym (same-bytes v (fixedBytes (inheritDefault a))
+          (of-initial (eqb (inheritDefault a) 0) (r .initial) (fixedBytes (inheritDefault a)) v f e (z .5)));
+    }
 
 fixed-value : (chars : List ℕ) (a n : ℕ) → valueOf chars (fixedEntry a 0 n) ≡ fixedBytes n
 unfolding valueOf
@@ -213,7 +218,8 @@ pub inherit-is-css : (chars : List ℕ) (t : Tree) (p : ℕ) (r : Property) (v :
     mapped (valueOf chars) (resolveInherit t p (r .name))
     ≡ some (inherited (r .inherits) (map (λ i. mapped (valueOf chars) (ownEntry t (r .name) i)) (upward t p)) v)
 inherit-is-css chars t p r v e h =
-    ap (mapped (valueOf chars)) (inherit-is-inherited t p a ∙ ap (inherited (isInheritable a) (map (λ i. held (ownEntry t a i)) (upward t p))) some-fixed)
+    ap (mapped (valueOf chars)) (inherit-is-inherited t p a
+    ∙ ap (inherited (isInheritable a) (map (λ i. held (ownEntry t a i)) (upward t p))) some-fixed)
     ∙ inherited-mapped (valueOf chars) (isInheritable a) (ownEntry t a) (upward t p) (fixedEntry a 0 (inheritDefault a))
     ∙ ap₂ (λ (b : Bool) (w : List ℕ). some (inherited b (map (λ i. mapped (valueOf chars) (ownEntry t a i)) (upward t p)) w)) (k .inherits)
     (fixed-value chars a (inheritDefault a) ∙ k .initial)

@@ -26,10 +26,31 @@ HighRows ((f ∷ rs) ∷ rows) = AllHigh rs × HighRows rows
 
 rows-high : HighRows wellFormed
 unfolding wellFormed
-rows-high =
-    (tt, ((omega arith, tt), ((omega arith, (omega arith, tt)), ((omega arith, (omega arith, tt)), ((omega arith, (omega arith, tt)),
-    ((omega arith, (omega arith, tt)), ((omega arith, (omega arith, (omega arith, tt))), ((omega arith, (omega arith, (omega arith, tt))),
-    ((omega arith, (omega arith, (omega arith, tt))), tt)))))))))
+rows-high = (
+  tt,
+  (
+    (omega arith, tt),
+    (
+      (omega arith, (omega arith, tt)),
+      (
+        (omega arith, (omega arith, tt)),
+        (
+          (omega arith, (omega arith, tt)),
+          (
+            (omega arith, (omega arith, tt)),
+            (
+              (omega arith, (omega arith, (omega arith, tt))),
+              (
+                (omega arith, (omega arith, (omega arith, tt))),
+                ((omega arith, (omega arith, (omega arith, tt))), tt),
+              ),
+            ),
+          ),
+        ),
+      ),
+    ),
+  ),
+)
 
 -- BYTES
 
@@ -63,7 +84,8 @@ never-dropped true c p h = go (eqb c SPACE) refl
     go true e = ne-eqb c p (λ q. eqb-false p SPACE h (sym q ∙ eqb-true c SPACE e))
     go false e = refl
 
-kept-byte : (w : XmlSpace) (p b : ℕ) (bs : List ℕ) → eqb p SPACE ≡ false → trimTextAfter w p (b ∷ bs) ≡ converted b ∷ trimTextAfter w (converted b) bs
+kept-byte : (w : XmlSpace) (p b : ℕ) (bs : List ℕ) → eqb p SPACE ≡ false →
+    trimTextAfter w p (b ∷ bs) ≡ converted b ∷ trimTextAfter w (converted b) bs
 unfolding trimTextAfter
 kept-byte w p b bs h = rw (never-dropped (isDefault w) (converted b) p h) refl
 
@@ -81,7 +103,8 @@ high-byte w p b bs h = simp (high-stays b h, no-byte b SPACE h (omega arith), of
 abbrev AlikeBehind : List ℕ → List ℕ → Type 0
 AlikeBehind xs ys = (rs : List Range) → AllHigh rs → begins rs xs ≡ begins rs ys
 
-trimmed-alike : (rs : List Range) → AllHigh rs → (w : XmlSpace) (p : ℕ) (bs : List ℕ) → eqb p SPACE ≡ false → begins rs (trimTextAfter w p bs) ≡ begins rs bs
+trimmed-alike : (rs : List Range) → AllHigh rs → (w : XmlSpace) (p : ℕ) (bs : List ℕ) → eqb p SPACE ≡ false →
+    begins rs (trimTextAfter w p bs) ≡ begins rs bs
 unfolding begins
 trimmed-alike [] h w p bs e = refl
 trimmed-alike (r ∷ rs) h w p [] e = nothing
@@ -98,7 +121,8 @@ trimmed-alike (r ∷ rs) h w p (b ∷ bs) e = go (decLt b 128) (λ f. trimmed-al
         let q = high-stays b g in
         rw (kept-byte w p b bs e) (rw (k (rw q (no-byte b SPACE g (omega arith))), q) refl)
 
-rows-alike : (rows : List (List Range)) → HighRows rows → (b : ℕ) (xs ys : List ℕ) → AlikeBehind xs ys → sequenceOf rows (b ∷ xs) ≡ sequenceOf rows (b ∷ ys)
+rows-alike : (rows : List (List Range)) → HighRows rows → (b : ℕ) (xs ys : List ℕ) → AlikeBehind xs ys →
+    sequenceOf rows (b ∷ xs) ≡ sequenceOf rows (b ∷ ys)
 unfolding sequenceOf begins
 rows-alike [] h b xs ys a = refl
 rows-alike ([] ∷ rows) h b xs ys a = absurd h
@@ -111,7 +135,8 @@ record Found (n : ℕ) (xs : List ℕ) : Type 0 where
   pub begun : begins ranges xs ≡ true
   pub long : n ≡ suc (length ranges)
 
-found : (rows : List (List Range)) → HighRows rows → (b : ℕ) (xs : List ℕ) → eqb (sequenceOf rows (b ∷ xs)) 0 ≡ false → Found (sequenceOf rows (b ∷ xs)) xs
+found : (rows : List (List Range)) → HighRows rows → (b : ℕ) (xs : List ℕ) → eqb (sequenceOf rows (b ∷ xs)) 0 ≡ false →
+    Found (sequenceOf rows (b ∷ xs)) xs
 unfolding sequenceOf begins
 found [] h b xs e = absurd (false≢true (sym e))
 found ([] ∷ rows) h b xs e = absurd h
@@ -140,7 +165,8 @@ high-utf8 : (b : ℕ) (xs : List ℕ) → isUtf8From 0 (b ∷ xs) ≡ true →
 unfolding isUtf8From
 high-utf8 b xs h = go (eqb (sequenceOf wellFormed (b ∷ xs)) 0) refl h
   where
-    go : (c : Bool) → eqb (sequenceOf wellFormed (b ∷ xs)) 0 ≡ c → pick c (λ u. false) (λ u. isUtf8From (sequenceOf wellFormed (b ∷ xs) - 1) xs) ≡ true →
+    go : (c : Bool) → eqb (sequenceOf wellFormed (b ∷ xs)) 0 ≡ c →
+        pick c (λ u. false) (λ u. isUtf8From (sequenceOf wellFormed (b ∷ xs) - 1) xs) ≡ true →
         (f : Found (sequenceOf wellFormed (b ∷ xs)) xs) × (isUtf8From (length (f .ranges)) xs ≡ true)
     go true e g = absurd (false≢true g)
     go false e g =
@@ -148,7 +174,8 @@ high-utf8 b xs h = go (eqb (sequenceOf wellFormed (b ∷ xs)) 0) refl h
         let q : sequenceOf wellFormed (b ∷ xs) - 1 ≡ length (f .ranges) = omega (arith, f .long) in
         (f, subst (λ (n : ℕ). isUtf8From n xs ≡ true) q g)
 
-high-back : (b : ℕ) (xs ys : List ℕ) (f : Found (sequenceOf wellFormed (b ∷ xs)) xs) → AlikeBehind xs ys → isUtf8From (length (f .ranges)) ys ≡ true →
+high-back : (b : ℕ) (xs ys : List ℕ) (f : Found (sequenceOf wellFormed (b ∷ xs)) xs) → AlikeBehind xs ys →
+    isUtf8From (length (f .ranges)) ys ≡ true →
     isUtf8From 0 (b ∷ ys) ≡ true
 unfolding isUtf8From
 high-back b xs ys f a h =
@@ -161,7 +188,8 @@ abbrev Ready : List Range → ℕ → Type 0
 Ready [] p = Unit {0}
 Ready (r ∷ rs) p = eqb p SPACE ≡ false
 
-trimmed-from : (bs : List ℕ) (rs : List Range) (w : XmlSpace) (p : ℕ) → AllHigh rs → begins rs bs ≡ true → isUtf8From (length rs) bs ≡ true → Ready rs p →
+trimmed-from : (bs : List ℕ) (rs : List Range) (w : XmlSpace) (p : ℕ) → AllHigh rs → begins rs bs ≡ true →
+    isUtf8From (length rs) bs ≡ true → Ready rs p →
     isUtf8From (length rs) (trimTextAfter w p bs) ≡ true
 unfolding begins isUtf8From trimTextAfter
 trimmed-from [] rs w p h b u r = nothing
@@ -195,7 +223,8 @@ trimmed-from (b ∷ bs) [] w p h g u r = go (decLt b 128)
     ready (y ∷ ys) l = no-byte b SPACE l (omega arith)
 
     go : Dec (b < 128) → (isUtf8From 0 bs ≡ true → (q : ℕ) → isUtf8From 0 (trimTextAfter w q bs) ≡ true) →
-        ((rs : List Range) → AllHigh rs → begins rs bs ≡ true → isUtf8From (length rs) bs ≡ true → Ready rs b → isUtf8From (length rs) (trimTextAfter w b bs) ≡ true) →
+        ((rs : List Range) → AllHigh rs → begins rs bs ≡ true → isUtf8From (length rs) bs ≡ true → Ready rs b →
+        isUtf8From (length rs) (trimTextAfter w b bs) ≡ true) →
         isUtf8From 0 (trimTextAfter w p (b ∷ bs)) ≡ true
     go (yes l) k m =
         low (and (isDefault w) (and (eqb (converted b) SPACE) (eqb (converted b) p))) l (k (sym (low-utf8 b bs l) ∙ u))
@@ -214,7 +243,8 @@ last-alike [] h xs = refl
 last-alike (r ∷ rs) h [] = rw (low-out SPACE r (h .0) (omega arith)) refl
 last-alike (r ∷ rs) h (x ∷ xs) = rw (last-alike rs (h .1) xs) refl
 
-last-from : (xs : List ℕ) (rs : List Range) → AllHigh rs → begins rs (xs ++ (SPACE ∷ [])) ≡ true → isUtf8From (length rs) (xs ++ (SPACE ∷ [])) ≡ true →
+last-from : (xs : List ℕ) (rs : List Range) → AllHigh rs → begins rs (xs ++ (SPACE ∷ [])) ≡ true →
+    isUtf8From (length rs) (xs ++ (SPACE ∷ [])) ≡ true →
     isUtf8From (length rs) xs ≡ true
 unfolding begins isUtf8From
 last-from [] rs h g u = refl
@@ -226,7 +256,8 @@ last-from (b ∷ xs) (r ∷ rs) h g u = last-from xs rs (h .1) (go (isWithin b r
 last-from (b ∷ xs) [] h g u = go (decLt b 128) (λ v. last-from xs [] tt refl v) (λ rs a c v. last-from xs rs a c v)
   where
     go : Dec (b < 128) → (isUtf8From 0 (xs ++ (SPACE ∷ [])) ≡ true → isUtf8From 0 xs ≡ true) →
-        ((rs : List Range) → AllHigh rs → begins rs (xs ++ (SPACE ∷ [])) ≡ true → isUtf8From (length rs) (xs ++ (SPACE ∷ [])) ≡ true → isUtf8From (length rs) xs ≡ true) →
+        ((rs : List Range) → AllHigh rs → begins rs (xs ++ (SPACE ∷ [])) ≡ true → isUtf8From (length rs) (xs ++ (SPACE ∷ [])) ≡ true →
+        isUtf8From (length rs) xs ≡ true) →
         isUtf8From 0 (b ∷ xs) ≡ true
     go (yes l) k m = low-utf8 b xs l ∙ k (sym (low-utf8 b (xs ++ (SPACE ∷ [])) l) ∙ u)
     go (no l) k m =

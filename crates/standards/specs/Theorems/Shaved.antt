@@ -94,17 +94,20 @@ module _ (f₀ : ℕ → List ℕ) where
       go true e = back (subst (λ (r : List ℕ). Shaved (f₀ j) r) (ap f (eqb-true j i e) ∙ ends-split (f i) h) (s j))
       go false e = s j
 
-  kept-pick : (b : Bool) (x y : Unit {0} → Trimming) (f : ℕ → List ℕ) → (b ≡ true → Kept (told (x tt) f)) → (b ≡ false → Kept (told (y tt) f)) →
+  kept-pick : (b : Bool) (x y : Unit {0} → Trimming) (f : ℕ → List ℕ) → (b ≡ true → Kept (told (x tt) f)) →
+      (b ≡ false → Kept (told (y tt) f)) →
       Kept (told (pick b x y) f)
   kept-pick true x y f h g = h refl
   kept-pick false x y f h g = g refl
 
-  module _ (deeper isFirst isLast : Bool) (a b : TextNode) (d : a .node ≡ b .node → ⊥) (k : Trimming) (rest : (f : ℕ → List ℕ) → Kept f → Kept (told k f)) where
+  module _ (deeper isFirst isLast : Bool) (a b : TextNode) (d : a .node ≡ b .node → ⊥) (k : Trimming) (rest : (f : ℕ → List ℕ) →
+      Kept f → Kept (told k f)) where
     edge-kept : (v : List ℕ) (f : ℕ → List ℕ) → Kept f → Kept (told (lastEdge isLast a b v k) f)
     unfolding told
     edge-kept v f s =
         kept-pick (and (and isLast (endsWithSpace v)) (and (isEmpty (f (b .node))) (endsWithSpace (f (a .node))))) _ _ f
-        (λ e. rest _ (last-cut f (a .node) s (and-right (isEmpty (f (b .node))) _ (and-right (and isLast (endsWithSpace v)) _ e)))) (λ e. rest f s)
+        (λ e. rest _ (last-cut f (a .node) s (and-right (isEmpty (f (b .node))) _ (and-right (and isLast (endsWithSpace v)) _ e))))
+        (λ e. rest f s)
 
     -- What is known of the two texts, v and w at first, behind the space between them.
     abbrev Behind : List ℕ → List ℕ → (ℕ → List ℕ) → Type 0
@@ -112,7 +115,8 @@ module _ (f₀ : ℕ → List ℕ) where
         Kept f × (beginsWithSpace v ≡ true → isEmpty (f (a .node)) ≡ false → beginsWithSpace (f (a .node)) ≡ true)
         × (endsWithSpace w ≡ true → isEmpty (f (b .node)) ≡ false → endsWithSpace (f (b .node)) ≡ true)
 
-    outer-kept : (v w : List ℕ) (f : ℕ → List ℕ) → Behind v w f → Kept (told (outerSpaces isFirst isLast a b v w (lastEdge isLast a b v k)) f)
+    outer-kept : (v w : List ℕ) (f : ℕ → List ℕ) → Behind v w f →
+        Kept (told (outerSpaces isFirst isLast a b v w (lastEdge isLast a b v k)) f)
     unfolding told
     outer-kept v w f s =
         kept-pick (and (and isFirst (beginsWithSpace v)) (and (isDefault (a .space)) (not (isEmpty (f (a .node)))))) _ _ f
@@ -127,10 +131,12 @@ module _ (f₀ : ℕ → List ℕ) where
     unfolding told
     pair-kept f s =
         kept-pick deeper _ _ f
-        (λ e. kept-pick (and (beginsWithSpace w) (isDefault (b .space))) _ _ f (λ g. second (and-left (beginsWithSpace w) _ g)) (λ g. neither))
+        (λ e. kept-pick (and (beginsWithSpace w) (isDefault (b .space))) _ _ f (λ g. second (and-left (beginsWithSpace w) _ g))
+        (λ g. neither))
         (λ e. kept-pick (and (and (endsWithSpace v) (beginsWithSpace w)) (isDefault (b .space))) _ _ f
         (λ g. let q = and-left (and (endsWithSpace v) (beginsWithSpace w)) _ g in
-        kept-pick (isDefault (a .space)) _ _ f (λ x. first (and-left (endsWithSpace v) _ q)) (λ x. second (and-right (endsWithSpace v) _ q)))
+        kept-pick (isDefault (a .space)) _ _ f (λ x. first (and-left (endsWithSpace v) _ q))
+        (λ x. second (and-right (endsWithSpace v) _ q)))
         (λ g. neither))
       where
         v : List ℕ
@@ -155,7 +161,8 @@ module _ (f₀ : ℕ → List ℕ) where
         second h = outer-kept v w (withText (b .node) (cutList 1 0 w) f) (
           first-cut f (b .node) s h,
           rw (ne-eqb (a .node) (b .node) d) (λ x y. x),
-          rw (eq-eqb (b .node) (b .node) refl) (λ x y. ends-tail SPACE (cutList 1 0 w) (subst (λ (r : List ℕ). endsWithSpace r ≡ true) (begins-split w h) x) y),
+          rw (eq-eqb (b .node) (b .node) refl) (λ x y. ends-tail SPACE (cutList 1 0 w)
+              (subst (λ (r : List ℕ). endsWithSpace r ≡ true) (begins-split w h) x) y),
         )
 
   stands-before : (e : Bool) (a : TextNode) (last : Option TextNode) (m : ℕ) → a .node < m → Before last (a .node) →
@@ -170,7 +177,8 @@ module _ (f₀ : ℕ → List ℕ) where
   before-pick true c (some n) k m l h g = omega arith
   before-pick false c last k m l h g = h
 
-  pairs-kept : (more : List TextNode) (isFirst : Bool) (last : Option TextNode) (a : TextNode) → Before last (a .node) → Rising (a .node) more →
+  pairs-kept : (more : List TextNode) (isFirst : Bool) (last : Option TextNode) (a : TextNode) → Before last (a .node) →
+      Rising (a .node) more →
       (f : ℕ → List ℕ) → Kept f → Kept (told (pairs isFirst last a more) f)
   unfolding told pairs
   pairs-kept [] isFirst last a l r f s = s
@@ -197,7 +205,8 @@ module _ (f₀ : ℕ → List ℕ) where
       alone (b ∷ []) h g = g
       alone (b ∷ c ∷ v) h g = absurd (omega (arith, eqb-true (length (b ∷ c ∷ v)) 1 h))
 
-      still : (v : List ℕ) → eqb (length v) 1 ≡ false → beginsWithSpace v ≡ true → endsWithSpace v ≡ true → endsWithSpace (cutList 1 0 v) ≡ true
+      still : (v : List ℕ) → eqb (length v) 1 ≡ false → beginsWithSpace v ≡ true → endsWithSpace v ≡ true →
+          endsWithSpace (cutList 1 0 v) ≡ true
       still [] h g k = absurd (false≢true g)
       still (b ∷ []) h g k = absurd (eqb-false (length (b ∷ [])) 1 h refl)
       still (b ∷ c ∷ v) h g k = rw (first-off b (c ∷ v)) k
@@ -239,7 +248,8 @@ without-last [] = refl
 without-last (a ∷ w) = go (eqb a SPACE) (without-last w)
   where
     go : (c : Bool) → without SPACE (w ++ (SPACE ∷ [])) ≡ without SPACE w →
-        pick c (λ u. without SPACE (w ++ (SPACE ∷ []))) (λ u. a ∷ without SPACE (w ++ (SPACE ∷ []))) ≡ pick c (λ u. without SPACE w) (λ u. a ∷ without SPACE w)
+        pick c (λ u. without SPACE (w ++ (SPACE ∷ []))) (λ u. a ∷ without SPACE (w ++ (SPACE ∷ [])))
+        ≡ pick c (λ u. without SPACE w) (λ u. a ∷ without SPACE w)
     go true h = h
     go false h = ap (λ r. a ∷ r) h
 

@@ -39,7 +39,8 @@ unfolding consolidated noTrailing words behind
 inner [] = (refl, refl)
 inner (b ∷ bs) = go (eqb b BLANK) refl (inner bs)
   where
-    go : (c : Bool) → eqb b BLANK ≡ c → (consolidated (noTrailing bs) ≡ words word bs) × (consolidated (behind (noTrailing bs)) ≡ words gap bs) →
+    go : (c : Bool) → eqb b BLANK ≡ c → (consolidated (noTrailing bs) ≡ words word bs)
+        × (consolidated (behind (noTrailing bs)) ≡ words gap bs) →
         (consolidated (noTrailing (b ∷ bs)) ≡ words word (b ∷ bs)) × (consolidated (behind (noTrailing (b ∷ bs))) ≡ words gap (b ∷ bs))
     go true e h = rw (eqb-true b BLANK e) (h .1, behind-twice (noTrailing bs) ∙ h .1)
     go false e h = simp e (ap (λ r. b ∷ r) (h .0), ap (λ r. BLANK ∷ b ∷ r) (h .0))
@@ -91,7 +92,8 @@ trim-default p (b ∷ bs) =
     go (and (eqb (converted b) BLANK) (eqb (converted b) p)) (trim-default p bs) (trim-default (converted b) bs)
     ∙ sym (ap (squeezed p) (converted-as b bs))
   where
-    go : (c : Bool) → trimTextAfter default p bs ≡ squeezed p (spaced bs) → trimTextAfter default (converted b) bs ≡ squeezed (converted b) (spaced bs) →
+    go : (c : Bool) → trimTextAfter default p bs ≡ squeezed p (spaced bs) →
+        trimTextAfter default (converted b) bs ≡ squeezed (converted b) (spaced bs) →
         pick c (λ u. trimTextAfter default p bs) (λ u. converted b ∷ trimTextAfter default (converted b) bs)
         ≡ pick c (λ u. squeezed p (spaced bs)) (λ u. converted b ∷ squeezed (converted b) (spaced bs))
     go true h g = h
@@ -127,9 +129,12 @@ unfolding noLast squeezed words
 last-goes [] b h = (rw h refl, refl)
 last-goes (c ∷ bs) b h = go (eqb c BLANK) refl (last-goes bs b h) (λ e. last-goes bs c e)
   where
-    go : (d : Bool) → eqb c BLANK ≡ d → (noLast (b ∷ squeezed b bs) ≡ b ∷ words word bs) × (noLast (b ∷ BLANK ∷ squeezed BLANK bs) ≡ b ∷ words gap bs) →
-        (eqb c BLANK ≡ false → (noLast (c ∷ squeezed c bs) ≡ c ∷ words word bs) × (noLast (c ∷ BLANK ∷ squeezed BLANK bs) ≡ c ∷ words gap bs)) →
-        (noLast (b ∷ squeezed b (c ∷ bs)) ≡ b ∷ words word (c ∷ bs)) × (noLast (b ∷ BLANK ∷ squeezed BLANK (c ∷ bs)) ≡ b ∷ words gap (c ∷ bs))
+    go : (d : Bool) → eqb c BLANK ≡ d → (noLast (b ∷ squeezed b bs) ≡ b ∷ words word bs)
+        × (noLast (b ∷ BLANK ∷ squeezed BLANK bs) ≡ b ∷ words gap bs) →
+        (eqb c BLANK ≡ false → (noLast (c ∷ squeezed c bs) ≡ c ∷ words word bs)
+        × (noLast (c ∷ BLANK ∷ squeezed BLANK bs) ≡ c ∷ words gap bs)) →
+        (noLast (b ∷ squeezed b (c ∷ bs)) ≡ b ∷ words word (c ∷ bs))
+        × (noLast (b ∷ BLANK ∷ squeezed BLANK (c ∷ bs)) ≡ b ∷ words gap (c ∷ bs))
     go true e k g =
         let n : eqb BLANK b ≡ false = ne-eqb BLANK b (λ q. eqb-false b BLANK h (sym q)) in
         rw (eqb-true c BLANK e) (simp n (k .1), k .1)
@@ -140,7 +145,8 @@ unfolding noLast squeezed words
 edges-front [] = refl
 edges-front (b ∷ bs) = go (eqb b BLANK) refl (edges-front bs)
   where
-    go : (c : Bool) → eqb b BLANK ≡ c → noLast (squeezed BLANK bs) ≡ words front bs → noLast (squeezed BLANK (b ∷ bs)) ≡ words front (b ∷ bs)
+    go : (c : Bool) → eqb b BLANK ≡ c → noLast (squeezed BLANK bs) ≡ words front bs →
+        noLast (squeezed BLANK (b ∷ bs)) ≡ words front (b ∷ bs)
     go true e h = rw (eqb-true b BLANK e) h
     go false e h = simp e (last-goes bs b e .0)
 
@@ -169,7 +175,8 @@ converted-free c d (b ∷ bs) h = (go (eqb b c) refl, converted-free c d bs h)
 default-words : (bs : List ℕ) → asDefault (convert NEWLINE BLANK bs) ≡ words front (convert TAB BLANK (convert NEWLINE BLANK bs))
 unfolding asDefault
 default-words bs =
-    ap (λ r. consolidated (noTrailing (noLeading (convert TAB BLANK r)))) (none-without NEWLINE (convert NEWLINE BLANK bs) (converted-free NEWLINE BLANK bs refl))
+    ap (λ r. consolidated (noTrailing (noLeading (convert TAB BLANK r))))
+    (none-without NEWLINE (convert NEWLINE BLANK bs) (converted-free NEWLINE BLANK bs refl))
     ∙ stripped _
 
 -- THEOREMS
@@ -184,7 +191,8 @@ pub preserve-without-return : (bs : List ℕ) → Free RETURN bs → trimText pr
 preserve-without-return bs h = preserve-is-standard bs ∙ ap asPreserve (none-converted RETURN NEWLINE bs h)
 
 -- DEFAULT. `trim_text`, then a space off each end: the standard's text of the source with its newlines (and carriage returns) made spaces.
-pub default-is-standard : (bs : List ℕ) → noLast (noFirst (trimText default bs)) ≡ asDefault (convert NEWLINE BLANK (convert RETURN NEWLINE bs))
+pub default-is-standard : (bs : List ℕ) → noLast (noFirst (trimText default bs))
+    ≡ asDefault (convert NEWLINE BLANK (convert RETURN NEWLINE bs))
 unfolding trimText spaced
 default-is-standard bs =
     ap (λ r. noLast (noFirst r)) (trim-default 48 bs) ∙ ap noLast (first-goes 48 (spaced bs) refl)
@@ -258,7 +266,8 @@ apart-by (b ∷ bs) p = go p (by-sort b bs) (λ q. apart-by bs q)
     go : (p : Place) → ((sortOf b ≡ newline) × (asSpaces (b ∷ bs) ≡ BLANK ∷ asSpaces bs) × (removed (b ∷ bs) ≡ removed bs))
         ⊎ ((sortOf b ≡ blank) × (asSpaces (b ∷ bs) ≡ BLANK ∷ asSpaces bs) × (removed (b ∷ bs) ≡ BLANK ∷ removed bs))
         ⊎ ((sortOf b ≡ visible) × (asSpaces (b ∷ bs) ≡ b ∷ asSpaces bs) × (removed (b ∷ bs) ≡ b ∷ removed bs) × (eqb b BLANK ≡ false)) →
-        ((q : Place) → ApartBy q (seamsFrom q bs) (asSpaces bs) (removed bs)) → ApartBy p (seamsFrom p (b ∷ bs)) (asSpaces (b ∷ bs)) (removed (b ∷ bs))
+        ((q : Place) → ApartBy q (seamsFrom q bs) (asSpaces bs) (removed bs)) →
+        ApartBy p (seamsFrom p (b ∷ bs)) (asSpaces (b ∷ bs)) (removed (b ∷ bs))
     go ahead (inl h) r = rw (h .0, h .1, h .2) (r ahead)
     go inWord (inl h) r = rw (h .0, h .1, h .2) (r atBreak)
     go inGap (inl h) r = rw (h .0, h .1, h .2) (r inGap)
@@ -295,7 +304,8 @@ newline-agrees bs h g =
 -- THE DIFFERENCE: every other text is longer than the standard's, by one space for each seam.
 pub newline-differs : (bs : List ℕ) → Free RETURN bs → length (noLast (noFirst (trimText default bs))) ≡ length (asDefault bs) + seams bs
 newline-differs bs h =
-    ap length (default-is-standard bs ∙ ap (λ r. asDefault (convert NEWLINE BLANK r)) (none-converted RETURN NEWLINE bs h)) ∙ seams-longer bs
+    ap length (default-is-standard bs ∙ ap (λ r. asDefault (convert NEWLINE BLANK r)) (none-converted RETURN NEWLINE bs h))
+    ∙ seams-longer bs
 
 -- The smallest case: "a", a newline, "b". The Rust's text is "a b", the standard's "ab"; there is one seam.
 pub newline-case :
@@ -321,7 +331,8 @@ squeezed-visible p (b ∷ bs) = go (eqb b BLANK) refl (squeezed-visible p bs) (s
     drop-or-keep true h g = h
     drop-or-keep false h g = g
 
-    go : (c : Bool) → eqb b BLANK ≡ c → without BLANK (squeezed p bs) ≡ without BLANK bs → without BLANK (squeezed b bs) ≡ without BLANK bs →
+    go : (c : Bool) → eqb b BLANK ≡ c → without BLANK (squeezed p bs) ≡ without BLANK bs →
+        without BLANK (squeezed b bs) ≡ without BLANK bs →
         without BLANK (squeezed p (b ∷ bs)) ≡ without BLANK (b ∷ bs)
     go true e h g = let q = eqb-true b BLANK e in rw q (drop-or-keep (eqb BLANK p) h (rw q at g))
     go false e h g = simp e (ap (λ r. b ∷ r) g)
@@ -347,8 +358,11 @@ squeezed-no-two (b ∷ bs) p = go (and (eqb b BLANK) (eqb b p)) refl (squeezed-n
         NoTwo (pick c (λ u. squeezed p bs) (λ u. b ∷ squeezed b bs))
         × (eqb p BLANK ≡ true → isBlankNext (pick c (λ u. squeezed p bs) (λ u. b ∷ squeezed b bs)) ≡ false)
     go true e h g = h
-    go false e h g = ((g .1, g .0), λ q. ne-eqb b BLANK (λ z.
-        let y : and (eqb b BLANK) (eqb b p) ≡ true = rw (z, eqb-true p BLANK q) refl in absurd (false≢true (sym e ∙ y))))
+    go false e h g = (
+      (g .1, g .0),
+      λ q. ne-eqb b BLANK (λ z.
+          let y : and (eqb b BLANK) (eqb b p) ≡ true = rw (z, eqb-true p BLANK q) refl in absurd (false≢true (sym e ∙ y))),
+    )
 
 -- Under Default no two spaces stand in a row.
 pub trim-no-two : (bs : List ℕ) → NoTwo (trimText default bs)

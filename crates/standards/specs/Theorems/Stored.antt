@@ -28,11 +28,19 @@ abbrev Stored : Tree → ℕ → List Entry → Type 0
 Stored t j [] = Unit {0}
 Stored t j (e ∷ es) = (entryAt t j ≡ e) × Stored t (j + 1) es
 
-stored-words : (t : Tree) (es : List Entry) (j : ℕ) → ((w : ℕ) → w < 5 * length es → getD (t .attributes) (5 * j + w) 0 ≡ getD (entriesWords es) w 0) → Stored t j es
+stored-words : (t : Tree) (es : List Entry) (j : ℕ) →
+    ((w : ℕ) → w < 5 * length es → getD (t .attributes) (5 * j + w) 0 ≡ getD (entriesWords es) w 0) → Stored t j es
 unfolding entriesWords entryAt
 stored-words t [] j h = tt
 stored-words t (e ∷ es) j h = (
-  λ x. record { name = h 0 (omega arith) x; important = h 1 (omega arith) x; start = h 2 (omega arith) x; size = h 3 (omega arith) x; command = h 4 (omega arith) x },
+  λ x. record {
+    name = h 0 (omega arith) x;
+    important = h 1 (omega arith) x;
+    start = h 2 (omega arith) x;
+    size =
+        h 3 (omega arith) x;
+    command = h 4 (omega arith) x;
+  },
   stored-words t es (j + 1) (λ w l. ap (λ k. getD (t .attributes) k 0) (place w) ∙ h (suc (suc (suc (suc (suc w))))) (omega arith)),
 )
   where
@@ -50,13 +58,16 @@ unfolding findEntry entryOf
 find-stored t a [] j h = refl
 find-stored t a (e ∷ es) j h = rw (at-name t j e (h .0)) (go (eqb (e .name) a) (find-stored t a es (j + 1) (h .1)))
   where
-    go : (b : Bool) → pick (eqb (findEntry t a (j + 1) (length es)) 0) (λ u. none) (λ u. some (entryAt t (findEntry t a (j + 1) (length es) - 1))) ≡ entryOf a es →
+    go : (b : Bool) → pick (eqb (findEntry t a (j + 1) (length es)) 0) (λ u. none)
+        (λ u. some (entryAt t (findEntry t a (j + 1) (length es) - 1))) ≡ entryOf a es →
         pick (eqb (pick b (λ u. j + 1) (λ u. findEntry t a (j + 1) (length es))) 0) (λ u. none)
-        (λ u. some (entryAt t (pick b (λ u. j + 1) (λ u. findEntry t a (j + 1) (length es)) - 1))) ≡ pick b (λ u. some e) (λ u. entryOf a es)
+        (λ u. some (entryAt t (pick b (λ u. j + 1) (λ u. findEntry t a (j + 1) (length es)) - 1)))
+        ≡ pick b (λ u. some e) (λ u. entryOf a es)
     go true r = let z : j + 1 - 1 ≡ j = omega arith in rw (ne-eqb (j + 1) 0 (omega arith), z) (ap (λ x. some x) (h .0))
     go false r = r
 
-module _ (c : ℕ) (es : List Entry) (p : ℕ) (t : Tree) (room : 8 * t .nodeCount + 8 ≤ length (t .nodes)) (space : 5 * (t .attributeCount + length es) ≤ length (t .attributes)) where
+module _ (c : ℕ) (es : List Entry) (p : ℕ) (t : Tree) (room : 8 * t .nodeCount + 8 ≤ length (t .nodes))
+    (space : 5 * (t .attributeCount + length es) ≤ length (t .attributes)) where
   new-stored : Stored (addElement c es p t) (t .attributeCount) es
   unfolding addElement
   new-stored = stored-words (addElement c es p t) es (t .attributeCount) (λ w l.
@@ -67,12 +78,17 @@ module _ (c : ℕ) (es : List Entry) (p : ℕ) (t : Tree) (room : 8 * t .nodeCou
   unfolding addElement
   element-word k b h = appended-new ELEMENT c (t .attributeCount) (t .attributeCount + length es) (t .nodes) p (t .nodeCount) k room b h
 
-  found-at : (a : ℕ) → attributeId (addElement c es p t) (t .nodeCount) a ≡ findEntry (addElement c es p t) a (t .attributeCount) (length es)
+  found-at : (a : ℕ) → attributeId (addElement c es p t) (t .nodeCount) a
+      ≡ findEntry (addElement c es p t) a (t .attributeCount) (length es)
   unfolding attributeId
   found-at a =
       let z : t .attributeCount + length es - t .attributeCount ≡ length es = omega arith in
-      rw (element-word 0 (omega arith) (λ x y. omega arith), element-word 6 (omega arith) (λ x y. omega arith),
-      element-word 7 (omega arith) (λ x y. omega arith), z) refl
+      rw (
+        element-word 0 (omega arith) (λ x y. omega arith),
+        element-word 6 (omega arith) (λ x y. omega arith),
+        element-word 7 (omega arith) (λ x y. omega arith),
+        z,
+      ) refl
 
   -- The new element has, for each name, the entry of that name.
   entry-in-tree : (a : ℕ) → ownEntry (addElement c es p t) a (t .nodeCount) ≡ entryOf a es
@@ -100,19 +116,22 @@ tree-value-stands x tag g p t q h a = first (leb (t .attributeCount + length es)
     es = entriesOf t p tag g x
 
     third : 5 * (t .attributeCount + length es) ≤ length (t .attributes) → (b : Bool) → ltb (t .nodeCount) (nodeRoom t) ≡ b →
-        pick b (λ u. done (addElement tag es p t)) (λ u. refused 22) ≡ done q → ownEntry q a (t .nodeCount) ≡ kept isImportant (allApplying t p tag g a x)
+        pick b (λ u. done (addElement tag es p t)) (λ u. refused 22) ≡ done q →
+        ownEntry q a (t .nodeCount) ≡ kept isImportant (allApplying t p tag g a x)
     third l true r k = subst (λ (s : Tree). ownEntry s a (t .nodeCount) ≡ kept isImportant (allApplying t p tag g a x)) (ap (outcome t) k)
         (entry-in-tree tag es p t (room-fits t r) l a ∙ value-stands t p tag g a x)
     third l false r k = absurd (false≢true (ap isDone k))
 
     second : 5 * (t .attributeCount + length es) ≤ length (t .attributes) → (b : Bool) →
-        pick b (λ u. pick (ltb (t .nodeCount) (nodeRoom t)) (λ w. done (addElement tag es p t)) (λ w. refused 22)) (λ u. refused 20) ≡ done q →
+        pick b (λ u. pick (ltb (t .nodeCount) (nodeRoom t)) (λ w. done (addElement tag es p t)) (λ w. refused 22)) (λ u. refused 20)
+        ≡ done q →
         ownEntry q a (t .nodeCount) ≡ kept isImportant (allApplying t p tag g a x)
     second l true k = third l (ltb (t .nodeCount) (nodeRoom t)) refl k
     second l false k = absurd (false≢true (ap isDone k))
 
     first : (b : Bool) → leb (t .attributeCount + length es) (attributeRoom t) ≡ b →
-        pick b (λ u. pick (leb (t .nodeCount) mostNodes) (λ v. pick (ltb (t .nodeCount) (nodeRoom t)) (λ w. done (addElement tag es p t)) (λ w. refused 22)) (λ v. refused 20))
+        pick b (λ u. pick (leb (t .nodeCount) mostNodes) (λ v. pick (ltb (t .nodeCount) (nodeRoom t))
+        (λ w. done (addElement tag es p t)) (λ w. refused 22)) (λ v. refused 20))
         (λ u. refused 23) ≡ done q → ownEntry q a (t .nodeCount) ≡ kept isImportant (allApplying t p tag g a x)
     first true r k = second (omega (arith, leb-true (t .attributeCount + length es) (attributeRoom t) r)) (leb (t .nodeCount) mostNodes) k
     first false r k = absurd (false≢true (ap isDone k))
@@ -126,8 +145,16 @@ no-such : (isPresentation AId.Style ≡ false) × (isPresentation AId.Class ≡ 
 unfolding isPresentation among
 no-such = (refl, refl, refl)
 
-pub declared-importance : (t : Tree) (p tag : ℕ) (d : Declaration) (a : ℕ) (v : Part) → isPresentation a ≡ true → sameBytes (v .bytes) inheritWord ≡ false →
-    longhand t p tag d a v .entry ≡ some (record { name = a; important = d .important; start = v .start; size = v .size; command = d .value .command })
+pub declared-importance : (t : Tree) (p tag : ℕ) (d : Declaration) (a : ℕ) (v : Part) → isPresentation a ≡ true →
+    sameBytes (v .bytes) inheritWord ≡ false →
+    longhand t p tag d a v .entry ≡ some (record {
+      name = a;
+      important = d .important;
+      start = v .start;
+      size = v .size;
+      command =
+          d .value .command;
+    })
 unfolding appendAttribute
 declared-importance t p tag d a v h n =
     simp (not-name a AId.Style h (no-such .0), not-name a AId.Class h (no-such .1), not-name a AId.Href h (no-such .2), n)

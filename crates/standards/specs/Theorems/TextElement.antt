@@ -21,7 +21,8 @@ use Rattle.standards.specs.SvgSpace.{NEWLINE, BLANK, RETURN, convert, as
 use Rattle.standards.specs.Theorems.OneText.{HasText, OneText, one-text-default, one-text-preserve}
 use Rattle.standards.specs.Theorems.WholeTexts.{text-old, new-word, new-text, made-fits}
 
-module _ (chars : List ℕ) (e : ℕ) (t : Tree) (last : t .nodeCount ≡ e + 1) (falls : (i : ℕ) → i ≤ e → parentOf t i ≤ i) (bs : List ℕ) (n : ℕ) where
+module _ (chars : List ℕ) (e : ℕ) (t : Tree) (last : t .nodeCount ≡ e + 1) (falls : (i : ℕ) → i ≤ e → parentOf t i ≤ i) (bs : List ℕ)
+    (n : ℕ) where
   abbrev grown : Tree
   grown = addText bs n e t
 
@@ -34,8 +35,12 @@ module _ (chars : List ℕ) (e : ℕ) (t : Tree) (last : t .nodeCount ≡ e + 1)
   unfolding attributeId
   id-kept i a l =
       let b : i < t .nodeCount = omega arith in
-      rw (text-old bs n e t i 0 b (omega arith) (λ x y. omega arith), text-old bs n e t i 6 b (omega arith) (λ x y. omega arith),
-      text-old bs n e t i 7 b (omega arith) (λ x y. omega arith), find-kept a (fromOf t i) (toOf t i - fromOf t i)) refl
+      rw (
+        text-old bs n e t i 0 b (omega arith) (λ x y. omega arith),
+        text-old bs n e t i 6 b (omega arith) (λ x y. omega arith),
+        text-old bs n e t i 7 b (omega arith) (λ x y. omega arith),
+        find-kept a (fromOf t i) (toOf t i - fromOf t i),
+      ) refl
 
   holder-kept : (a m w : ℕ) → w ≤ e + 1 → holderFrom grown a m w ≡ holderFrom t a m w
   unfolding holderFrom
@@ -49,7 +54,8 @@ module _ (chars : List ℕ) (e : ℕ) (t : Tree) (last : t .nodeCount ≡ e + 1)
       go false q k =
           let d : (w ≡ 0 → ⊥) = eqb-false w 0 q in
           let o : w - 1 ≤ e = omega arith in
-          let u : parentOf grown (w - 1) ≡ parentOf t (w - 1) = text-old bs n e t (w - 1) 1 (omega arith) (omega arith) (λ x y. omega arith) in
+          let u : parentOf grown (w - 1) ≡ parentOf t (w - 1) = text-old bs n e t (w - 1) 1 (omega arith) (omega arith)
+          (λ x y. omega arith) in
           rw (id-kept (w - 1) a o, u, k (parentOf t (w - 1)) (omega (arith, falls (w - 1) o))) refl
 
   space-at : (w : ℕ) → w - 1 ≤ e → getXmlspace chars grown (w - 1) default ≡ getXmlspace chars t (w - 1) default
@@ -122,26 +128,31 @@ module _ (chars : List ℕ) (e : ℕ) (t : Tree) (last : t .nodeCount ≡ e + 1)
       g : Tree
       g = addText made n e t
 
-      second : t .textCount + n ≤ length (t .text) → (b : Bool) → ltb (t .nodeCount) (nodeRoom t) ≡ b → pick b (λ u. done g) (λ u. refused 22) ≡ done q → After w q
+      second : t .textCount + n ≤ length (t .text) → (b : Bool) → ltb (t .nodeCount) (nodeRoom t) ≡ b →
+          pick b (λ u. done g) (λ u. refused 22) ≡ done q → After w q
       second l true r k =
           let room = room-fits t r in
           let o = only-one chars e t last falls made n room w in
           let short = made-fits (spaceOf chars t e) chars (a ∷ []) in
           subst (λ (x : Tree). After w x) (ap outcome k) (record {
-        node = record { node = e + 1; depth = o .0; space = o .1 };
-        at = refl;
-        one = record {
-          space = space-kept chars e t last falls made n ∙ s;
-          only = o .2;
-          held = subst (λ (i : ℕ). HasText g i) last (
-            rw (text-lengths made n e t .nodes) room,
-            rw (new-word made n e t room 6 (omega arith) (λ x y. omega arith), new-word made n e t room 7 (omega arith) (λ x y. omega arith)) (omega arith),
-            rw (new-word made n e t room 7 (omega arith) (λ x y. omega arith), text-lengths made n e t .text) (omega (arith, short)),
-          );
-          made = subst (λ (i : ℕ). textOf g i ≡ trimText w bytes) last
-              (new-text made n e t room (omega (arith, short)) ∙ ap (λ (v : XmlSpace). trimText v bytes) s);
-        };
-      })
+            node = record { node = e + 1; depth = o .0; space = o .1 };
+            at = refl;
+            one = record {
+              space = space-kept chars e t last falls made n ∙ s;
+              only = o .2;
+              held = subst (λ (i : ℕ). HasText g i) last (
+                rw (text-lengths made n e t .nodes) room,
+                rw (
+                  new-word made n e t room 6 (omega arith) (λ x y. omega arith),
+                  new-word made n e t room 7 (omega arith)
+                      (λ x y. omega arith),
+                ) (omega arith),
+                rw (new-word made n e t room 7 (omega arith) (λ x y. omega arith), text-lengths made n e t .text) (omega (arith, short)),
+              );
+              made = subst (λ (i : ℕ). textOf g i ≡ trimText w bytes) last
+                  (new-text made n e t room (omega (arith, short)) ∙ ap (λ (v : XmlSpace). trimText v bytes) s);
+            };
+          })
       second l false r k = absurd (refused-not (ap isDone k))
 
       first : (b : Bool) → leb (t .textCount + n) (textRoom t) ≡ b →
@@ -154,7 +165,8 @@ module _ (chars : List ℕ) (e : ℕ) (t : Tree) (last : t .nodeCount ≡ e + 1)
   unfolding bytes
   text-element-default s q h =
       let f = after default s q h in
-      subst (λ (i : ℕ). textOf (trimTextNodes chars e q) i ≡ asDefault (convert NEWLINE BLANK (convert RETURN NEWLINE (joined chars (a ∷ []))))) (f .at)
+      subst (λ (i : ℕ). textOf (trimTextNodes chars e q) i
+      ≡ asDefault (convert NEWLINE BLANK (convert RETURN NEWLINE (joined chars (a ∷ []))))) (f .at)
       (one-text-default chars q e (f .node) bytes (f .one))
 
   pub text-element-preserve : spaceOf chars t e ≡ preserve → (q : Tree) → appendText chars (a ∷ []) e t ≡ done q →

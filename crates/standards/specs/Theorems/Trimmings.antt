@@ -134,7 +134,8 @@ module _ (i a b : ℕ) (t : Tree) where
   unfolding textOf
   own-cut h =
       rw (from-cut (h .0), to-cut (h .0), text-kept newFrom newTo (inr (inl (omega arith, omega arith))) (h .1), long)
-      (rw (places (h .1) .0, places (h .1) .1) (slice-slice (cutFrom 0 n a) (cutTo 0 n a b) (fromOf t i) (toOf t i) (t .text) (h .2) (omega arith)))
+      (rw (places (h .1) .0, places (h .1) .1) (slice-slice (cutFrom 0 n a) (cutTo 0 n a b) (fromOf t i) (toOf t i) (t .text) (h .2)
+      (omega arith)))
     where
       n : ℕ
       n = toOf t i - fromOf t i
@@ -143,7 +144,8 @@ module _ (i a b : ℕ) (t : Tree) where
       long = length-slice (fromOf t i) (toOf t i) (t .text) (h .2)
 
   -- The text of a node whose part is another one.
-  else-cut : (j : ℕ) → (j ≡ i → ⊥) → fromOf t i ≤ toOf t i → (toOf t j ≤ fromOf t i) ⊎ (toOf t i ≤ fromOf t j) → textOf (cutText i a b t) j ≡ textOf t j
+  else-cut : (j : ℕ) → (j ≡ i → ⊥) → fromOf t i ≤ toOf t i → (toOf t j ≤ fromOf t i) ⊎ (toOf t i ≤ fromOf t j) →
+      textOf (cutText i a b t) j ≡ textOf t j
   unfolding textOf
   else-cut j d h w =
       rw (bound-else j 6 (inl refl) d, bound-else j 7 (inr refl) d) (text-kept (fromOf t j) (toOf t j) (either w) h)
@@ -155,11 +157,13 @@ module _ (i a b : ℕ) (t : Tree) where
 
   -- The bounds of any node after the cut lie within what they were.
   pub within-cut : (Q : ℕ → Type 0) → Placed Q t → Q i → (j : ℕ) → Q j →
-      (fromOf t j ≤ fromOf (cutText i a b t) j) × (fromOf (cutText i a b t) j ≤ toOf (cutText i a b t) j) × (toOf (cutText i a b t) j ≤ toOf t j)
+      (fromOf t j ≤ fromOf (cutText i a b t) j) × (fromOf (cutText i a b t) j ≤ toOf (cutText i a b t) j)
+      × (toOf (cutText i a b t) j ≤ toOf t j)
   unfolding newFrom newTo
   within-cut Q p q j r = go (ℕ-discrete j i)
     where
-      go : Dec (j ≡ i) → (fromOf t j ≤ fromOf (cutText i a b t) j) × (fromOf (cutText i a b t) j ≤ toOf (cutText i a b t) j) × (toOf (cutText i a b t) j ≤ toOf t j)
+      go : Dec (j ≡ i) → (fromOf t j ≤ fromOf (cutText i a b t) j) × (fromOf (cutText i a b t) j ≤ toOf (cutText i a b t) j)
+          × (toOf (cutText i a b t) j ≤ toOf t j)
       go (yes e) =
           let h = p .inside i q in
           rw (e, from-cut (h .0), to-cut (h .0)) (omega (arith, h .1), omega (arith, h .1), omega (arith, h .1))
@@ -173,7 +177,8 @@ module _ (i a b : ℕ) (t : Tree) where
 
   pub placed-cut : (Q : ℕ → Type 0) → Placed Q t → Q i → Placed Q (cutText i a b t)
   placed-cut Q p q = record {
-    inside = λ j r. let h = p .inside j r in let w = within-cut Q p q j r in (rw nodes-long (h .0), w .1, rw text-long (omega (arith, h .2, w .2)));
+    inside = λ j r. let h = p .inside j r in let w = within-cut Q p q j r in
+        (rw nodes-long (h .0), w .1, rw text-long (omega (arith, h .2, w .2)));
     apart = λ j k r s d. still j k (within-cut Q p q j r) (within-cut Q p q k s) (p .apart j k r s d);
   }
     where
@@ -184,8 +189,10 @@ module _ (i a b : ℕ) (t : Tree) where
       text-long = lengths .1
 
       still : (j k : ℕ) →
-          (fromOf t j ≤ fromOf (cutText i a b t) j) × (fromOf (cutText i a b t) j ≤ toOf (cutText i a b t) j) × (toOf (cutText i a b t) j ≤ toOf t j) →
-          (fromOf t k ≤ fromOf (cutText i a b t) k) × (fromOf (cutText i a b t) k ≤ toOf (cutText i a b t) k) × (toOf (cutText i a b t) k ≤ toOf t k) →
+          (fromOf t j ≤ fromOf (cutText i a b t) j) × (fromOf (cutText i a b t) j ≤ toOf (cutText i a b t) j)
+          × (toOf (cutText i a b t) j ≤ toOf t j) →
+          (fromOf t k ≤ fromOf (cutText i a b t) k) × (fromOf (cutText i a b t) k ≤ toOf (cutText i a b t) k)
+          × (toOf (cutText i a b t) k ≤ toOf t k) →
           (toOf t j ≤ fromOf t k) ⊎ (toOf t k ≤ fromOf t j) →
           (toOf (cutText i a b t) j ≤ fromOf (cutText i a b t) k) ⊎ (toOf (cutText i a b t) k ≤ fromOf (cutText i a b t) j)
       still j k x y (inl u) = inl (omega (arith, x .2, y .0))
@@ -198,7 +205,8 @@ unfolding run told
 run-told Q stop t f w p h j q = h j q
 run-told Q (look i k) t f w p h j q = rw (h i (w .0)) (run-told Q (k (f i)) t f (w .1 (f i)) p h j q)
 run-told Q (cut i a b k) t f w p h j q =
-    run-told Q k (cutText i a b t) (withText i (cutList a b (f i)) f) (w .1) (placed-cut i a b t Q p (w .0)) (λ m r. go m r (ℕ-discrete m i)) j q
+    run-told Q k (cutText i a b t) (withText i (cutList a b (f i)) f) (w .1) (placed-cut i a b t Q p (w .0))
+    (λ m r. go m r (ℕ-discrete m i)) j q
   where
     go : (m : ℕ) → Q m → Dec (m ≡ i) → textOf (cutText i a b t) m ≡ withText i (cutList a b (f i)) f m
     go m r (yes e) = rw (e, own-cut i a b t (p .inside i (w .0)), h i (w .0), eq-eqb i i refl) refl

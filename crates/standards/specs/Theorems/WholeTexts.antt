@@ -39,10 +39,12 @@ use Rattle.standards.specs.Theorems.Shaved.{Shaved, whole, front, back, 
 stored : (vs xs : List ℕ) (p : ℕ) → p + length vs ≤ length xs → slice p (p + length vs) (sets xs p vs) ≡ vs
 stored vs xs p h =
     let long : length (slice p (p + length vs) (sets xs p vs)) ≡ length vs =
-    length-slice p (p + length vs) (sets xs p vs) (rw (length-sets xs p vs) h) ∙ (let z : p + length vs - p ≡ length vs = omega arith in z) in
+    length-slice p (p + length vs) (sets xs p vs) (rw (length-sets xs p vs) h)
+    ∙ (let z : p + length vs - p ≡ length vs = omega arith in z) in
     ext-getD 0 _ _ long (λ i l.
     let b : i < length vs = rw long at l in
-    rw (getD-drop p (take (p + length vs) (sets xs p vs)) i 0, getD-take (p + length vs) (sets xs p vs) (p + i) 0 (omega arith)) (sets-in vs xs p i h b))
+    rw (getD-drop p (take (p + length vs) (sets xs p vs)) i 0, getD-take (p + length vs) (sets xs p vs) (p + i) 0 (omega arith))
+    (sets-in vs xs p i h b))
 
 module _ (bs : List ℕ) (n p : ℕ) (t : Tree) where
   -- The words of a node that was there, links apart.
@@ -61,7 +63,8 @@ module _ (bs : List ℕ) (n p : ℕ) (t : Tree) where
   module _ (room : 8 * t .nodeCount + 8 ≤ length (t .nodes)) where
     -- The words of the new node.
     pub new-word : (k : ℕ) → k < 8 → (2 ≤ k → k ≤ 4 → ⊥) →
-        word (addText bs n p t .nodes) (t .nodeCount) k ≡ getD (TEXT ∷ (p + 1) ∷ 0 ∷ 0 ∷ 0 ∷ 0 ∷ t .textCount ∷ (t .textCount + length bs) ∷ []) k 0
+        word (addText bs n p t .nodes) (t .nodeCount) k ≡ getD
+        (TEXT ∷ (p + 1) ∷ 0 ∷ 0 ∷ 0 ∷ 0 ∷ t .textCount ∷ (t .textCount + length bs) ∷ []) k 0
     unfolding addText
     new-word k b h = appended-new TEXT 0 (t .textCount) (t .textCount + length bs) (t .nodes) p (t .nodeCount) k room b h
 
@@ -69,7 +72,8 @@ module _ (bs : List ℕ) (n p : ℕ) (t : Tree) where
     pub new-text : t .textCount + length bs ≤ length (t .text) → textOf (addText bs n p t) (t .nodeCount) ≡ bs
     unfolding textOf addText
     new-text h =
-        rw (new-word 6 (omega arith) (λ x y. omega arith), new-word 7 (omega arith) (λ x y. omega arith)) (stored bs (t .text) (t .textCount) h)
+        rw (new-word 6 (omega arith) (λ x y. omega arith), new-word 7 (omega arith) (λ x y. omega arith))
+        (stored bs (t .text) (t .textCount) h)
 
 module _ (c : ℕ) (es : List Entry) (p : ℕ) (t : Tree) where
   element-old : (j k : ℕ) → j < t .nodeCount → k < 8 → (2 ≤ k → k ≤ 4 → ⊥) → word (addElement c es p t .nodes) j k ≡ word (t .nodes) j k
@@ -82,14 +86,16 @@ module _ (c : ℕ) (es : List Entry) (p : ℕ) (t : Tree) where
 
   element-kind : 8 * t .nodeCount + 8 ≤ length (t .nodes) → kindOf (addElement c es p t) (t .nodeCount) ≡ ELEMENT
   unfolding addElement
-  element-kind r = appended-new ELEMENT c (t .attributeCount) (t .attributeCount + length es) (t .nodes) p (t .nodeCount) 0 r (omega arith) (λ x y. omega arith)
+  element-kind r = appended-new ELEMENT c (t .attributeCount) (t .attributeCount + length es) (t .nodes) p (t .nodeCount) 0 r
+      (omega arith) (λ x y. omega arith)
 
 -- LENGTHS
 
 pub trim-fits : (w : XmlSpace) (prev : ℕ) (bs : List ℕ) → length (trimTextAfter w prev bs) ≤ length bs
 unfolding trimTextAfter
 trim-fits w prev [] = omega arith
-trim-fits w prev (b ∷ bs) = go (trim-fits w prev bs) (trim-fits w (converted b) bs) (and (isDefault w) (and (eqb (converted b) SPACE) (eqb (converted b) prev)))
+trim-fits w prev (b ∷ bs) = go (trim-fits w prev bs) (trim-fits w (converted b) bs)
+    (and (isDefault w) (and (eqb (converted b) SPACE) (eqb (converted b) prev)))
   where
     go : length (trimTextAfter w prev bs) ≤ length bs → length (trimTextAfter w (converted b) bs) ≤ length bs → (c : Bool) →
         length (pick c (λ u. trimTextAfter w prev bs) (λ u. converted b ∷ trimTextAfter w (converted b) bs)) ≤ suc (length bs)
@@ -129,11 +135,13 @@ pub record Held (chars : List ℕ) (s : Noted) : Type 0 where
   pub noted : (i : ℕ) → i < s .tree .nodeCount → kindOf (s .tree) i ≡ TEXT → (n : Note) × In n (s .notes) × (n .node ≡ i)
   pub made : (n : Note) → In n (s .notes) → Made chars n (s .tree)
 
-always-test : {S : Type 0} (P : S → Type 0) (b : Bool) (x y : Unit {0} → Out S) → (b ≡ true → Always P (x tt)) → (b ≡ false → Always P (y tt)) → Always P (pick b x y)
+always-test : {S : Type 0} (P : S → Type 0) (b : Bool) (x y : Unit {0} → Out S) → (b ≡ true → Always P (x tt)) →
+    (b ≡ false → Always P (y tt)) → Always P (pick b x y)
 always-test P true x y h g = h refl
 always-test P false x y h g = g refl
 
-fits-on : (n : Note) (s t : Tree) → kindOf t (n .node) ≡ kindOf s (n .node) → fromOf t (n .node) ≡ fromOf s (n .node) → toOf t (n .node) ≡ toOf s (n .node) →
+fits-on : (n : Note) (s t : Tree) → kindOf t (n .node) ≡ kindOf s (n .node) → fromOf t (n .node) ≡ fromOf s (n .node) →
+    toOf t (n .node) ≡ toOf s (n .node) →
     Fits n s → Fits n t
 fits-on n s t a b c f = record { kind = a ∙ f .kind; low = rw b (f .low); mid = rw (b, c) (f .mid); high = rw c (f .high) }
 
@@ -146,22 +154,26 @@ module _ (chars : List ℕ) where
     bytes = h .bytes;
     below = λ n i. (omega (arith, h .below n i .0), h .below n i .1);
     fits = λ n i. let b = h .below n i .0 in
-        fits-on n t _ (old n b 0 (omega arith) (λ x y. omega arith)) (old n b 6 (omega arith) (λ x y. omega arith)) (old n b 7 (omega arith) (λ x y. omega arith)) (h .fits n i);
+        fits-on n t _ (old n b 0 (omega arith) (λ x y. omega arith)) (old n b 6 (omega arith) (λ x y. omega arith))
+        (old n b 7 (omega arith) (λ x y. omega arith)) (h .fits n i);
     apart = h .apart;
     noted = λ i l k. go i l k (decLt i (t .nodeCount));
     made = λ n i. let m = h .made n i in record {
       space = m .space;
-      shaved = subst (λ (v : List ℕ). Shaved (trimText (m .space) (joined chars (n .texts))) v) (sym (element-text c es p t (n .node) (h .below n i .0))) (m .shaved);
+      shaved = subst (λ (v : List ℕ). Shaved (trimText (m .space) (joined chars (n .texts))) v)
+          (sym (element-text c es p t (n .node) (h .below n i .0))) (m .shaved);
     };
   }
     where
       t : Tree
       t = s .tree
 
-      old : (n : Note) → n .node < t .nodeCount → (k : ℕ) → k < 8 → (2 ≤ k → k ≤ 4 → ⊥) → word (addElement c es p t .nodes) (n .node) k ≡ word (t .nodes) (n .node) k
+      old : (n : Note) → n .node < t .nodeCount → (k : ℕ) → k < 8 → (2 ≤ k → k ≤ 4 → ⊥) → word (addElement c es p t .nodes) (n .node) k
+          ≡ word (t .nodes) (n .node) k
       old n l k x y = element-old c es p t (n .node) k l x y
 
-      go : (i : ℕ) → i < t .nodeCount + 1 → kindOf (addElement c es p t) i ≡ TEXT → Dec (i < t .nodeCount) → (n : Note) × In n (s .notes) × (n .node ≡ i)
+      go : (i : ℕ) → i < t .nodeCount + 1 → kindOf (addElement c es p t) i ≡ TEXT → Dec (i < t .nodeCount) →
+          (n : Note) × In n (s .notes) × (n .node ≡ i)
       go i l k (yes b) = h .noted i b (sym (element-old c es p t i 0 b (omega arith) (λ x y. omega arith)) ∙ k)
       go i l k (no b) =
           let e : i ≡ t .nodeCount = omega arith in
@@ -170,7 +182,11 @@ module _ (chars : List ℕ) where
 
   text-held : (w : XmlSpace) (e : ℕ) (from : List Source) (p : ℕ) (s : Noted) → 8 * s .tree .nodeCount + 8 ≤ length (s .tree .nodes) →
       s .tree .textCount + totalSize from ≤ length (s .tree .text) → Held chars s →
-      Held chars (record { tree = addText (trimText w (joined chars from)) (totalSize from) p (s .tree); notes = noteOf e from (s .tree .nodeCount) (s .tree .textCount) ∷ s .notes })
+      Held chars (record {
+        tree = addText (trimText w (joined chars from)) (totalSize from) p (s .tree);
+        notes =
+            noteOf e from (s .tree .nodeCount) (s .tree .textCount) ∷ s .notes;
+      })
   unfolding addText
   text-held w e from p s room space h = record {
     room = rw (text-lengths bs (totalSize from) p t .nodes) (omega arith);
@@ -218,17 +234,24 @@ module _ (chars : List ℕ) where
           (text-old bs (totalSize from) p t (n .node) 6 b (omega arith) (λ x y. omega arith))
           (text-old bs (totalSize from) p t (n .node) 7 b (omega arith) (λ x y. omega arith)) (h .fits n i)
 
-      go : (i : ℕ) → i < t .nodeCount + 1 → kindOf grown i ≡ TEXT → Dec (i < t .nodeCount) → (n : Note) × In n (new ∷ s .notes) × (n .node ≡ i)
+      go : (i : ℕ) → i < t .nodeCount + 1 → kindOf grown i ≡ TEXT → Dec (i < t .nodeCount) →
+          (n : Note) × In n (new ∷ s .notes) × (n .node ≡ i)
       go i l k (yes b) =
-          let f = h .noted i b (sym (text-old bs (totalSize from) p t i 0 b (omega arith) (λ x y. omega arith)) ∙ k) in (f .0, inr (f .1), f .2)
+          let f = h .noted i b (sym (text-old bs (totalSize from) p t i 0 b (omega arith) (λ x y. omega arith)) ∙ k) in
+          (f .0, inr (f .1), f .2)
       go i l k (no b) = (new, inl refl, omega arith)
 
       was : (n : Note) → In n (new ∷ s .notes) → Made chars n grown
-      was n (inl q) = rw q (record { space = w; shaved = subst (λ (v : List ℕ). Shaved bs v) (sym (new-text bs (totalSize from) p t room (omega (arith, short)))) whole })
+      was n (inl q) = rw q (record {
+        space = w;
+        shaved =
+            subst (λ (v : List ℕ). Shaved bs v) (sym (new-text bs (totalSize from) p t room (omega (arith, short)))) whole;
+      })
       was n (inr i) = let m = h .made n i in record {
         space = m .space;
         shaved = subst (λ (v : List ℕ). Shaved (trimText (m .space) (joined chars (n .texts))) v)
-            (sym (old-text bs (totalSize from) p t (n .node) (h .below n i .0) (omega (arith, h .fits n i .high, h .below n i .1)))) (m .shaved);
+            (sym (old-text bs (totalSize from) p t (n .node) (h .below n i .0) (omega (arith, h .fits n i .high, h .below n i .1))))
+            (m .shaved);
       }
 
 -- TRIMMING
@@ -236,7 +259,8 @@ module _ (chars : List ℕ) where
 kind-cut : (i a b : ℕ) (t : Tree) (j : ℕ) → kindOf (cutText i a b t) j ≡ kindOf t j
 unfolding cutText setText
 kind-cut i a b t j =
-    getD-set-other (set (t .nodes) (8 * i + 6) (cutFrom (fromOf t i) (toOf t i) a)) (8 * i + 7) (8 * j + 0) (cutTo (fromOf t i) (toOf t i) a b) 0 (omega arith)
+    getD-set-other (set (t .nodes) (8 * i + 6) (cutFrom (fromOf t i) (toOf t i) a)) (8 * i + 7) (8 * j + 0)
+    (cutTo (fromOf t i) (toOf t i) a b) 0 (omega arith)
     ∙ getD-set-other (t .nodes) (8 * i + 6) (8 * j + 0) (cutFrom (fromOf t i) (toOf t i) a) 0 (omega arith)
 
 -- What a cut of a node of Q keeps, a trimming that names only such nodes keeps.
@@ -250,10 +274,12 @@ run-keeps Q P c (cut i a b k) w t p = run-keeps Q P c k (w .1) (cutText i a b t)
 rising-nodes : (chars : List ℕ) (t : Tree) (w : XmlSpace) (e i n m : ℕ) → m < i → Rising m (textNodes chars t w e i n)
 unfolding textNodes
 rising-nodes chars t w e i zero m l = tt
-rising-nodes chars t w e i (suc n) m l = go (eqb (kindOf t i) TEXT) (rising-nodes chars t w e (i + 1) n i (omega arith)) (rising-nodes chars t w e (i + 1) n m (omega arith))
+rising-nodes chars t w e i (suc n) m l = go (eqb (kindOf t i) TEXT) (rising-nodes chars t w e (i + 1) n i (omega arith))
+    (rising-nodes chars t w e (i + 1) n m (omega arith))
   where
     go : (b : Bool) → Rising i (textNodes chars t w e (i + 1) n) → Rising m (textNodes chars t w e (i + 1) n) →
-        Rising m (pick b (λ u. record { node = i; depth = depthBelow t e i i; space = getXmlspace chars t (parentOf t i - 1) w } ∷ textNodes chars t w e (i + 1) n)
+        Rising m (pick b (λ u. record { node = i; depth = depthBelow t e i i; space = getXmlspace chars t (parentOf t i - 1) w }
+        ∷ textNodes chars t w e (i + 1) n)
         (λ u. textNodes chars t w e (i + 1) n))
     go true h g = (l, h)
     go false h g = g
@@ -282,7 +308,8 @@ module _ (chars : List ℕ) (s : Noted) (h : Held chars s) where
   abbrev Noticed : ℕ → Type 0
   Noticed i = (n : Note) × In n (s .notes) × (n .node ≡ i)
 
-  lies : (n : Note) → In n (s .notes) → (8 * n .node + 8 ≤ length (s .tree .nodes)) × (fromOf (s .tree) (n .node) ≤ toOf (s .tree) (n .node))
+  lies : (n : Note) → In n (s .notes) → (8 * n .node + 8 ≤ length (s .tree .nodes))
+      × (fromOf (s .tree) (n .node) ≤ toOf (s .tree) (n .node))
       × (toOf (s .tree) (n .node) ≤ length (s .tree .text))
   lies n i =
       let b = h .below n i in
@@ -321,7 +348,13 @@ module _ (chars : List ℕ) (s : Noted) (h : Held chars s) where
     text = lengths i a b t .1 ∙ k .text;
     kinds = λ j. kind-cut i a b t j ∙ k .kinds j;
     fits = λ n l. let w = within-cut i a b t Noticed (k .placed) q (n .node) (n, l, refl) in let f = k .fits n l in
-        record { kind = kind-cut i a b t (n .node) ∙ f .kind; low = omega (arith, f .low, w .0); mid = w .1; high = omega (arith, f .high, w .2) };
+        record {
+          kind = kind-cut i a b t (n .node) ∙ f .kind;
+          low = omega (arith, f .low, w .0);
+          mid = w .1;
+          high =
+              omega (arith, f .high, w .2);
+        };
   }
 
   module _ (g : Trimming) (w : Within Noticed g) (sh : (j : ℕ) → Shaved (textOf (s .tree) j) (told g (textOf (s .tree)) j)) where
@@ -330,19 +363,19 @@ module _ (chars : List ℕ) (s : Noted) (h : Held chars s) where
         let k = run-keeps Noticed Stays stays-cut g w (s .tree)
         (record { placed = places; nodeCount = refl; textCount = refl; nodes = refl; text = refl; kinds = λ j. refl; fits = h .fits }) in
         record {
-      room = rw (k .nodeCount, k .nodes) (h .room);
-      bytes = rw (k .textCount, k .text) (h .bytes);
-      below = λ n i. rw (k .nodeCount, k .textCount) (h .below n i);
-      fits = k .fits;
-      apart = h .apart;
-      noted = λ i l e. h .noted i (rw (← k .nodeCount) l) (sym (k .kinds i) ∙ e);
-      made = λ n i. let m = h .made n i in record {
-        space = m .space;
-        shaved = subst (λ (v : List ℕ). Shaved (trimText (m .space) (joined chars (n .texts))) v)
-            (sym (run-told Noticed g (s .tree) (textOf (s .tree)) w places (λ j q. refl) (n .node) (n, i, refl)))
-            (shaved-then (m .shaved) (sh (n .node)));
-      };
-    }
+          room = rw (k .nodeCount, k .nodes) (h .room);
+          bytes = rw (k .textCount, k .text) (h .bytes);
+          below = λ n i. rw (k .nodeCount, k .textCount) (h .below n i);
+          fits = k .fits;
+          apart = h .apart;
+          noted = λ i l e. h .noted i (rw (← k .nodeCount) l) (sym (k .kinds i) ∙ e);
+          made = λ n i. let m = h .made n i in record {
+            space = m .space;
+            shaved = subst (λ (v : List ℕ). Shaved (trimText (m .space) (joined chars (n .texts))) v)
+                (sym (run-told Noticed g (s .tree) (textOf (s .tree)) w places (λ j q. refl) (n .node) (n, i, refl)))
+                (shaved-then (m .shaved) (sh (n .node)));
+          };
+        }
 
   finish-held : (e : ℕ) → Held chars (record { tree = trimTextNodes chars e (s .tree); notes = s .notes })
   unfolding trimTextNodes
@@ -351,7 +384,11 @@ module _ (chars : List ℕ) (s : Noted) (h : Held chars s) where
       v : XmlSpace
       v = spaceOf chars (s .tree) e
 
-      go : Dec (e < s .tree .nodeCount) → Held chars (record { tree = run (trimming v (ownTextNodes chars (s .tree) v e (s .tree .nodeCount))) (s .tree); notes = s .notes })
+      go : Dec (e < s .tree .nodeCount) → Held chars (record {
+        tree =
+            run (trimming v (ownTextNodes chars (s .tree) v e (s .tree .nodeCount))) (s .tree);
+        notes = s .notes;
+      })
       go (yes l) = run-held _
           (within-trimming Noticed v _ (own-collected Noticed chars (s .tree) v e (s .tree .nodeCount) l (λ j x y k. h .noted j y k)))
           (trimming-kept (textOf (s .tree)) v e _ (own-rising chars (s .tree) v e (s .tree .nodeCount)))
@@ -360,7 +397,8 @@ module _ (chars : List ℕ) (s : Noted) (h : Held chars s) where
 -- EVERY BUILD
 
 module _ (chars : List ℕ) where
-  element-step : (x : Element) (c : ℕ) (i : Bool) (p : ℕ) (s : Noted) → Held chars s → Always (Held chars) (noting (plain chars) .element x c i p s)
+  element-step : (x : Element) (c : ℕ) (i : Bool) (p : ℕ) (s : Noted) → Held chars s →
+      Always (Held chars) (noting (plain chars) .element x c i p s)
   unfolding parseSvgElement
   element-step x c i p s h =
       let t = s .tree in
@@ -380,7 +418,8 @@ module _ (chars : List ℕ) where
       always-then (λ r. Held chars (record { tree = r; notes = ns })) (Held chars) (appendText chars from p t) _
       (always-test _ (leb (t .textCount + totalSize from) (textRoom t)) _ _
       (λ a. always-test _ (ltb (t .nodeCount) (nodeRoom t)) _ _
-      (λ b. text-held chars (spaceOf chars t p) e from p s (room-fits t b) (omega (arith, leb-true (t .textCount + totalSize from) (textRoom t) a)) h)
+      (λ b. text-held chars (spaceOf chars t p) e from p s (room-fits t b)
+      (omega (arith, leb-true (t .textCount + totalSize from) (textRoom t) a)) h)
       (λ b k. omega arith)) (λ a k. omega arith))
       (λ r k. k)
 
@@ -406,12 +445,14 @@ module _ (chars : List ℕ) where
       always-then (λ r. Held chars (record { tree = r; notes = [] })) (Held chars) (withRoot (cleared n m b)) _
       (always-test _ (ltb 0 (nodeRoom (cleared n m b))) _ _ (λ h. root-held n m b h) (λ h e. omega arith))
       (λ r k. always-then (Held chars) (Held chars) (parsed (noting (plain chars)) all (record { tree = r; notes = [] })) _
-      (parsed-always (Held chars) (noting (plain chars)) all element-step text-step (λ e s h. finish-held chars s h e) (record { tree = r; notes = [] }) k)
+      (parsed-always (Held chars) (noting (plain chars)) all element-step text-step (λ e s h. finish-held chars s h e)
+      (record { tree = r; notes = [] }) k)
       (λ s g. always-then (λ u. Held chars (record { tree = u; notes = s .notes })) (Held chars) (tested (s .tree)) _
       (always-test _ (firstIsSvg (s .tree)) _ _ (λ e. g) (λ e f. omega arith)) (λ u k. k)))
 
 -- The repairs change no text.
-one-cut : (c : Cut) (t : Tree) → (applyCut t c .nodes ≡ t .nodes) × (applyCut t c .text ≡ t .text) × (applyCut t c .nodeCount ≡ t .nodeCount)
+one-cut : (c : Cut) (t : Tree) → (applyCut t c .nodes ≡ t .nodes) × (applyCut t c .text ≡ t .text)
+    × (applyCut t c .nodeCount ≡ t .nodeCount)
 unfolding applyCut setNone
 one-cut c t = go (eqb (cutEntry t (c .pass) (c .node)) 0)
   where
@@ -421,7 +462,8 @@ one-cut c t = go (eqb (cutEntry t (c .pass) (c .node)) 0)
     go true = (refl, refl, refl)
     go false = (refl, refl, refl)
 
-cuts-texts : (cs : List Cut) (t : Tree) → (applied t cs .nodes ≡ t .nodes) × (applied t cs .text ≡ t .text) × (applied t cs .nodeCount ≡ t .nodeCount)
+cuts-texts : (cs : List Cut) (t : Tree) → (applied t cs .nodes ≡ t .nodes) × (applied t cs .text ≡ t .text)
+    × (applied t cs .nodeCount ≡ t .nodeCount)
 unfolding applied
 cuts-texts [] t = (refl, refl, refl)
 cuts-texts (c ∷ cs) t = let h = cuts-texts cs (applyCut t c) in let g = one-cut c t in (h .0 ∙ g .0, h .1 ∙ g .1, h .2 ∙ g .2)
@@ -446,12 +488,17 @@ texts-made script chars n m b h i l k = made
     go (done s) a h l e =
         let c = cuts-texts (repairs chars (valuesIn all) (s .tree)) (s .tree) in
         let q = a .noted i (rw (← c .2) l) (ap (λ (ns : List ℕ). getD ns (8 * i + 0) 0) (sym (c .0)) ∙ e) in
-        let m = a .made (q .0) (q .1) in
-        (q .0, q .1, q .2, record {
-      space = m .space;
-      shaved = subst (λ (v : List ℕ). Shaved (trimText (m .space) (joined chars (q .0 .texts))) v)
-          (ap₂ (λ (ns ts : List ℕ). slice (getD ns (8 * q .0 .node + 6) 0) (getD ns (8 * q .0 .node + 7) 0) ts) (sym (c .0)) (sym (c .1))) (m .shaved);
-    })
+        let m = a .made (q .0) (q .1) in (
+          q .0,
+          q .1,
+          q .2,
+          record {
+            space = m .space;
+            shaved = subst (λ (v : List ℕ). Shaved (trimText (m .space) (joined chars (q .0 .texts))) v)
+                (ap₂ (λ (ns ts : List ℕ). slice (getD ns (8 * q .0 .node + 6) 0) (getD ns (8 * q .0 .node + 7) 0) ts) (sym (c .0))
+                (sym (c .1))) (m .shaved);
+          },
+        )
 
     is : build script chars n m b ≡ answer (notedTree (plain chars) all (cleared n m b))
     is = build-noted script chars n m b (build-checked script chars n m b h)
@@ -459,7 +506,8 @@ texts-made script chars n m b h i l k = made
     made : (k : Note) × In k (notes script chars n m b) × (k .node ≡ i) × Made chars k (build script chars n m b .tree)
     made = subst (λ (r : Result). (k : Note) × In k (notes script chars n m b) × (k .node ≡ i) × Made chars k (r .tree)) (sym is)
         (go (notedTree (plain chars) all (cleared n m b)) (tree-held chars all n m b)
-        (subst (λ (r : Result). r .number ≡ 0) is h) (subst (λ (r : Result). i < r .tree .nodeCount) is l) (subst (λ (r : Result). kindOf (r .tree) i ≡ TEXT) is k))
+        (subst (λ (r : Result). r .number ≡ 0) is h) (subst (λ (r : Result). i < r .tree .nodeCount) is l)
+        (subst (λ (r : Result). kindOf (r .tree) i ≡ TEXT) is k))
 
 -- WHAT FOLLOWS for each text node of a build, k its note and t the build's tree (`texts-made` gives them).
 module _ (chars : List ℕ) (k : Note) (t : Tree) (m : Made chars k t) where
