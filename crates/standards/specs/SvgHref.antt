@@ -1,7 +1,7 @@
 -- SVG 2, chapter 16, Linking: "URL reference attributes" and "Deprecated XLink URL reference attributes".
 use Prim.Native.Nat.{ℕ}
 use mathlib.Core.Bool.{Bool}
-use mathlib.Core.List.{List, [], _∷_}
+use mathlib.Core.List.{List, []}
 use mathlib.Core.Option.{Option, none, some}
 use lib.Dec.{eqb}
 use Rattle.model.specs.Base.{and, orElse}

@@ -1,24 +1,24 @@
 -- The attributes of an element: which one of a name stands, and SVG 2's rule for href.
-use Prim.Native.Nat.{ℕ, suc, _≤_}
-use mathlib.Core.Path.{_≡_, refl, sym, ap, _∙_, subst}
+use Prim.Native.Nat.{ℕ, _≤_}
+use mathlib.Core.Path.{_≡_, refl, sym, ap, _∙_}
 use mathlib.Core.Logic.{_⊎_, inl, inr}
 use mathlib.Core.Bool.{Bool, true, false, not, false≢true}
 use mathlib.Core.List.{List, [], _∷_, _++_}
 use mathlib.Core.Option.{Option, none, some}
 use native.Mathlib.Omega.{arith}
-use borrow.Author.Tests.{eqb-true, eqb-false, eq-eqb, ne-eqb}
+use borrow.Author.Tests.{eqb-true, eqb-false, ne-eqb}
 use lib.Dec.{eqb, leb}
 use lib.ListN.{length}
-use Rattle.model.specs.Base.{pick, and, or, given, orElse, folded, among, sameBytes, amongWords}
-use Rattle.model.specs.Names.{isAttribute, allowsInheritValue, isDeclaredOnly, imageRenderingWords}
+use Rattle.model.specs.Base.{pick, and, or, given, orElse, folded, among}
+use Rattle.model.specs.Names.{isAttribute, allowsInheritValue, isDeclaredOnly}
 use Rattle.model.specs.EId
 use Rattle.model.specs.AId
-use Rattle.model.specs.Drawing.{Part, Value, Attribute, Element, attributeIn, iriOf, useHref, trefHref}
+use Rattle.model.specs.Drawing.{Value, Attribute, Element, attributeIn, iriOf, useHref, trefHref}
 use Rattle.model.specs.Tables.{Tree, Entry}
-use Rattle.model.specs.Element.{inheritWord, resolveInherit, appendAttribute, isTaken, hasEntry, onFirst, withValue, overwriteHref, withMore, addAttribute}
+use Rattle.model.specs.Element.{appendAttribute, isTaken, hasEntry, onFirst, withValue, overwriteHref, withMore, addAttribute}
 use Rattle.standards.specs.CssCascade.{firstOf, lastOf, those}
 use Rattle.standards.specs.SvgHref.{NONE, XLINK, isHref, hrefs, valueIn, usedHref}
-use Rattle.standards.specs.Theorems.Cascade.{one-of-one, Called, append-called, entryOf, entry-called, none-there, at-end}
+use Rattle.standards.specs.Theorems.Cascade.{one-of-one, Called, append-called, entryOf, none-there, at-end}
 
 -- WHAT A LINK FOLLOWS
 

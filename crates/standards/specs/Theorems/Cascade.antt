@@ -5,16 +5,16 @@ use mathlib.Core.Bool.{Bool, true, false, not, false≢true}
 use mathlib.Core.List.{List, [], _∷_, _++_, map}
 use mathlib.Core.Option.{Option, none, some}
 use native.Mathlib.Omega.{arith}
-use borrow.Author.Tests.{eqb-true, eqb-false, eq-eqb, ne-eqb}
+use borrow.Author.Tests.{eqb-true, eqb-false, eq-eqb}
 use lib.Dec.{eqb}
 use lib.ListN.{length}
 use Rattle.model.specs.Base.{pick, and, or, given, orElse, folded, sameBytes, Pair}
 use Rattle.model.specs.Names.{isPresentation, allowsInheritValue, inheritDefault, fontResets}
 use Rattle.model.specs.EId
 use Rattle.model.specs.AId
-use Rattle.model.specs.Drawing.{Part, Value, Attribute, Declaration, Element, readingOf}
+use Rattle.model.specs.Drawing.{Part, Declaration, Element, readingOf}
 use Rattle.model.specs.Tables.{Tree, ELEMENT, kindOf, fromOf, toOf, Entry, fixedEntry, entryWord, entryAt, findEntry, attributeId}
-use Rattle.model.specs.Element.{inheritWord, marker, inheritedFrom, copyFrom, defaultOf, resolveInherit, appendAttribute, isTaken, hasEntry, onFirst, withMore, addAttribute, standing, insertEntry, fontParts, insertAttribute, resetTo, insertPart, isRead, writeDeclaration, entriesOf}
+use Rattle.model.specs.Element.{inheritWord, marker, inheritedFrom, copyFrom, defaultOf, resolveInherit, appendAttribute, hasEntry, onFirst, addAttribute, standing, insertEntry, fontParts, insertAttribute, resetTo, insertPart, isRead, writeDeclaration, entriesOf}
 use Rattle.standards.specs.CssCascade.{firstOf, lastOf, those, winner}
 
 -- THE TWO RULES

@@ -1,7 +1,7 @@
 -- CSS Cascade: the smallest drawings in which the tree has another value than the cascade's winner.
 use Prim.Native.Nat.{ℕ}
 use mathlib.Core.Path.{_≡_, refl}
-use mathlib.Core.Bool.{Bool, true, false}
+use mathlib.Core.Bool.{true, false}
 use mathlib.Core.List.{List, [], _∷_}
 use mathlib.Core.Option.{some}
 use Rattle.model.specs.EId

@@ -2,7 +2,7 @@
 -- text.
 use Prim.Native.Nat.{ℕ}
 use mathlib.Core.Path.{_≡_, refl}
-use mathlib.Core.List.{List, [], _∷_, _++_}
+use mathlib.Core.List.{List, [], _∷_}
 use Rattle.model.specs.EId
 use Rattle.model.specs.AId
 use Rattle.model.specs.Cases.{Piece, ascii, texts, seen, given-room, svg, el, attrIn, say, computed}

@@ -1,17 +1,15 @@
 -- `inherit` and xml:space: the smallest drawings in which the tree has another value than the standards'.
 use Prim.Native.Nat.{ℕ}
-use mathlib.Core.Path.{_≡_, refl, ap, _∙_}
+use mathlib.Core.Path.{_≡_, refl, _∙_}
 use mathlib.Core.Bool.{Bool, true, false}
 use mathlib.Core.List.{List, [], _∷_, map}
 use mathlib.Core.Option.{Option, none, some}
-use lib.Dec.{eqb}
-use Rattle.model.specs.Base.{pick}
 use Rattle.model.specs.Names.{isInheritable, inheritDefault}
 use Rattle.model.specs.EId
 use Rattle.model.specs.AId
 use Rattle.model.specs.Tables.{Tree, Entry}
 use Rattle.model.specs.Element.{resolveInherit}
-use Rattle.model.specs.Cases.{ascii, el, attr, attrIn, decl, say, computed}
+use Rattle.model.specs.Cases.{ascii, el, attr, decl, say, computed}
 use Rattle.standards.specs.CssCascade.{inherited}
 use Rattle.standards.specs.SvgSpace.{without, convert, noLeading, noTrailing, consolidated, asDefault}
 use Rattle.standards.specs.Theorems.Inheritance.{upward, ownEntry, held, initialEntry, inherit-is-inherited}

@@ -1,17 +1,17 @@
 -- What an element gets from those around it: xml:space, and a value `inherit`.
 use Prim.Native.Nat.{ℕ, zero, suc, _+_, _-_}
-use mathlib.Core.Path.{_≡_, refl, sym, ap, _∙_}
-use mathlib.Core.Bool.{Bool, true, false, not, false≢true}
+use mathlib.Core.Path.{_≡_, refl, ap, _∙_}
+use mathlib.Core.Bool.{Bool, true, false, not}
 use mathlib.Core.List.{List, [], _∷_, map}
 use mathlib.Core.Option.{Option, none, some}
 use native.Mathlib.Omega.{arith}
 use native.Mathlib.Numerals.{add-one}
-use borrow.Author.Tests.{eqb-true, eqb-false, ne-eqb}
+use borrow.Author.Tests.{ne-eqb}
 use lib.Dec.{eqb}
 use Rattle.model.specs.Base.{pick, given, sameBytes}
 use Rattle.model.specs.Names.{isInheritable, inheritDefault}
 use Rattle.model.specs.AId
-use Rattle.model.specs.Tables.{Tree, parentOf, Entry, entryAt, valueOf, valueAtEntry, attributeId, hasAttribute, holderFrom, holderOf}
+use Rattle.model.specs.Tables.{Tree, parentOf, Entry, entryAt, valueAtEntry, attributeId, hasAttribute, holderFrom}
 use Rattle.model.specs.Element.{inheritedFrom, copyFrom, defaultOf, resolveInherit}
 use Rattle.model.specs.Text.{XmlSpace, default, preserve, preserveWord, getXmlspace, spaceOf}
 use Rattle.standards.specs.SvgSpace.{inForce}

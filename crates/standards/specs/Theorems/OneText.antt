@@ -1,22 +1,20 @@
 -- A text element with a single text node: its text is SVG 1.1's.
-use Prim.Native.Nat.{ℕ, suc, _+_, _-_, _*_, _≤_, _<_}
+use Prim.Native.Nat.{ℕ, suc, _+_, _*_, _≤_}
 use mathlib.Core.Path.{_≡_, refl, sym, ap, _∙_}
-use mathlib.Core.Logic.{_⊎_, inl, inr}
 use mathlib.Core.Bool.{Bool, true, false}
 use mathlib.Core.List.{List, [], _∷_}
 use native.Mathlib.Omega.{arith}
-use borrow.Author.Tests.{eq-eqb, ne-eqb, eqb-true, leb-true, ltb-true}
-use lib.Dec.{eqb, leb, ltb}
-use lib.ListN.{length, getD, take}
-use lib.Seq.{sets, slice, length-sets, ext-getD, length-slice}
+use borrow.Author.Tests.{eq-eqb, ne-eqb}
+use lib.Dec.{eqb}
+use lib.ListN.{length, take}
 use Rattle.model.specs.Base.{pick}
-use Rattle.model.specs.Drawing.{Element, Source, Event, text, close}
-use Rattle.model.specs.Tables.{Tree, Out, refused, done, then, TEXT, kindOf, fromOf, toOf, textOf, nodeRoom, textRoom, addText}
-use Rattle.model.specs.Text.{XmlSpace, default, preserve, isDefault, SPACE, spaceOf, trimText, totalSize, joined, appendText, Trimming, stop, cut, run, TextNode, ownTextNodes, beginsWithSpace, endsWithSpace, single, onlyIf, removeFirstSpace, removeLastSpace, trimming, trimTextNodes}
+use Rattle.model.specs.Drawing.{text}
+use Rattle.model.specs.Tables.{Tree, fromOf, toOf, textOf}
+use Rattle.model.specs.Text.{XmlSpace, default, preserve, SPACE, spaceOf, trimText, Trimming, stop, run, TextNode, ownTextNodes, beginsWithSpace, endsWithSpace, single, onlyIf, removeFirstSpace, removeLastSpace, trimming, trimTextNodes}
 use Rattle.model.specs.Theorems.Reach.{Within, within-trimming}
 use Rattle.standards.specs.SvgSpace.{NEWLINE, BLANK, RETURN, convert, asDefault, asPreserve}
 use Rattle.standards.specs.Theorems.Spaces.{noFirst, noLast, preserve-is-standard, default-is-standard}
-use Rattle.standards.specs.Theorems.Trimmings.{cutList, withText, told, Placed, run-told}
+use Rattle.standards.specs.Theorems.Trimmings.{cutList, told, Placed, run-told}
 use Rattle.standards.specs.Theorems.Shaved.{first-off, last-off}
 
 -- A space off the end, as a part of the list.

@@ -1,6 +1,5 @@
 -- The properties: the standards' table beside the names and fixed values of the Rust, row by row.
 use Prim.Native.Nat.{ℕ}
-use Prim.Native.String.{String}
 use mathlib.Core.Path.{_≡_, refl, sym, ap, ap₂, _∙_, subst}
 use mathlib.Core.Bool.{Bool, true, false, not, false≢true}
 use mathlib.Core.List.{List, [], _∷_, _++_, map}
@@ -9,11 +8,11 @@ use borrow.Author.Tests.{eqb-true}
 use lib.Dec.{eqb}
 use Rattle.model.specs.Base
 use Rattle.model.specs.Names
-use Rattle.model.specs.Base.{pick, and, or, given, sameBytes, among, Pair}
+use Rattle.model.specs.Base.{pick, or, sameBytes, among, Pair}
 use Rattle.model.specs.Names.{isPresentation, isInheritable, allowsInheritValue, inheritDefaults, inheritDefault, fixedBytes}
 use Rattle.model.specs.AId
 use Rattle.model.specs.Cases.{ascii}
-use Rattle.model.specs.Tables.{Tree, Entry, fixedEntry, valueOf}
+use Rattle.model.specs.Tables.{Tree, fixedEntry, valueOf}
 use Rattle.model.specs.Element.{resolveInherit}
 use Rattle.standards.specs.CssCascade.{inherited}
 use Rattle.standards.specs.SvgProperties.{Property, properties, Clip, ColorProfile, EnableBackground}

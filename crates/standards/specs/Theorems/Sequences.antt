@@ -1,17 +1,17 @@
 -- UTF-8: what is done to spaces leaves every sequence of bytes whole.
-use Prim.Native.Nat.{ℕ, zero, suc, _-_, _≤_, _<_}
-use mathlib.Core.Path.{_≡_, refl, sym, ap, _∙_, subst}
+use Prim.Native.Nat.{ℕ, suc, _-_, _≤_, _<_}
+use mathlib.Core.Path.{_≡_, refl, sym, _∙_, subst}
 use mathlib.Core.Bool.{Bool, true, false, false≢true}
 use mathlib.Core.List.{List, [], _∷_, _++_}
 use native.Mathlib.Omega.{arith}
 use native.Mathlib.Decide.{decLt}
-use borrow.Author.Tests.{eqb-true, eqb-false, ne-eqb, leb-true, leb-false, le-leb, lt-leb}
+use borrow.Author.Tests.{eqb-true, eqb-false, ne-eqb, leb-true, le-leb, lt-leb}
 use lib.Dec.{eqb, leb}
 use lib.ListN.{length}
 use Rattle.model.specs.Base.{pick, and, among}
 use Rattle.model.specs.Utf8.{Range, isWithin, wellFormed, begins, sequenceOf, isUtf8From, isUtf8}
 use Rattle.model.specs.Text.{XmlSpace, isDefault, SPACE, converted, trimTextAfter, trimText}
-use Rattle.model.specs.Theorems.Sim.{and-left, and-right}
+use Rattle.model.specs.Theorems.Sim.{and-left}
 
 -- Bytes behind the first of a sequence are 128 at least.
 abbrev AllHigh : List Range → Type 0

@@ -1,5 +1,5 @@
 -- Several text nodes: a trimming takes spaces off the ends of texts, and nothing else.
-use Prim.Native.Nat.{ℕ, suc, _+_, _-_, _≤_, _<_, min, max}
+use Prim.Native.Nat.{ℕ, suc, _≤_, _<_}
 use mathlib.Core.Path.{_≡_, refl, sym, ap, _∙_, subst}
 use mathlib.Core.Bool.{Bool, true, false, not, false≢true}
 use mathlib.Core.List.{List, [], _∷_, _++_}
@@ -7,11 +7,11 @@ use mathlib.Core.Option.{Option, none, some}
 use native.Mathlib.Omega.{arith}
 use borrow.Author.Tests.{eqb-true, eqb-false, eq-eqb, ne-eqb, not-true}
 use lib.Dec.{eqb, ltb}
-use lib.ListN.{length, getD, take, drop, length-append}
+use lib.ListN.{length, take, length-append}
 use lib.Seq.{slice, take-length, take-suc}
 use Rattle.model.specs.Base.{pick, and, given}
 use Rattle.model.specs.Utf8.{isBlank, isUtf8}
-use Rattle.model.specs.Text.{XmlSpace, SPACE, isDefault, Trimming, stop, look, cut, cutFrom, cutTo, TextNode, beginsWithSpace, endsWithSpace, isEmpty, single, between, outerSpaces, lastEdge, pair, standsFor, isNil, pairs, trimming, removeFirstSpace, removeLastSpace}
+use Rattle.model.specs.Text.{XmlSpace, SPACE, isDefault, Trimming, cutFrom, cutTo, TextNode, beginsWithSpace, endsWithSpace, isEmpty, single, outerSpaces, lastEdge, pair, standsFor, isNil, pairs, trimming}
 use Rattle.model.specs.Theorems.Sim.{and-left, and-right}
 use Rattle.standards.specs.SvgSpace.{without}
 use Rattle.standards.specs.Theorems.Spaces.{NoTwo}

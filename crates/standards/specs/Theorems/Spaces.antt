@@ -5,12 +5,12 @@ use mathlib.Core.Logic.{_⊎_, inl, inr}
 use mathlib.Core.Bool.{Bool, true, false, false≢true}
 use mathlib.Core.List.{List, [], _∷_}
 use native.Mathlib.Omega.{arith}
-use borrow.Author.Tests.{eqb-true, eqb-false, eq-eqb, ne-eqb}
+use borrow.Author.Tests.{eqb-true, eqb-false, ne-eqb}
 use lib.Dec.{eqb}
 use lib.ListN.{length}
 use Rattle.model.specs.Base.{pick, and, among}
 use Rattle.model.specs.Text.{XmlSpace, default, preserve, converted, trimTextAfter, trimText}
-use Rattle.standards.specs.SvgSpace.{NEWLINE, TAB, BLANK, RETURN, without, convert, noLeading, isNothing, noTrailing, isBlankNext, consolidated, asDefault, asPreserve, Free, Place, ahead, inWord, inGap, atBreak, newline, blank, visible, sortOf, next, seamsHere, seamsFrom, seams}
+use Rattle.standards.specs.SvgSpace.{NEWLINE, TAB, BLANK, RETURN, without, convert, noLeading, isNothing, noTrailing, isBlankNext, consolidated, asDefault, asPreserve, Free, Place, ahead, inWord, inGap, atBreak, newline, blank, visible, sortOf, seamsFrom, seams}
 
 -- THE STANDARD'S DEFAULT AS ONE PASS
 

@@ -1,27 +1,25 @@
 -- The entries of an element, as they stand in the tree: an attribute question reads the entry that stands by the cascade.
-use Prim.Native.Nat.{ℕ, zero, suc, _+_, _-_, _*_, _/_, _≤_, _<_, min}
+use Prim.Native.Nat.{ℕ, suc, _+_, _-_, _*_, _≤_, _<_}
 use mathlib.Core.Path.{_≡_, refl, sym, ap, _∙_, subst}
-use mathlib.Core.Bool.{Bool, true, false, not, false≢true}
-use mathlib.Core.List.{List, [], _∷_, _++_}
-use mathlib.Core.Option.{Option, none, some}
+use mathlib.Core.Bool.{Bool, true, false, false≢true}
+use mathlib.Core.List.{List, [], _∷_}
+use mathlib.Core.Option.{none, some}
 use native.Mathlib.Omega.{arith}
-use borrow.Author.Tests.{eqb-true, eq-eqb, ne-eqb, leb-true}
+use borrow.Author.Tests.{ne-eqb, leb-true}
 use lib.Dec.{eqb, leb, ltb}
 use lib.ListN.{length, getD}
-use lib.Seq.{sets}
-use Rattle.model.specs.Base.{pick, and, or, sameBytes, among}
+use Rattle.model.specs.Base.{pick, and, sameBytes, among}
 use Rattle.model.specs.Names.{isPresentation, allowsInheritValue}
 use Rattle.model.specs.EId
 use Rattle.model.specs.AId
 use Rattle.model.specs.Drawing.{Part, Declaration, Element}
-use Rattle.model.specs.Tables.{Tree, Out, refused, done, ELEMENT, word, kindOf, fromOf, toOf, Entry, entriesWords, entryWord, entryAt, findEntry, attributeId, nodeRoom, attributeRoom, addElement, most}
+use Rattle.model.specs.Tables.{Tree, Out, refused, done, ELEMENT, word, Entry, entriesWords, entryWord, entryAt, findEntry, attributeId, nodeRoom, attributeRoom, addElement}
 use Rattle.model.specs.Element.{inheritWord, resolveInherit, appendAttribute, entriesOf, mostNodes, parseSvgElement}
 use Rattle.model.specs.Theorems.Laws.{appended-new, room-fits}
 use Rattle.model.specs.Theorems.Agree.{sets-in}
 use Rattle.model.specs.Theorems.Entries.{entries-long}
-use Rattle.standards.specs.CssCascade.{those, winner}
 use Rattle.standards.specs.Theorems.Inheritance.{ownEntry}
-use Rattle.standards.specs.Theorems.Cascade.{kept, entryOf, isImportant, longhand, allApplying, value-stands, value-wins}
+use Rattle.standards.specs.Theorems.Cascade.{kept, entryOf, isImportant, longhand, allApplying, value-stands}
 
 -- The entries from j on are these.
 abbrev Stored : Tree → ℕ → List Entry → Type 0

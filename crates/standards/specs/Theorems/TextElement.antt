@@ -1,18 +1,16 @@
 -- A text element whose content is one text, from its begin to its end: the text of its text node is SVG 1.1's.
 use Prim.Native.Nat.{ℕ, zero, suc, _+_, _-_, _*_, _≤_, _<_}
-use mathlib.Core.Path.{_≡_, refl, sym, ap, ap₂, _∙_, subst}
+use mathlib.Core.Path.{_≡_, refl, ap, _∙_, subst}
 use mathlib.Core.Bool.{Bool, true, false, false≢true}
 use mathlib.Core.List.{List, [], _∷_}
 use native.Mathlib.Omega.{arith}
-use native.Mathlib.Numerals.{add-one}
-use borrow.Author.Tests.{eq-eqb, eqb-false, leb-true, ltb-true}
+use borrow.Author.Tests.{eq-eqb, eqb-false, leb-true}
 use lib.Dec.{eqb, leb, ltb}
-use lib.ListN.{length, getD}
-use lib.Seq.{slice}
+use lib.ListN.{length}
 use Rattle.model.specs.Base.{pick}
 use Rattle.model.specs.AId
 use Rattle.model.specs.Drawing.{Source}
-use Rattle.model.specs.Tables.{Tree, Out, refused, done, then, ELEMENT, TEXT, word, kindOf, parentOf, fromOf, toOf, textOf, Entry, entryWord, entryAt, valueOf, findEntry, attributeId, hasAttribute, holderFrom, nodeRoom, textRoom, addText}
+use Rattle.model.specs.Tables.{Tree, Out, refused, done, TEXT, kindOf, parentOf, fromOf, toOf, textOf, entryAt, valueOf, findEntry, attributeId, hasAttribute, holderFrom, nodeRoom, textRoom, addText}
 use Rattle.model.specs.Text.{XmlSpace, default, preserve, spaceOf, getXmlspace, trimText, totalSize, joined, appendText, TextNode, depthBelow, textNodes, ownTextNodes, trimTextNodes}
 use Rattle.model.specs.Theorems.Laws.{room-fits}
 use Rattle.model.specs.Theorems.Unused.{text-lengths}

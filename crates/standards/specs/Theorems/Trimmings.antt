@@ -1,19 +1,18 @@
 -- A trimming of the tables, seen as what it does to the texts alone.
-use Prim.Native.Nat.{ℕ, suc, _+_, _-_, _*_, _≤_, _<_, min, max}
+use Prim.Native.Nat.{ℕ, _+_, _-_, _*_, _≤_, _<_}
 use mathlib.Core.Path.{_≡_, refl, sym, ap, _∙_}
 use mathlib.Core.Logic.{_⊎_, inl, inr}
-use mathlib.Core.Bool.{Bool, true, false}
-use mathlib.Core.List.{List, [], _∷_}
+use mathlib.Core.List.{List, []}
 use native.Mathlib.Omega.{arith}
 use native.Mathlib.Decide.{ℕ-discrete}
-use borrow.Author.Tests.{eqb-true, eqb-false, eq-eqb, ne-eqb}
+use borrow.Author.Tests.{eq-eqb, ne-eqb}
 use lib.Dec.{eqb}
-use lib.ListN.{length, getD, set, take, drop, replicate, length-set, length-replicate}
-use lib.Seq.{sets, slice, getD-set-same, getD-set-other, length-sets, ext-getD, getD-take, getD-drop, length-slice}
+use lib.ListN.{length, getD, set, take, replicate, length-set, length-replicate}
+use lib.Seq.{slice, getD-set-same, getD-set-other, ext-getD, getD-take, getD-drop, length-slice}
 use Rattle.model.specs.Base.{pick}
 use Rattle.model.specs.Tables.{Tree, fromOf, toOf, textOf, setText}
 use Rattle.model.specs.Text.{Trimming, stop, look, cut, cutFrom, cutTo, cutText, run}
-use Rattle.model.specs.Theorems.Agree.{Agree, agree-refl, agree-trans, agree-outs, agree-slice}
+use Rattle.model.specs.Theorems.Agree.{agree-trans, agree-outs, agree-slice}
 use Rattle.model.specs.Theorems.Reach.{Within}
 use Rattle.model.specs.Theorems.Unused.{bounds-lengths}
 

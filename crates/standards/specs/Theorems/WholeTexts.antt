@@ -5,19 +5,19 @@ use mathlib.Core.Logic.{_⊎_, inl, inr}
 use mathlib.Core.Bool.{Bool, true, false}
 use mathlib.Core.List.{List, [], _∷_}
 use native.Mathlib.Omega.{arith}
-use native.Mathlib.Decide.{decLt, ℕ-discrete}
-use borrow.Author.Tests.{eqb-true, leb-true, ltb-true}
+use native.Mathlib.Decide.{decLt}
+use borrow.Author.Tests.{leb-true}
 use lib.Dec.{eqb, leb, ltb}
 use lib.ListN.{length, getD, set, take, replicate, length-set, length-take, length-drop, length-append}
 use lib.Seq.{sets, slice, getD-set-same, getD-set-other, length-sets, ext-getD, getD-take, getD-drop, length-slice}
 use Rattle.model.specs.Base.{pick, and}
 use Rattle.model.specs.Utf8.{isUtf8}
 use Rattle.model.specs.Drawing.{Element, Source, Event, events, valuesIn}
-use Rattle.model.specs.Tables.{Tree, Out, refused, done, then, ELEMENT, TEXT, word, kindOf, parentOf, fromOf, toOf, textOf, setText, Entry, nodeRoom, attributeRoom, textRoom, addElement, addText, appended, cleared, rooted, setNone}
+use Rattle.model.specs.Tables.{Tree, Out, refused, done, ELEMENT, TEXT, word, kindOf, parentOf, fromOf, toOf, textOf, setText, Entry, nodeRoom, attributeRoom, textRoom, addElement, addText, cleared, rooted, setNone}
 use Rattle.model.specs.Element.{entriesOf, mostNodes, parseSvgElement}
-use Rattle.model.specs.Text.{XmlSpace, default, isDefault, SPACE, converted, trimTextAfter, trimText, totalSize, joined, spaceOf, getXmlspace, appendText, Trimming, stop, look, cut, cutText, cutFrom, cutTo, run, TextNode, depthBelow, textNodes, ownTextNodes, trimming, trimTextNodes}
-use Rattle.model.specs.Parse.{Ops, plain}
-use Rattle.model.specs.Noted.{Note, size, Noted, In, noteOf, withNotes, noting, notedParsed, notedTree, notesOf, notes, stripped}
+use Rattle.model.specs.Text.{XmlSpace, default, isDefault, SPACE, converted, trimTextAfter, trimText, totalSize, joined, spaceOf, getXmlspace, appendText, Trimming, stop, look, cut, cutText, cutFrom, cutTo, run, depthBelow, textNodes, ownTextNodes, trimming, trimTextNodes}
+use Rattle.model.specs.Parse.{plain}
+use Rattle.model.specs.Noted.{Note, size, Noted, In, noteOf, noting, notedParsed, notedTree, notesOf, notes, stripped}
 use Rattle.model.specs.Repair.{Cut, cutEntry, applyCut, applied, repairs, repaired}
 use Rattle.model.specs.Build.{Result, build, answered, withRepairs, withRoot, parsed, tested, firstIsSvg}
 use Rattle.model.specs.Theorems.Laws.{appended-old, appended-new, room-fits}
@@ -30,8 +30,8 @@ use Rattle.model.specs.Theorems.Whole.{build-checked, build-noted}
 use Rattle.standards.specs.SvgSpace.{NEWLINE, BLANK, RETURN, without, convert, asPreserve}
 use Rattle.standards.specs.Theorems.Spaces.{NoTwo, trim-no-two, trim-visible}
 use Rattle.standards.specs.Theorems.Sequences.{trim-text-utf8}
-use Rattle.standards.specs.Theorems.Trimmings.{cutList, told, Placed, within-cut, placed-cut, lengths, run-told}
-use Rattle.standards.specs.Theorems.Shaved.{Shaved, whole, front, back, shaved-then, Rising, trimming-kept, shaved-shorter, shaved-visible, shaved-no-two, shaved-utf8}
+use Rattle.standards.specs.Theorems.Trimmings.{told, Placed, within-cut, placed-cut, lengths, run-told}
+use Rattle.standards.specs.Theorems.Shaved.{Shaved, whole, shaved-then, Rising, trimming-kept, shaved-shorter, shaved-visible, shaved-no-two, shaved-utf8}
 
 -- TEXTS AFTER AN APPEND
 
