@@ -21,7 +21,7 @@ unfoldable pub those : {A : Type 0} → (A → Bool) → List A → List A
 those f [] = []
 those f (x ∷ xs) = pick (f x) (λ u. x ∷ those f xs) (λ u. those f xs)
 
--- Section 6.1, the sorting order, for declarations of one origin in the order of their weight (presentation attributes first: SVG 1.1,
+-- Section 6, the sorting order, for declarations of one origin in the order of their weight (presentation attributes first: SVG 1.1,
 -- section 6.4, and SVG 2, section 6.6, give them specificity 0 before all rules). Important ones come before the others, and among equals
 -- the last one wins.
 unfoldable pub winner : {A : Type 0} → (A → Bool) → List A → Option A

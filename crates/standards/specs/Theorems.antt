@@ -15,3 +15,4 @@ pub mod CascadeCases
 pub mod Properties
 pub mod InheritCases
 pub mod HrefCases
+pub mod Circles

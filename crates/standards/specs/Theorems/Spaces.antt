@@ -228,13 +228,14 @@ by-sort b bs = go (eqb b 10) (eqb b 9) (eqb b 32) refl refl refl
     go false false true e f g = inr (inl (simp (e, f, g), rw (eqb-true b 32 g) refl, rw (eqb-true b 32 g) refl))
     go false false false e f g = inr (inr (simp (e, f, g), simp (e, f), simp (e, f), g))
 
--- Where the pass over each of the two texts is.
+-- Where the pass over the text with newlines as spaces is.
 abbrev spacesPass : Place → Pass
 spacesPass ahead = front
 spacesPass inWord = word
 spacesPass inGap = gap
 spacesPass atBreak = gap
 
+-- Where the pass over the text with newlines removed is.
 abbrev removedPass : Place → Pass
 removedPass ahead = front
 removedPass inWord = word

@@ -21,6 +21,7 @@ use Rattle.standards.specs.Theorems.WholeTexts.{text-old, new-word, new-
 
 module _ (chars : List ℕ) (e : ℕ) (t : Tree) (last : t .nodeCount ≡ e + 1) (falls : (i : ℕ) → i ≤ e → parentOf t i ≤ i) (bs : List ℕ)
     (n : ℕ) where
+  -- The tree with the text.
   abbrev grown : Tree
   grown = addText bs n e t
 
