@@ -6,6 +6,7 @@ pub mod Shaved
 pub mod OneText
 pub mod WholeTexts
 pub mod TextElement
+pub mod Recursion
 pub mod Edges
 pub mod Inheritance
 pub mod Cascade
