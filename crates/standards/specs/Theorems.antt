@@ -7,6 +7,8 @@ pub mod OneText
 pub mod WholeTexts
 pub mod TextElement
 pub mod Recursion
+pub mod SpaceStays
+pub mod EveryText
 pub mod Edges
 pub mod Inheritance
 pub mod Cascade

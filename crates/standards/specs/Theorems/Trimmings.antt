@@ -87,7 +87,7 @@ module _ (i a b : ℕ) (t : Tree) where
   unfolding cutText setText newFrom newTo
   to-cut h = getD-set-same (set (t .nodes) (8 * i + 6) newFrom) (8 * i + 7) newTo 0 (rw length-set (omega arith))
 
-  bound-else : (j k : ℕ) → (k ≡ 6) ⊎ (k ≡ 7) → (j ≡ i → ⊥) → getD (cutText i a b t .nodes) (8 * j + k) 0 ≡ getD (t .nodes) (8 * j + k) 0
+  pub bound-else : (j k : ℕ) → (k ≡ 6) ⊎ (k ≡ 7) → (j ≡ i → ⊥) → getD (cutText i a b t .nodes) (8 * j + k) 0 ≡ getD (t .nodes) (8 * j + k) 0
   unfolding cutText setText newFrom newTo
   bound-else j k q d =
       getD-set-other (set (t .nodes) (8 * i + 6) newFrom) (8 * i + 7) (8 * j + k) newTo 0 (off 7 q (omega arith) (omega arith))

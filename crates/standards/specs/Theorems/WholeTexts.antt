@@ -76,15 +76,15 @@ module _ (bs : List ℕ) (n p : ℕ) (t : Tree) where
         (stored bs (t .text) (t .textCount) h)
 
 module _ (c : ℕ) (es : List Entry) (p : ℕ) (t : Tree) where
-  element-old : (j k : ℕ) → j < t .nodeCount → k < 8 → (2 ≤ k → k ≤ 4 → ⊥) → word (addElement c es p t .nodes) j k ≡ word (t .nodes) j k
+  pub element-old : (j k : ℕ) → j < t .nodeCount → k < 8 → (2 ≤ k → k ≤ 4 → ⊥) → word (addElement c es p t .nodes) j k ≡ word (t .nodes) j k
   unfolding addElement
   element-old j k l b h = appended-old ELEMENT c (t .attributeCount) (t .attributeCount + length es) (t .nodes) p (t .nodeCount) j k l b h
 
-  element-text : (j : ℕ) → j < t .nodeCount → textOf (addElement c es p t) j ≡ textOf t j
+  pub element-text : (j : ℕ) → j < t .nodeCount → textOf (addElement c es p t) j ≡ textOf t j
   unfolding textOf addElement
   element-text j l = rw (element-old j 6 l (omega arith) (λ x y. omega arith), element-old j 7 l (omega arith) (λ x y. omega arith)) refl
 
-  element-kind : 8 * t .nodeCount + 8 ≤ length (t .nodes) → kindOf (addElement c es p t) (t .nodeCount) ≡ ELEMENT
+  pub element-kind : 8 * t .nodeCount + 8 ≤ length (t .nodes) → kindOf (addElement c es p t) (t .nodeCount) ≡ ELEMENT
   unfolding addElement
   element-kind r = appended-new ELEMENT c (t .attributeCount) (t .attributeCount + length es) (t .nodes) p (t .nodeCount) 0 r
       (omega arith) (λ x y. omega arith)
@@ -135,7 +135,7 @@ pub record Held (chars : List ℕ) (s : Noted) : Type 0 where
   pub noted : (i : ℕ) → i < s .tree .nodeCount → kindOf (s .tree) i ≡ TEXT → (n : Note) × In n (s .notes) × (n .node ≡ i)
   pub made : (n : Note) → In n (s .notes) → Made chars n (s .tree)
 
-always-test : {S : Type 0} (P : S → Type 0) (b : Bool) (x y : Unit {0} → Out S) → (b ≡ true → Always P (x tt)) →
+pub always-test : {S : Type 0} (P : S → Type 0) (b : Bool) (x y : Unit {0} → Out S) → (b ≡ true → Always P (x tt)) →
     (b ≡ false → Always P (y tt)) → Always P (pick b x y)
 always-test P true x y h g = h refl
 always-test P false x y h g = g refl
@@ -146,7 +146,7 @@ fits-on : (n : Note) (s t : Tree) → kindOf t (n .node) ≡ kindOf s (n .node) 
 fits-on n s t a b c f = record { kind = a ∙ f .kind; low = rw b (f .low); mid = rw (b, c) (f .mid); high = rw c (f .high) }
 
 module _ (chars : List ℕ) where
-  element-held : (c : ℕ) (es : List Entry) (p : ℕ) (s : Noted) → 8 * s .tree .nodeCount + 8 ≤ length (s .tree .nodes) → Held chars s →
+  pub element-held : (c : ℕ) (es : List Entry) (p : ℕ) (s : Noted) → 8 * s .tree .nodeCount + 8 ≤ length (s .tree .nodes) → Held chars s →
       Held chars (record { tree = addElement c es p (s .tree); notes = s .notes })
   unfolding addElement
   element-held c es p s room h = record {
@@ -180,7 +180,7 @@ module _ (chars : List ℕ) where
           let z : _≡_ {A = ℕ} 2 3 = sym (element-kind c es p t room) ∙ (rw e at k) in
           absurd (omega arith)
 
-  text-held : (w : XmlSpace) (e : ℕ) (from : List Source) (p : ℕ) (s : Noted) → 8 * s .tree .nodeCount + 8 ≤ length (s .tree .nodes) →
+  pub text-held : (w : XmlSpace) (e : ℕ) (from : List Source) (p : ℕ) (s : Noted) → 8 * s .tree .nodeCount + 8 ≤ length (s .tree .nodes) →
       s .tree .textCount + totalSize from ≤ length (s .tree .text) → Held chars s →
       Held chars (record {
         tree = addText (trimText w (joined chars from)) (totalSize from) p (s .tree);
@@ -256,7 +256,7 @@ module _ (chars : List ℕ) where
 
 -- TRIMMING
 
-kind-cut : (i a b : ℕ) (t : Tree) (j : ℕ) → kindOf (cutText i a b t) j ≡ kindOf t j
+pub kind-cut : (i a b : ℕ) (t : Tree) (j : ℕ) → kindOf (cutText i a b t) j ≡ kindOf t j
 unfolding cutText setText
 kind-cut i a b t j =
     getD-set-other (set (t .nodes) (8 * i + 6) (cutFrom (fromOf t i) (toOf t i) a)) (8 * i + 7) (8 * j + 0)
@@ -264,7 +264,7 @@ kind-cut i a b t j =
     ∙ getD-set-other (t .nodes) (8 * i + 6) (8 * j + 0) (cutFrom (fromOf t i) (toOf t i) a) 0 (omega arith)
 
 -- What a cut of a node of Q keeps, a trimming that names only such nodes keeps.
-run-keeps : (Q : ℕ → Type 0) (P : Tree → Type 0) → ((i a b : ℕ) (t : Tree) → Q i → P t → P (cutText i a b t)) →
+pub run-keeps : (Q : ℕ → Type 0) (P : Tree → Type 0) → ((i a b : ℕ) (t : Tree) → Q i → P t → P (cutText i a b t)) →
     (g : Trimming) → Within Q g → (t : Tree) → P t → P (run g t)
 unfolding run
 run-keeps Q P c stop w t p = p
@@ -305,10 +305,10 @@ apart-notes (k ∷ ns) h n m (inr a) (inr b) d = apart-notes ns (h .1) n m a b d
 
 module _ (chars : List ℕ) (s : Noted) (h : Held chars s) where
   -- The nodes of the notes.
-  abbrev Noticed : ℕ → Type 0
+  abbrev pub Noticed : ℕ → Type 0
   Noticed i = (n : Note) × In n (s .notes) × (n .node ≡ i)
 
-  lies : (n : Note) → In n (s .notes) → (8 * n .node + 8 ≤ length (s .tree .nodes))
+  pub lies : (n : Note) → In n (s .notes) → (8 * n .node + 8 ≤ length (s .tree .nodes))
       × (fromOf (s .tree) (n .node) ≤ toOf (s .tree) (n .node))
       × (toOf (s .tree) (n .node) ≤ length (s .tree .text))
   lies n i =
@@ -316,7 +316,7 @@ module _ (chars : List ℕ) (s : Noted) (h : Held chars s) where
       let f = h .fits n i in
       (omega (arith, h .room, b .0), f .mid, omega (arith, f .high, b .1, h .bytes))
 
-  places : Placed Noticed (s .tree)
+  pub places : Placed Noticed (s .tree)
   places = record {
     inside = λ i q. rw (← q .2) (lies (q .0) (q .1));
     apart = λ i j q r d. rw (← q .2, ← r .2) (either (q .0) (r .0) (h .fits (q .0) (q .1)) (h .fits (r .0) (r .1))
@@ -377,7 +377,7 @@ module _ (chars : List ℕ) (s : Noted) (h : Held chars s) where
           };
         }
 
-  finish-held : (e : ℕ) → Held chars (record { tree = trimTextNodes chars e (s .tree); notes = s .notes })
+  pub finish-held : (e : ℕ) → Held chars (record { tree = trimTextNodes chars e (s .tree); notes = s .notes })
   unfolding trimTextNodes
   finish-held e = go (decLt e (s .tree .nodeCount))
     where
@@ -423,7 +423,7 @@ module _ (chars : List ℕ) where
       (λ b k. omega arith)) (λ a k. omega arith))
       (λ r k. k)
 
-  root-held : (n m b : ℕ) → ltb 0 (nodeRoom (cleared n m b)) ≡ true → Held chars (record { tree = rooted (cleared n m b); notes = [] })
+  pub root-held : (n m b : ℕ) → ltb 0 (nodeRoom (cleared n m b)) ≡ true → Held chars (record { tree = rooted (cleared n m b); notes = [] })
   unfolding rooted cleared
   root-held n m b h = record {
     room = rw length-set (omega (arith, room-fits (cleared n m b) h));
@@ -451,7 +451,7 @@ module _ (chars : List ℕ) where
       (always-test _ (firstIsSvg (s .tree)) _ _ (λ e. g) (λ e f. omega arith)) (λ u k. k)))
 
 -- The repairs change no text.
-one-cut : (c : Cut) (t : Tree) → (applyCut t c .nodes ≡ t .nodes) × (applyCut t c .text ≡ t .text)
+pub one-cut : (c : Cut) (t : Tree) → (applyCut t c .nodes ≡ t .nodes) × (applyCut t c .text ≡ t .text)
     × (applyCut t c .nodeCount ≡ t .nodeCount)
 unfolding applyCut setNone
 one-cut c t = go (eqb (cutEntry t (c .pass) (c .node)) 0)
@@ -462,7 +462,7 @@ one-cut c t = go (eqb (cutEntry t (c .pass) (c .node)) 0)
     go true = (refl, refl, refl)
     go false = (refl, refl, refl)
 
-cuts-texts : (cs : List Cut) (t : Tree) → (applied t cs .nodes ≡ t .nodes) × (applied t cs .text ≡ t .text)
+pub cuts-texts : (cs : List Cut) (t : Tree) → (applied t cs .nodes ≡ t .nodes) × (applied t cs .text ≡ t .text)
     × (applied t cs .nodeCount ≡ t .nodeCount)
 unfolding applied
 cuts-texts [] t = (refl, refl, refl)

@@ -1,0 +1,142 @@
+-- Every build: a text node that is alone in its text element has SVG 1.1's text, by the xml:space in force.
+use Prim.Native.Nat.{ℕ, zero, suc, _+_, _-_, _*_, _≤_, _<_}
+use mathlib.Core.Path.{_≡_, refl, sym, ap, ap₂, _∙_, subst}
+use mathlib.Core.Logic.{_⊎_, inl, inr}
+use mathlib.Core.Bool.{Bool, true, false, false≢true}
+use mathlib.Core.List.{List, [], _∷_}
+use native.Mathlib.Omega.{arith}
+use native.Mathlib.Decide.{decLt, ℕ-discrete}
+use borrow.Author.Tests.{eqb-true, eqb-false, eq-eqb, ne-eqb, leb-true}
+use lib.Dec.{eqb, leb, ltb}
+use lib.ListN.{length, getD}
+use lib.Seq.{slice}
+use Rattle.model.specs.Base.{pick}
+use Rattle.model.specs.EId
+use Rattle.model.specs.Drawing.{Element, Source, Event, events, valuesIn}
+use Rattle.model.specs.Tables.{Tree, Out, refused, done, then, ELEMENT, TEXT, word, kindOf, parentOf, fromOf, toOf, textOf, Entry, nodeRoom, attributeRoom, textRoom, addElement, addText, cleared, rooted}
+use Rattle.model.specs.Element.{entriesOf, mostNodes, parseSvgElement}
+use Rattle.model.specs.Text.{XmlSpace, default, preserve, spaceOf, getXmlspace, trimText, totalSize, joined, appendText, Trimming, stop, look, cut, cutText, run, TextNode, depthBelow, textNodes, ownTextNodes, trimming, trimTextNodes}
+use Rattle.model.specs.Parse.{inside, label, plain}
+use Rattle.model.specs.Noted.{Note, size, Noted, In, noteOf, noting, notedParsed, notedTree, notesOf, notes, stripped}
+use Rattle.model.specs.Build.{Result, build, answered, withRepairs, withRoot, parsed, tested, firstIsSvg}
+use Rattle.model.specs.Theorems.Laws.{appended-new, room-fits}
+use Rattle.model.specs.Theorems.Reach.{Within, within-trimming, own-collected}
+use Rattle.model.specs.Theorems.Always.{Always, always-then}
+use Rattle.standards.specs.SvgSpace.{NEWLINE, BLANK, RETURN, convert, asDefault, asPreserve}
+use Rattle.standards.specs.Theorems.Trimmings.{withText, told, run-told}
+use Rattle.standards.specs.Theorems.OneText.{OneText, one-text-default, one-text-preserve}
+use Rattle.standards.specs.Theorems.WholeTexts.{Held, always-test, element-held, text-held, finish-held, root-held, Noticed, lies, places, run-keeps, kind-cut, element-text, element-old, element-kind, old-text, text-old, new-word, new-text, made-fits}
+use Rattle.standards.specs.Theorems.Recursion.{AtLeast, inside-law, parsed-law}
+use Rattle.standards.specs.Theorems.SpaceStays.{Ranges, SameNodes, same-sees, space-seen, element-same, text-same, same-cut}
+
+-- SVG 1.1's text of a source by xml:space: for default of the source with its newlines made spaces (the difference of `default-is-standard`),
+-- carriage returns taken as newlines.
+abbrev pub standardText : XmlSpace → List ℕ → List ℕ
+standardText default bs = asDefault (convert NEWLINE BLANK (convert RETURN NEWLINE bs))
+standardText preserve bs = asPreserve (convert RETURN NEWLINE bs)
+
+-- No other text node stands in its text element.
+abbrev pub Alone : Note → List Note → Type 0
+Alone k ns = (m : Note) → In m ns → m .elem ≡ k .elem → m .node ≡ k .node
+
+module _ (chars : List ℕ) where
+  -- The node has the standard's text, where the same xml:space is in force at its parent and at its text element.
+  abbrev pub Exact : Note → Tree → Type 0
+  Exact k t = (w : XmlSpace) → spaceOf chars t (parentOf t (k .node) - 1) ≡ w → spaceOf chars t (k .elem) ≡ w →
+      textOf t (k .node) ≡ standardText w (joined chars (k .texts))
+
+  -- The node has what `trim_text` made, by the xml:space in force at its parent.
+  abbrev Raw : Note → Tree → Type 0
+  Raw k t = (w : XmlSpace) → spaceOf chars t (parentOf t (k .node) - 1) ≡ w → textOf t (k .node) ≡ trimText w (joined chars (k .texts))
+
+  -- What holds of tables and notes at all times.
+  record Sound (s : Noted) : Type 0 where
+    pub held : Held chars s
+    pub falls : (i : ℕ) → i < s .tree .nodeCount → parentOf (s .tree) i ≤ i
+    pub ranges : Ranges (s .tree) (s .tree .nodeCount) (s .tree .attributeCount)
+    pub elems : (k : Note) → In k (s .notes) → k .elem < k .node
+
+  -- Between text elements.
+  record Outside (s : Noted) : Type 0 where
+    pub sound : Sound s
+    pub exact : (k : Note) → In k (s .notes) → Alone k (s .notes) → Exact k (s .tree)
+
+  -- Inside the text element e.
+  record Inside (e : ℕ) (s : Noted) : Type 0 where
+    pub sound : Sound s
+    pub there : e < s .tree .nodeCount
+    pub old : (k : Note) → In k (s .notes) → k .node ≤ e → Alone k (s .notes) → Exact k (s .tree)
+    pub new : (k : Note) → In k (s .notes) → e < k .node → (k .elem ≡ e) × Raw k (s .tree)
+
+  -- WHAT STAYS
+
+  module _ (s : Noted) (h : Sound s) (r : Tree) (n : SameNodes (s .tree) r (s .tree .nodeCount) (s .tree .attributeCount)) where
+    space-same : (i : ℕ) → i < s .tree .nodeCount → spaceOf chars r i ≡ spaceOf chars (s .tree) i
+    space-same = space-seen chars (s .tree) r (s .tree .nodeCount) (same-sees chars (s .tree) r (s .tree .nodeCount) (s .tree .attributeCount) (h .ranges) n) (h .falls)
+
+    parent-same : (k : Note) → In k (s .notes) → spaceOf chars r (parentOf r (k .node) - 1) ≡ spaceOf chars (s .tree) (parentOf (s .tree) (k .node) - 1)
+    parent-same k i =
+        let b = h .held .below k i .0 in
+        ap (λ p. spaceOf chars r (p - 1)) (n .parents (k .node) b) ∙ space-same (parentOf (s .tree) (k .node) - 1) (omega (arith, h .falls (k .node) b))
+
+    elem-same : (k : Note) → In k (s .notes) → spaceOf chars r (k .elem) ≡ spaceOf chars (s .tree) (k .elem)
+    elem-same k i = space-same (k .elem) (omega (arith, h .held .below k i .0, h .elems k i))
+
+    exact-stays : (k : Note) → In k (s .notes) → textOf r (k .node) ≡ textOf (s .tree) (k .node) → Exact k (s .tree) → Exact k r
+    exact-stays k i e x w p q = e ∙ x w (sym (parent-same k i) ∙ p) (sym (elem-same k i) ∙ q)
+
+    raw-stays : (k : Note) → In k (s .notes) → textOf r (k .node) ≡ textOf (s .tree) (k .node) → Raw k (s .tree) → Raw k r
+    raw-stays k i e x w p = e ∙ x w (sym (parent-same k i) ∙ p)
+
+  -- AN ELEMENT
+
+  module _ (c : ℕ) (es : List Entry) (p : ℕ) (s : Noted) (room : 8 * s .tree .nodeCount + 8 ≤ length (s .tree .nodes)) (low : p < s .tree .nodeCount) where
+    grownBy : Noted
+    grownBy = record { tree = addElement c es p (s .tree); notes = s .notes }
+
+    sound-element : Sound s → Sound grownBy
+    unfolding grownBy addElement
+    sound-element h = record {
+      held = element-held chars c es p s room (h .held);
+      falls = λ i l. falls i l (decLt i (t .nodeCount));
+      ranges = λ i l e. ranges i l e (decLt i (t .nodeCount));
+      elems = h .elems;
+    }
+      where
+        t : Tree
+        t = s .tree
+
+        new : (k : ℕ) → k < 8 → (2 ≤ k → k ≤ 4 → ⊥) → word (addElement c es p t .nodes) (t .nodeCount) k
+            ≡ getD (ELEMENT ∷ (p + 1) ∷ 0 ∷ 0 ∷ 0 ∷ c ∷ t .attributeCount ∷ (t .attributeCount + length es) ∷ []) k 0
+        new k b f = appended-new ELEMENT c (t .attributeCount) (t .attributeCount + length es) (t .nodes) p (t .nodeCount) k room b f
+
+        falls : (i : ℕ) → i < t .nodeCount + 1 → Dec (i < t .nodeCount) → parentOf (addElement c es p t) i ≤ i
+        falls i l (yes b) = rw (element-old c es p t i 1 b (omega arith) (λ x y. omega arith)) (h .falls i b)
+        falls i l (no b) = let e : i ≡ t .nodeCount = omega arith in rw (e, new 1 (omega arith) (λ x y. omega arith)) (omega arith)
+
+        ranges : (i : ℕ) → i < t .nodeCount + 1 → kindOf (addElement c es p t) i ≡ ELEMENT → Dec (i < t .nodeCount) →
+            toOf (addElement c es p t) i ≤ t .attributeCount + length es
+        ranges i l e (yes b) =
+            let k = h .ranges i b (sym (element-old c es p t i 0 b (omega arith) (λ x y. omega arith)) ∙ e) in
+            rw (element-old c es p t i 7 b (omega arith) (λ x y. omega arith)) (omega arith)
+        ranges i l e (no b) = let q : i ≡ t .nodeCount = omega arith in rw (q, new 7 (omega arith) (λ x y. omega arith)) (omega arith)
+
+    text-stays : (k : Note) → In k (s .notes) → Sound s → textOf (addElement c es p (s .tree)) (k .node) ≡ textOf (s .tree) (k .node)
+    text-stays k i h = element-text c es p (s .tree) (k .node) (h .held .below k i .0)
+
+    outside-element : Outside s → Outside grownBy
+    unfolding grownBy
+    outside-element h = record {
+      sound = sound-element (h .sound);
+      exact = λ k i a. exact-stays s (h .sound) (addElement c es p (s .tree)) (element-same c es p (s .tree)) k i (text-stays k i (h .sound)) (h .exact k i a);
+    }
+
+    inside-element : (e : ℕ) → Inside e s → Inside e grownBy
+    unfolding grownBy
+    inside-element e h = record {
+      sound = sound-element (h .sound);
+      there = unfold addElement in omega (arith, h .there);
+      old = λ k i l a. exact-stays s (h .sound) (addElement c es p (s .tree)) (element-same c es p (s .tree)) k i (text-stays k i (h .sound)) (h .old k i l a);
+      new = λ k i l. let f = h .new k i l in
+          (f .0, raw-stays s (h .sound) (addElement c es p (s .tree)) (element-same c es p (s .tree)) k i (text-stays k i (h .sound)) (f .1));
+    }
