@@ -140,3 +140,87 @@ module _ (chars : List ℕ) where
       new = λ k i l. let f = h .new k i l in
           (f .0, raw-stays s (h .sound) (addElement c es p (s .tree)) (element-same c es p (s .tree)) k i (text-stays k i (h .sound)) (f .1));
     }
+
+  -- A TEXT
+
+  module _ (e : ℕ) (from : List Source) (p : ℕ) (s : Noted) (room : 8 * s .tree .nodeCount + 8 ≤ length (s .tree .nodes))
+      (space : s .tree .textCount + totalSize from ≤ length (s .tree .text)) (low : p < s .tree .nodeCount) where
+    -- What `trim_text` makes of it.
+    abbrev bytes : List ℕ
+    bytes = trimText (spaceOf chars (s .tree) p) (joined chars from)
+
+    withIt : Noted
+    withIt = record {
+      tree = addText bytes (totalSize from) p (s .tree);
+      notes = noteOf e from (s .tree .nodeCount) (s .tree .textCount) ∷ s .notes;
+    }
+
+    inside-text : Inside e s → Inside e withIt
+    unfolding withIt addText
+    inside-text h = record {
+      sound = record {
+        held = text-held chars (spaceOf chars t p) e from p s room space (h .sound .held);
+        falls = λ i l. falls i l (decLt i (t .nodeCount));
+        ranges = λ i l k. ranges i l k (decLt i (t .nodeCount));
+        elems = λ k i. elems k i;
+      };
+      there = omega (arith, h .there);
+      old = λ k i l a. old k i l a;
+      new = λ k i l. new k i l;
+    }
+      where
+        t : Tree
+        t = s .tree
+
+        r : Tree
+        r = addText bytes (totalSize from) p t
+
+        note : Note
+        note = noteOf e from (t .nodeCount) (t .textCount)
+
+        its : (k : ℕ) → k < 8 → (2 ≤ k → k ≤ 4 → ⊥) → word (r .nodes) (t .nodeCount) k
+            ≡ getD (TEXT ∷ (p + 1) ∷ 0 ∷ 0 ∷ 0 ∷ 0 ∷ t .textCount ∷ (t .textCount + length bytes) ∷ []) k 0
+        its k x y = new-word bytes (totalSize from) p t room k x y
+
+        falls : (i : ℕ) → i < t .nodeCount + 1 → Dec (i < t .nodeCount) → parentOf r i ≤ i
+        falls i l (yes b) = rw (text-old bytes (totalSize from) p t i 1 b (omega arith) (λ x y. omega arith)) (h .sound .falls i b)
+        falls i l (no b) = let q : i ≡ t .nodeCount = omega arith in rw (q, its 1 (omega arith) (λ x y. omega arith)) (omega arith)
+
+        ranges : (i : ℕ) → i < t .nodeCount + 1 → kindOf r i ≡ ELEMENT → Dec (i < t .nodeCount) → toOf r i ≤ t .attributeCount
+        ranges i l k (yes b) =
+            rw (text-old bytes (totalSize from) p t i 7 b (omega arith) (λ x y. omega arith))
+            (h .sound .ranges i b (sym (text-old bytes (totalSize from) p t i 0 b (omega arith) (λ x y. omega arith)) ∙ k))
+        ranges i l k (no b) =
+            let q : i ≡ t .nodeCount = omega arith in
+            let z : _≡_ {A = ℕ} 3 2 = sym (its 0 (omega arith) (λ x y. omega arith)) ∙ (rw q at k) in
+            absurd (omega arith)
+
+        elems : (k : Note) → In k (note ∷ s .notes) → k .elem < k .node
+        elems k (inl q) = rw q (h .there)
+        elems k (inr i) = h .sound .elems k i
+
+        kept : (k : Note) → In k (s .notes) → textOf r (k .node) ≡ textOf t (k .node)
+        kept k i =
+            let b = h .sound .held .below k i in
+            old-text bytes (totalSize from) p t (k .node) (b .0) (omega (arith, h .sound .held .fits k i .high, b .1))
+
+        old : (k : Note) → In k (note ∷ s .notes) → k .node ≤ e → Alone k (note ∷ s .notes) → Exact k r
+        old k (inl q) l a = let z : k .node ≡ t .nodeCount = ap (λ (m : Note). m .node) q in absurd (omega (arith, h .there))
+        old k (inr i) l a = exact-stays s (h .sound) r (text-same bytes (totalSize from) p t) k i (kept k i) (h .old k i l (λ m j. a m (inr j)))
+
+        short : length bytes ≤ totalSize from
+        short = made-fits (spaceOf chars t p) chars from
+
+        own : Raw note r
+        own w q = new-text bytes (totalSize from) p t room (omega (arith, short)) ∙ ap (λ (v : XmlSpace). trimText v (joined chars from)) (back ∙ q)
+          where
+            z : p + 1 - 1 ≡ p
+            z = omega arith
+
+            back : spaceOf chars t p ≡ spaceOf chars r (parentOf r (t .nodeCount) - 1)
+            back = sym (ap (λ (i : ℕ). spaceOf chars r (i - 1)) (its 1 (omega arith) (λ x y. omega arith)) ∙ ap (λ (i : ℕ). spaceOf chars r i) z
+                ∙ space-same s (h .sound) r (text-same bytes (totalSize from) p t) p low)
+
+        new : (k : Note) → In k (note ∷ s .notes) → e < k .node → (k .elem ≡ e) × Raw k r
+        new k (inl q) l = subst (λ (m : Note). (m .elem ≡ e) × Raw m r) (sym q) (refl, own)
+        new k (inr i) l = let f = h .new k i l in (f .0, raw-stays s (h .sound) r (text-same bytes (totalSize from) p t) k i (kept k i) (f .1))
