@@ -224,3 +224,126 @@ module _ (chars : List ℕ) where
         new : (k : Note) → In k (note ∷ s .notes) → e < k .node → (k .elem ≡ e) × Raw k r
         new k (inl q) l = subst (λ (m : Note). (m .elem ≡ e) × Raw m r) (sym q) (refl, own)
         new k (inr i) l = let f = h .new k i l in (f .0, raw-stays s (h .sound) r (text-same bytes (totalSize from) p t) k i (kept k i) (f .1))
+
+-- THE END OF A TEXT ELEMENT
+
+-- A node that a trimming does not name keeps its text.
+told-else : (e : ℕ) (g : Trimming) (f : ℕ → List ℕ) → Within (λ i. e < i) g → (j : ℕ) → j ≤ e → told g f j ≡ f j
+unfolding told
+told-else e stop f w j l = refl
+told-else e (look i k) f w j l = told-else e (k (f i)) f (w .1 (f i)) j l
+told-else e (cut i a b k) f w j l =
+    told-else e k _ (w .1) j l ∙ rw (ne-eqb j i (λ q. omega (arith, w .0))) refl
+
+-- Text nodes: none, or one.
+none-among : (chars : List ℕ) (t : Tree) (w : XmlSpace) (e n i : ℕ) → ((m : ℕ) → i ≤ m → m < i + n → kindOf t m ≡ TEXT → ⊥) → textNodes chars t w e i n ≡ []
+unfolding textNodes
+none-among chars t w e zero i h = refl
+none-among chars t w e (suc n) i h = go (eqb (kindOf t i) TEXT) refl (none-among chars t w e n (i + 1) (λ m x y. h m (omega arith) (omega arith)))
+  where
+    go : (b : Bool) → eqb (kindOf t i) TEXT ≡ b → textNodes chars t w e (i + 1) n ≡ [] →
+        pick b (λ u. record { node = i; depth = depthBelow t e i i; space = getXmlspace chars t (parentOf t i - 1) w } ∷ textNodes chars t w e (i + 1) n)
+        (λ u. textNodes chars t w e (i + 1) n) ≡ []
+    go true q r = absurd (h i (omega arith) (omega arith) (eqb-true (kindOf t i) TEXT q))
+    go false q r = r
+
+one-among : (chars : List ℕ) (t : Tree) (w : XmlSpace) (e n i j : ℕ) → i ≤ j → j < i + n → kindOf t j ≡ TEXT →
+    ((m : ℕ) → i ≤ m → m < i + n → kindOf t m ≡ TEXT → m ≡ j) → (a : TextNode) × (a .node ≡ j) × (textNodes chars t w e i n ≡ a ∷ [])
+unfolding textNodes
+one-among chars t w e zero i j x y k h = absurd (omega arith)
+one-among chars t w e (suc n) i j x y k h = go (eqb (kindOf t i) TEXT) refl (λ z. one-among chars t w e n (i + 1) j z (omega arith) k (λ m u v. h m (omega arith) (omega arith)))
+  where
+    go : (b : Bool) → eqb (kindOf t i) TEXT ≡ b → (i + 1 ≤ j → (a : TextNode) × (a .node ≡ j) × (textNodes chars t w e (i + 1) n ≡ a ∷ [])) →
+        (a : TextNode) × (a .node ≡ j) × (pick b (λ u. record { node = i; depth = depthBelow t e i i; space = getXmlspace chars t (parentOf t i - 1) w }
+        ∷ textNodes chars t w e (i + 1) n) (λ u. textNodes chars t w e (i + 1) n) ≡ a ∷ [])
+    go true q r =
+        let z : i ≡ j = h i (omega arith) (omega arith) (eqb-true (kindOf t i) TEXT q) in
+        let a : TextNode = record { node = i; depth = depthBelow t e i i; space = getXmlspace chars t (parentOf t i - 1) w } in
+        (a, z, ap (λ l. a ∷ l) (none-among chars t w e n (i + 1) (λ m u v o. (let d : m ≡ j = h m (omega arith) (omega arith) o in omega arith))))
+    go false q r = r (at (ℕ-discrete i j))
+      where
+        at : Dec (i ≡ j) → i + 1 ≤ j
+        at (yes z) = absurd (eqb-false (kindOf t i) TEXT q (ap (λ m. kindOf t m) z ∙ k))
+        at (no z) = omega arith
+
+run-count : (g : Trimming) (t : Tree) → (run g t .nodeCount ≡ t .nodeCount) × (run g t .attributeCount ≡ t .attributeCount)
+unfolding run cutText Rattle.model.specs.Tables.setText
+run-count stop t = (refl, refl)
+run-count (look i k) t = run-count (k (textOf t i)) t
+run-count (cut i a b k) t = run-count k (cutText i a b t)
+
+module _ (chars : List ℕ) (e : ℕ) (s : Noted) (h : Inside chars e s) where
+  -- The tree at the end, and the xml:space of the element.
+  abbrev tree : Tree
+  tree = s .tree
+
+  abbrev spaced : XmlSpace
+  spaced = spaceOf chars tree e
+
+  -- The program.
+  program : Trimming
+  program = trimming spaced (ownTextNodes chars tree spaced e (tree .nodeCount))
+
+  names : (Q : ℕ → Type 0) → ((j : ℕ) → e < j → j < tree .nodeCount → kindOf tree j ≡ TEXT → Q j) → Within Q program
+  unfolding program
+  names Q f = within-trimming Q spaced _ (own-collected Q chars tree spaced e (tree .nodeCount) (h .there) f)
+
+  -- What it leaves of the nodes.
+  record Leaves (t : Tree) : Type 0 where
+    pub nodes : SameNodes tree t (tree .nodeCount) (tree .attributeCount)
+    pub kinds : (j : ℕ) → kindOf t j ≡ kindOf tree j
+
+  leaves : Leaves (run program tree)
+  leaves = run-keeps (λ i. kindOf tree i ≡ TEXT) Leaves
+      (λ i a b t q k. record {
+        nodes = same-cut tree (tree .nodeCount) (tree .attributeCount) i a b t (k .kinds i ∙ q) (k .kinds) (k .nodes);
+        kinds = λ j. kind-cut i a b t j ∙ k .kinds j;
+      })
+      program (names (λ i. kindOf tree i ≡ TEXT) (λ j x y k. k)) tree
+      (record { nodes = record { kinds = λ i l. refl; parents = λ i l. refl; bounds = λ i l q. (refl, refl); entries = λ j l. refl }; kinds = λ j. refl })
+
+  ended : Tree
+  ended = run program tree
+
+  told-text : (k : Note) → In k (s .notes) → textOf ended (k .node) ≡ told program (textOf tree) (k .node)
+  unfolding ended
+  told-text k i = run-told (Noticed chars s (h .sound .held)) program tree (textOf tree)
+      (names (Noticed chars s (h .sound .held)) (λ j x y q. h .sound .held .noted j y q)) (places chars s (h .sound .held)) (λ j q. refl) (k .node) (k, i, refl)
+
+  old-exact : (k : Note) → In k (s .notes) → k .node ≤ e → Alone k (s .notes) → Exact chars k ended
+  unfolding ended
+  old-exact k i l a =
+      exact-stays chars s (h .sound) (run program tree) (leaves .nodes) k i
+      (told-text k i ∙ told-else e program (textOf tree) (names (λ j. e < j) (λ j x y q. x)) (k .node) l) (h .old k i l a)
+
+  -- A node that is alone in the element is the only text node behind it.
+  only : (k : Note) → In k (s .notes) → e < k .node → Alone k (s .notes) → (w : XmlSpace) →
+      (a : TextNode) × (a .node ≡ k .node) × (ownTextNodes chars tree w e (tree .nodeCount) ≡ a ∷ [])
+  unfolding ownTextNodes
+  only k i l a w = one-among chars tree w e (tree .nodeCount - (e + 1)) (e + 1) (k .node) (omega arith)
+      (omega (arith, h .sound .held .below k i .0, h .there)) (h .sound .held .fits k i .kind)
+      (λ m x y q. let f = h .sound .held .noted m (omega (arith, h .there)) q in
+      sym (f .2) ∙ a (f .0) (f .1) (h .new (f .0) (f .1) (subst (λ (j : ℕ). e < j) (sym (f .2)) (omega arith)) .0 ∙ sym (h .new k i l .0)))
+
+  new-exact : (k : Note) → In k (s .notes) → e < k .node → Alone k (s .notes) → Exact chars k (trimTextNodes chars e tree)
+  unfolding trimTextNodes program
+  new-exact k i l a w p q = byspace w same-elem (h .new k i l .1 w same-parent)
+    where
+      same-parent : spaceOf chars tree (parentOf tree (k .node) - 1) ≡ w
+      same-parent = sym (parent-same chars s (h .sound) (run program tree) (leaves .nodes) k i) ∙ p
+
+      same-elem : spaceOf chars tree e ≡ w
+      same-elem = ap (λ (j : ℕ). spaceOf chars tree j) (sym (h .new k i l .0)) ∙ sym (elem-same chars s (h .sound) (run program tree) (leaves .nodes) k i) ∙ q
+
+      byspace : (w : XmlSpace) → spaceOf chars tree e ≡ w → textOf tree (k .node) ≡ trimText w (joined chars (k .texts)) →
+          textOf (trimTextNodes chars e tree) (k .node) ≡ standardText w (joined chars (k .texts))
+      byspace default v m =
+          let o = only k i l a default in
+          subst (λ (j : ℕ). textOf (trimTextNodes chars e tree) j ≡ standardText default (joined chars (k .texts))) (o .1)
+          (one-text-default chars tree e (o .0) (joined chars (k .texts))
+          (record { space = v; only = o .2; held = rw (o .1) (lies chars s (h .sound .held) k i); made = rw (o .1) m }))
+      byspace preserve v m =
+          let o = only k i l a preserve in
+          subst (λ (j : ℕ). textOf (trimTextNodes chars e tree) j ≡ standardText preserve (joined chars (k .texts))) (o .1)
+          (one-text-preserve chars tree e (o .0) (joined chars (k .texts))
+          (record { space = v; only = o .2; held = rw (o .1) (lies chars s (h .sound .held) k i); made = rw (o .1) m }))
