@@ -347,3 +347,98 @@ module _ (chars : List ℕ) (e : ℕ) (s : Noted) (h : Inside chars e s) where
           subst (λ (j : ℕ). textOf (trimTextNodes chars e tree) j ≡ standardText preserve (joined chars (k .texts))) (o .1)
           (one-text-preserve chars tree e (o .0) (joined chars (k .texts))
           (record { space = v; only = o .2; held = rw (o .1) (lies chars s (h .sound .held) k i); made = rw (o .1) m }))
+
+  finish-outside : Outside chars (record { tree = trimTextNodes chars e tree; notes = s .notes })
+  unfolding trimTextNodes program ended
+  finish-outside =
+      let c = run-count program tree in
+      let n = leaves .nodes in
+      record {
+    sound = record {
+      held = finish-held chars s (h .sound .held) e;
+      falls = λ i l. let b : i < tree .nodeCount = subst (λ (m : ℕ). i < m) (c .0) l in rw (n .parents i b) (h .sound .falls i b);
+      ranges = λ i l q.
+          let b : i < tree .nodeCount = subst (λ (m : ℕ). i < m) (c .0) l in
+          let was = sym (n .kinds i b) ∙ q in
+          rw (n .bounds i b was .1, c .1) (h .sound .ranges i b was);
+      elems = h .sound .elems;
+    };
+    exact = λ k i a. at k i a (decLt e (k .node));
+  }
+    where
+      at : (k : Note) → In k (s .notes) → Alone k (s .notes) → Dec (e < k .node) → Exact chars k (run program tree)
+      at k i a (yes l) = new-exact k i l a
+      at k i a (no l) = old-exact k i (omega arith) a
+
+-- EVERY BUILD
+
+module _ (chars : List ℕ) (all : List Event) where
+  element-step : (x : Element) (c : ℕ) (i : Bool) (p : ℕ) (s : Noted) → p < s .tree .nodeCount → (P : Noted → Type 0) →
+      ((es : List Entry) → 8 * s .tree .nodeCount + 8 ≤ length (s .tree .nodes) → P (record { tree = addElement c es p (s .tree); notes = s .notes })) →
+      Always P (noting (plain chars) .element x c i p s)
+  unfolding parseSvgElement
+  element-step x c i p s l P f =
+      let t = s .tree in
+      let es = entriesOf t p c i x in
+      always-then (λ r. P (record { tree = r; notes = s .notes })) P (parseSvgElement x c i p t) _
+      (always-test _ (leb (t .attributeCount + length es) (attributeRoom t)) _ _
+      (λ a. always-test _ (leb (t .nodeCount) mostNodes) _ _
+      (λ b. always-test _ (ltb (t .nodeCount) (nodeRoom t)) _ _ (λ r. f es (room-fits t r)) (λ r e. omega arith))
+      (λ b e. omega arith)) (λ a e. omega arith))
+      (λ r k. k)
+
+  outside-step : (x : Element) (c : ℕ) (i : Bool) (p : ℕ) (s : Noted) → p < s .tree .nodeCount → Outside chars s →
+      Always (AtLeast (noting (plain chars)) all (Outside chars) (s .tree .nodeCount + 1)) (noting (plain chars) .element x c i p s)
+  outside-step x c i p s l h = element-step x c i p s l _ (λ es room. (
+    unfold grownBy in outside-element chars c es p s room l h,
+    unfold addElement in omega arith,
+  ))
+
+  inside-step : (e : ℕ) (x : Element) (c p : ℕ) (s : Noted) → p < s .tree .nodeCount → Inside chars e s →
+      Always (AtLeast (noting (plain chars)) all (Inside chars e) (s .tree .nodeCount + 1)) (noting (plain chars) .element x c false p s)
+  inside-step e x c p s l h = element-step x c false p s l _ (λ es room. (
+    unfold grownBy in inside-element chars c es p s room l e h,
+    unfold addElement in omega arith,
+  ))
+
+  text-step : (e : ℕ) (from : List Source) (p : ℕ) (s : Noted) → p < s .tree .nodeCount → Inside chars e s →
+      Always (AtLeast (noting (plain chars)) all (Inside chars e) (s .tree .nodeCount + 1)) (noting (plain chars) .text e from p s)
+  unfolding appendText textRoom
+  text-step e from p s l h =
+      let t = s .tree in
+      let ns = noteOf e from (t .nodeCount) (t .textCount) ∷ s .notes in
+      always-then (λ r. AtLeast (noting (plain chars)) all (Inside chars e) (t .nodeCount + 1) (record { tree = r; notes = ns }))
+      (AtLeast (noting (plain chars)) all (Inside chars e) (t .nodeCount + 1)) (appendText chars from p t) _
+      (always-test _ (leb (t .textCount + totalSize from) (textRoom t)) _ _
+      (λ a. always-test _ (ltb (t .nodeCount) (nodeRoom t)) _ _
+      (λ b. (
+        unfold withIt in inside-text chars e from p s (room-fits t b) (omega (arith, leb-true (t .textCount + totalSize from) (textRoom t) a)) l h,
+        unfold addText in omega arith,
+      ))
+      (λ b k. omega arith)) (λ a k. omega arith))
+      (λ r k. k)
+
+  label-step : (x : Element) (xs : List Event) (i : Bool) (p : ℕ) (s : Noted) → p < s .tree .nodeCount → Outside chars s →
+      Always (AtLeast (noting (plain chars)) all (Outside chars) (s .tree .nodeCount)) (label (noting (plain chars)) all x xs i p s)
+  label-step x xs i p s l h =
+      always-then (Inside chars (s .tree .nodeCount)) (AtLeast (noting (plain chars)) all (Outside chars) (s .tree .nodeCount))
+      (noting (plain chars) .element x EId.Text i p s) _
+      (element-step x EId.Text i p s l _ (λ es room. begun es room (unfold grownBy in outside-element chars EId.Text es p s room l h)))
+      (λ r k. always-then (Inside chars (s .tree .nodeCount)) (AtLeast (noting (plain chars)) all (Outside chars) (s .tree .nodeCount))
+      (inside (noting (plain chars)) all (s .tree .nodeCount) xs zero (s .tree .nodeCount) r) _
+      (inside-law (noting (plain chars)) all (s .tree .nodeCount) (Inside chars (s .tree .nodeCount)) (inside-step (s .tree .nodeCount)) (text-step (s .tree .nodeCount))
+      (λ q u b f. omega (arith, f .sound .falls q b)) xs zero (s .tree .nodeCount) r (k .there) k)
+      (λ u f. (finish-outside chars (s .tree .nodeCount) u f, rw (ends u) (omega (arith, f .there)))))
+    where
+      ends : (u : Noted) → trimTextNodes chars (s .tree .nodeCount) (u .tree) .nodeCount ≡ u .tree .nodeCount
+      ends u = unfold trimTextNodes in run-count _ (u .tree) .0
+
+      begun : (es : List Entry) → 8 * s .tree .nodeCount + 8 ≤ length (s .tree .nodes) →
+          Outside chars (record { tree = addElement EId.Text es p (s .tree); notes = s .notes }) →
+          Inside chars (s .tree .nodeCount) (record { tree = addElement EId.Text es p (s .tree); notes = s .notes })
+      begun es room o = record {
+        sound = o .sound;
+        there = unfold addElement in omega arith;
+        old = λ k j b a. o .exact k j a;
+        new = λ k j b. absurd (omega (arith, h .sound .held .below k j .0));
+      }
