@@ -8,8 +8,8 @@ use native.Mathlib.Omega.{arith}
 use native.Mathlib.Decide.{decLt, ℕ-discrete}
 use borrow.Author.Tests.{eqb-true, eqb-false, eq-eqb, ne-eqb, leb-true}
 use lib.Dec.{eqb, leb, ltb}
-use lib.ListN.{length, getD}
-use lib.Seq.{slice}
+use lib.ListN.{length, getD, set, replicate}
+use lib.Seq.{slice, getD-set-same, getD-set-other}
 use Rattle.model.specs.Base.{pick}
 use Rattle.model.specs.EId
 use Rattle.model.specs.Drawing.{Element, Source, Event, events, valuesIn}
@@ -19,15 +19,17 @@ use Rattle.model.specs.Text.{XmlSpace, default, preserve, spaceOf, getXmlspace,
 use Rattle.model.specs.Parse.{inside, label, plain}
 use Rattle.model.specs.Noted.{Note, size, Noted, In, noteOf, noting, notedParsed, notedTree, notesOf, notes, stripped}
 use Rattle.model.specs.Build.{Result, build, answered, withRepairs, withRoot, parsed, tested, firstIsSvg}
+use Rattle.model.specs.Repair.{applied, repairs, repaired}
 use Rattle.model.specs.Theorems.Laws.{appended-new, room-fits}
 use Rattle.model.specs.Theorems.Reach.{Within, within-trimming, own-collected}
 use Rattle.model.specs.Theorems.Always.{Always, always-then}
+use Rattle.model.specs.Theorems.Whole.{build-checked, build-noted}
 use Rattle.standards.specs.SvgSpace.{NEWLINE, BLANK, RETURN, convert, asDefault, asPreserve}
 use Rattle.standards.specs.Theorems.Trimmings.{withText, told, run-told}
 use Rattle.standards.specs.Theorems.OneText.{OneText, one-text-default, one-text-preserve}
-use Rattle.standards.specs.Theorems.WholeTexts.{Held, always-test, element-held, text-held, finish-held, root-held, Noticed, lies, places, run-keeps, kind-cut, element-text, element-old, element-kind, old-text, text-old, new-word, new-text, made-fits}
+use Rattle.standards.specs.Theorems.WholeTexts.{Held, always-test, element-held, text-held, finish-held, root-held, Noticed, lies, places, run-keeps, kind-cut, element-text, element-old, element-kind, old-text, text-old, new-word, new-text, made-fits, cuts-texts}
 use Rattle.standards.specs.Theorems.Recursion.{AtLeast, inside-law, parsed-law}
-use Rattle.standards.specs.Theorems.SpaceStays.{Ranges, SameNodes, same-sees, space-seen, element-same, text-same, same-cut}
+use Rattle.standards.specs.Theorems.SpaceStays.{Ranges, SameNodes, same-sees, space-seen, element-same, text-same, same-cut, repaired-space}
 
 -- SVG 1.1's text of a source by xml:space: for default of the source with its newlines made spaces (the difference of `default-is-standard`),
 -- carriage returns taken as newlines.
@@ -442,3 +444,67 @@ module _ (chars : List ℕ) (all : List Event) where
         old = λ k j b a. o .exact k j a;
         new = λ k j b. absurd (omega (arith, h .sound .held .below k j .0));
       }
+
+  zero-at : (n i : ℕ) → getD (replicate {A = ℕ} n 0) i 0 ≡ 0
+  zero-at zero i = refl
+  zero-at (suc n) zero = refl
+  zero-at (suc n) (suc i) = zero-at n i
+
+  root-outside : (n m b : ℕ) → ltb 0 (nodeRoom (cleared n m b)) ≡ true → Outside chars (record { tree = rooted (cleared n m b); notes = [] })
+  unfolding rooted cleared
+  root-outside n m b h = record {
+    sound = record {
+      held = root-held chars n m b h;
+      falls = λ i l. let q : i ≡ 0 = omega arith in rw q (omega (arith, top));
+      ranges = λ i l k.
+          let q : i ≡ 0 = omega arith in
+          let z : _≡_ {A = ℕ} 1 2 = sym (getD-set-same (replicate n 0) 0 1 0 (omega (arith, room-fits (cleared n m b) h))) ∙ (rw q at k) in
+          absurd (omega arith);
+      elems = λ k i. absurd i;
+    };
+    exact = λ k i a. absurd i;
+  }
+    where
+      top : getD (set (replicate {A = ℕ} n 0) 0 1) 1 0 ≡ 0
+      top = getD-set-other (replicate n 0) 0 1 1 0 (omega arith) ∙ zero-at n 1
+
+  tree-outside : (n m b : ℕ) → Always (Outside chars) (notedTree (plain chars) all (cleared n m b))
+  unfolding notedTree withRoot notedParsed tested
+  tree-outside n m b =
+      always-then (λ r. (0 < r .nodeCount) × Outside chars (record { tree = r; notes = [] })) (Outside chars) (withRoot (cleared n m b)) _
+      (always-test _ (ltb 0 (nodeRoom (cleared n m b))) _ _ (λ h. (unfold rooted in omega arith, root-outside n m b h)) (λ h e. omega arith))
+      (λ r k. always-then (AtLeast (noting (plain chars)) all (Outside chars) (r .nodeCount)) (Outside chars)
+      (parsed (noting (plain chars)) all (record { tree = r; notes = [] })) _
+      (parsed-law (noting (plain chars)) all (Outside chars) outside-step label-step (record { tree = r; notes = [] }) (k .0) (k .1))
+      (λ s g. always-then (λ u. Outside chars (record { tree = u; notes = s .notes })) (Outside chars) (tested (s .tree)) _
+      (always-test _ (firstIsSvg (s .tree)) _ _ (λ e. g .0) (λ e f. omega arith)) (λ u k. k)))
+
+-- THEOREM. In every build that is accepted, a text node that is alone in its text element, where the same xml:space is in force at its parent
+-- and at its text element, has SVG 1.1's text of its sources by that xml:space. The drawing <text> a </text> has such a node, with default;
+-- <text xml:space="preserve"><tspan> a </tspan></text> has one with preserve. (`k` is the note of the node, which `texts-made` gives.)
+pub alone-is-standard : (script chars : List ℕ) (n m b : ℕ) → build script chars n m b .number ≡ 0 →
+    (k : Note) → In k (notes script chars n m b) → Alone k (notes script chars n m b) → Exact chars k (build script chars n m b .tree)
+unfolding notes notesOf stripped repaired textOf
+alone-is-standard script chars n m b h k i a = subst (λ (r : Result). Exact chars k (r .tree)) (sym is)
+    (go (notedTree (plain chars) all (cleared n m b)) (tree-outside chars all n m b) (subst (λ (r : Result). r .number ≡ 0) is h) i a)
+  where
+    all : List Event
+    all = events script chars
+
+    answer : Out Noted → Result
+    answer o = answered chars (cleared n m b) (withRepairs chars all (stripped o))
+
+    is : build script chars n m b ≡ answer (notedTree (plain chars) all (cleared n m b))
+    is = build-noted script chars n m b (build-checked script chars n m b h)
+
+    go : (o : Out Noted) → Always (Outside chars) o → answer o .number ≡ 0 → In k (notesOf o) → Alone k (notesOf o) → Exact chars k (answer o .tree)
+    go (refused q) x h i a = absurd (x h)
+    go (done s) x h i a = λ w p q.
+        let cs = repairs chars (valuesIn all) (s .tree) in
+        let c = cuts-texts cs (s .tree) in
+        let l = x .sound .held .below k i .0 in
+        ap₂ (λ (ns ts : List ℕ). slice (getD ns (8 * k .node + 6) 0) (getD ns (8 * k .node + 7) 0) ts) (c .0) (c .1)
+        ∙ x .exact k i a w
+        (sym (repaired-space chars cs (s .tree) (x .sound .falls) (parentOf (s .tree) (k .node) - 1) (omega (arith, x .sound .falls (k .node) l)))
+        ∙ ap (λ (ns : List ℕ). spaceOf chars (applied (s .tree) cs) (getD ns (8 * k .node + 1) 0 - 1)) (sym (c .0)) ∙ p)
+        (sym (repaired-space chars cs (s .tree) (x .sound .falls) (k .elem) (omega (arith, x .sound .elems k i, l))) ∙ q)

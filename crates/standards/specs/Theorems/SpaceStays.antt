@@ -12,11 +12,14 @@ use lib.ListN.{length, getD, set}
 use lib.Seq.{getD-set-other}
 use Rattle.model.specs.Base.{pick, sameBytes}
 use Rattle.model.specs.AId
-use Rattle.model.specs.Tables.{Tree, ELEMENT, TEXT, word, kindOf, parentOf, fromOf, toOf, Entry, entryWord, entryAt, valueOf, valueAtEntry, findEntry, attributeId, hasAttribute, holderFrom, setText, addElement, addText}
+use Rattle.model.specs.Tables.{Tree, ELEMENT, TEXT, word, kindOf, parentOf, fromOf, toOf, Entry, entryWord, entryAt, valueOf, valueAtEntry, findEntry, attributeId, hasAttribute, holderFrom, setText, setNone, addElement, addText}
 use Rattle.model.specs.Text.{XmlSpace, default, preserve, preserveWord, getXmlspace, spaceOf, cutText, cutFrom, cutTo}
-use Rattle.model.specs.Theorems.Entries.{holder-falls, old-entry}
+use Rattle.model.specs.Repair.{Cut, cutName, cutEntry, applyCut, applied}
+use Rattle.model.specs.Theorems.Agree.{sets-out}
+use Rattle.model.specs.Theorems.Entries.{holder-falls, old-entry, none-others}
 use Rattle.standards.specs.Theorems.Trimmings.{bound-else}
-use Rattle.standards.specs.Theorems.WholeTexts.{text-old, element-old, kind-cut}
+use Rattle.standards.specs.Theorems.WholeTexts.{text-old, element-old, one-cut}
+use Rattle.standards.specs.Theorems.Cascade.{id-name}
 
 -- The first n nodes of the tree r have the same parents as in s, and say the same of xml:space.
 pub record Sees (chars : List ℕ) (s r : Tree) (n : ℕ) : Type 0 where
@@ -194,3 +197,68 @@ same-cut s n c i a b t k f h = record {
       let u = h .bounds j l e in (bound-else i a b t j 6 (inl refl) d ∙ u .0, bound-else i a b t j 7 (inr refl) d ∙ u .1);
   entries = λ j l. entries-cut i a b t j ∙ h .entries j l;
 }
+
+-- AFTER THE REPAIRS
+
+-- No pass cuts an attribute `space`.
+cut-other : (k : ℕ) → cutName k ≡ AId.Space → ⊥
+unfolding cutName
+cut-other zero h = let z : _≡_ {A = ℕ} 0 150 = h in omega arith
+cut-other (suc zero) h = let z : _≡_ {A = ℕ} 31 150 = h in omega arith
+cut-other (suc (suc zero)) h = let z : _≡_ {A = ℕ} 159 150 = h in omega arith
+cut-other (suc (suc (suc zero))) h = let z : _≡_ {A = ℕ} 9 150 = h in omega arith
+cut-other (suc (suc (suc (suc zero)))) h = let z : _≡_ {A = ℕ} 90 150 = h in omega arith
+cut-other (suc (suc (suc (suc (suc zero))))) h = let z : _≡_ {A = ℕ} 34 150 = h in omega arith
+cut-other (suc (suc (suc (suc (suc (suc zero)))))) h = let z : _≡_ {A = ℕ} 34 150 = h in omega arith
+cut-other (suc (suc (suc (suc (suc (suc (suc k))))))) h = let z : _≡_ {A = ℕ} 0 150 = h in omega arith
+
+none-name : (j : ℕ) (t : Tree) (i : ℕ) → entryWord (setNone j t) i 0 ≡ entryWord t i 0
+unfolding setNone
+none-name j t i = sets-out (1 ∷ 0 ∷ 0 ∷ []) (t .attributes) (5 * j + 2) (5 * i + 0) (λ x y. omega arith)
+
+none-find : (j : ℕ) (t : Tree) (a i m : ℕ) → findEntry (setNone j t) a i m ≡ findEntry t a i m
+unfolding findEntry
+none-find j t a i zero = refl
+none-find j t a i (suc m) = rw (none-name j t i, none-find j t a (i + 1) m) refl
+
+none-id : (j : ℕ) (t : Tree) (i a : ℕ) → attributeId (setNone j t) i a ≡ attributeId t i a
+unfolding attributeId findEntry setNone
+none-id j t i a = go (eqb (kindOf t i) ELEMENT)
+  where
+    same-nodes : setNone j t .nodes ≡ t .nodes
+    same-nodes = refl
+
+    go : (b : Bool) → pick (eqb (kindOf (setNone j t) i) ELEMENT) (λ u. findEntry (setNone j t) a (fromOf (setNone j t) i) (toOf (setNone j t) i - fromOf (setNone j t) i)) (λ u. 0)
+        ≡ pick (eqb (kindOf t i) ELEMENT) (λ u. findEntry t a (fromOf t i) (toOf t i - fromOf t i)) (λ u. 0)
+    go b = rw (same-nodes, none-find j t a (fromOf t i) (toOf t i - fromOf t i)) refl
+
+none-sees : (chars : List ℕ) (j n : ℕ) (t : Tree) → (entryAt t j .name ≡ AId.Space → ⊥) → Sees chars t (setNone j t) n
+none-sees chars j n t d = record {
+  ids = λ i l. none-id j t i AId.Space;
+  parents = λ i l. unfold setNone in refl;
+  values = λ i l q. ap (valueOf chars) (none-others j t (attributeId t i AId.Space - 1)
+      (λ e. d (ap (λ (m : ℕ). entryAt t m .name) (sym e) ∙ id-name t i AId.Space q)));
+}
+
+cut-space : (chars : List ℕ) (c : Cut) (t : Tree) → ((i : ℕ) → i < t .nodeCount → parentOf t i ≤ i) → (i : ℕ) → i < t .nodeCount →
+    spaceOf chars (applyCut t c) i ≡ spaceOf chars t i
+unfolding applyCut
+cut-space chars c t falls i l = go (eqb (cutEntry t (c .pass) (c .node)) 0) refl
+  where
+    go : (b : Bool) → eqb (cutEntry t (c .pass) (c .node)) 0 ≡ b →
+        spaceOf chars (pick b (λ u. t) (λ u. setNone (cutEntry t (c .pass) (c .node) - 1) t)) i ≡ spaceOf chars t i
+    go true e = refl
+    go false e = space-seen chars t (setNone (cutEntry t (c .pass) (c .node) - 1) t) (t .nodeCount)
+        (none-sees chars (cutEntry t (c .pass) (c .node) - 1) (t .nodeCount) t
+        (λ q. cut-other (c .pass) (sym (id-name t (c .node) (cutName (c .pass)) (eqb-false (cutEntry t (c .pass) (c .node)) 0 e)) ∙ q))) falls i l
+
+pub repaired-space : (chars : List ℕ) (cs : List Cut) (t : Tree) → ((i : ℕ) → i < t .nodeCount → parentOf t i ≤ i) → (i : ℕ) → i < t .nodeCount →
+    spaceOf chars (applied t cs) i ≡ spaceOf chars t i
+unfolding applied
+repaired-space chars [] t falls i l = refl
+repaired-space chars (c ∷ cs) t falls i l =
+    let o = one-cut c t in
+    repaired-space chars cs (applyCut t c)
+    (λ j b. subst (λ (ns : List ℕ). getD ns (8 * j + 1) 0 ≤ j) (sym (o .0)) (falls j (subst (λ (m : ℕ). j < m) (o .2) b))) i
+    (subst (λ (m : ℕ). i < m) (sym (o .2)) l)
+    ∙ cut-space chars c t falls i l
