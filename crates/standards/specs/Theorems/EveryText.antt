@@ -26,8 +26,9 @@ use Rattle.model.specs.Theorems.Always.{Always, always-then}
 use Rattle.model.specs.Theorems.Whole.{build-checked, build-noted}
 use Rattle.standards.specs.SvgSpace.{NEWLINE, BLANK, RETURN, convert, asDefault, asPreserve}
 use Rattle.standards.specs.Theorems.Trimmings.{withText, told, run-told}
+use Rattle.standards.specs.Theorems.Shaved.{Shaved, whole, shaved-then, trimming-kept}
 use Rattle.standards.specs.Theorems.OneText.{OneText, one-text-default, one-text-preserve}
-use Rattle.standards.specs.Theorems.WholeTexts.{Held, always-test, element-held, text-held, finish-held, root-held, Noticed, lies, places, run-keeps, kind-cut, element-text, element-old, element-kind, old-text, text-old, new-word, new-text, made-fits, cuts-texts}
+use Rattle.standards.specs.Theorems.WholeTexts.{Held, always-test, element-held, text-held, finish-held, root-held, Noticed, lies, places, run-keeps, kind-cut, element-text, element-old, element-kind, old-text, text-old, new-word, new-text, made-fits, cuts-texts, own-rising}
 use Rattle.standards.specs.Theorems.Recursion.{AtLeast, inside-law, parsed-law}
 use Rattle.standards.specs.Theorems.SpaceStays.{Ranges, SameNodes, same-sees, space-seen, element-same, text-same, same-cut, repaired-space}
 
@@ -51,12 +52,17 @@ module _ (chars : List ℕ) where
   abbrev Raw : Note → Tree → Type 0
   Raw k t = (w : XmlSpace) → spaceOf chars t (parentOf t (k .node) - 1) ≡ w → textOf t (k .node) ≡ trimText w (joined chars (k .texts))
 
+  -- The node has what `trim_text` made by the xml:space in force at its parent, with spaces taken off its ends.
+  abbrev pub Pinned : Note → Tree → Type 0
+  Pinned k t = Shaved (trimText (spaceOf chars t (parentOf t (k .node) - 1)) (joined chars (k .texts))) (textOf t (k .node))
+
   -- What holds of tables and notes at all times.
   record Sound (s : Noted) : Type 0 where
     pub held : Held chars s
     pub falls : (i : ℕ) → i < s .tree .nodeCount → parentOf (s .tree) i ≤ i
     pub ranges : Ranges (s .tree) (s .tree .nodeCount) (s .tree .attributeCount)
     pub elems : (k : Note) → In k (s .notes) → k .elem < k .node
+    pub pinned : (k : Note) → In k (s .notes) → Pinned k (s .tree)
 
   -- Between text elements.
   record Outside (s : Noted) : Type 0 where
@@ -87,6 +93,13 @@ module _ (chars : List ℕ) where
     exact-stays : (k : Note) → In k (s .notes) → textOf r (k .node) ≡ textOf (s .tree) (k .node) → Exact k (s .tree) → Exact k r
     exact-stays k i e x w p q = e ∙ x w (sym (parent-same k i) ∙ p) (sym (elem-same k i) ∙ q)
 
+    pinned-as : (k : Note) → In k (s .notes) → Shaved (textOf (s .tree) (k .node)) (textOf r (k .node)) → Pinned k r
+    pinned-as k i e =
+        subst (λ (v : XmlSpace). Shaved (trimText v (joined chars (k .texts))) (textOf r (k .node))) (sym (parent-same k i)) (shaved-then (h .pinned k i) e)
+
+    pinned-stays : (k : Note) → In k (s .notes) → textOf r (k .node) ≡ textOf (s .tree) (k .node) → Pinned k r
+    pinned-stays k i e = pinned-as k i (subst (λ (v : List ℕ). Shaved (textOf (s .tree) (k .node)) v) (sym e) whole)
+
     raw-stays : (k : Note) → In k (s .notes) → textOf r (k .node) ≡ textOf (s .tree) (k .node) → Raw k (s .tree) → Raw k r
     raw-stays k i e x w p = e ∙ x w (sym (parent-same k i) ∙ p)
 
@@ -103,6 +116,7 @@ module _ (chars : List ℕ) where
       falls = λ i l. falls i l (decLt i (t .nodeCount));
       ranges = λ i l e. ranges i l e (decLt i (t .nodeCount));
       elems = h .elems;
+      pinned = λ k i. pinned-stays s h (addElement c es p t) (element-same c es p t) k i (element-text c es p t (k .node) (h .held .below k i .0));
     }
       where
         t : Tree
@@ -165,6 +179,7 @@ module _ (chars : List ℕ) where
         falls = λ i l. falls i l (decLt i (t .nodeCount));
         ranges = λ i l k. ranges i l k (decLt i (t .nodeCount));
         elems = λ k i. elems k i;
+        pinned = λ k i. pinned k i;
       };
       there = omega (arith, h .there);
       old = λ k i l a. old k i l a;
@@ -213,15 +228,21 @@ module _ (chars : List ℕ) where
         short : length bytes ≤ totalSize from
         short = made-fits (spaceOf chars t p) chars from
 
+        z : p + 1 - 1 ≡ p
+        z = omega arith
+
+        back : spaceOf chars t p ≡ spaceOf chars r (parentOf r (t .nodeCount) - 1)
+        back = sym (ap (λ (i : ℕ). spaceOf chars r (i - 1)) (its 1 (omega arith) (λ x y. omega arith)) ∙ ap (λ (i : ℕ). spaceOf chars r i) z
+            ∙ space-same s (h .sound) r (text-same bytes (totalSize from) p t) p low)
+
         own : Raw note r
         own w q = new-text bytes (totalSize from) p t room (omega (arith, short)) ∙ ap (λ (v : XmlSpace). trimText v (joined chars from)) (back ∙ q)
-          where
-            z : p + 1 - 1 ≡ p
-            z = omega arith
 
-            back : spaceOf chars t p ≡ spaceOf chars r (parentOf r (t .nodeCount) - 1)
-            back = sym (ap (λ (i : ℕ). spaceOf chars r (i - 1)) (its 1 (omega arith) (λ x y. omega arith)) ∙ ap (λ (i : ℕ). spaceOf chars r i) z
-                ∙ space-same s (h .sound) r (text-same bytes (totalSize from) p t) p low)
+        pinned : (k : Note) → In k (note ∷ s .notes) → Pinned k r
+        pinned k (inl q) = subst (λ (m : Note). Pinned m r) (sym q)
+            (subst (λ (v : XmlSpace). Shaved (trimText v (joined chars from)) (textOf r (t .nodeCount))) back
+            (subst (λ (v : List ℕ). Shaved bytes v) (sym (new-text bytes (totalSize from) p t room (omega (arith, short)))) whole))
+        pinned k (inr i) = pinned-stays s (h .sound) r (text-same bytes (totalSize from) p t) k i (kept k i)
 
         new : (k : Note) → In k (note ∷ s .notes) → e < k .node → (k .elem ≡ e) × Raw k r
         new k (inl q) l = subst (λ (m : Note). (m .elem ≡ e) × Raw m r) (sym q) (refl, own)
@@ -364,6 +385,8 @@ module _ (chars : List ℕ) (e : ℕ) (s : Noted) (h : Inside chars e s) where
           let was = sym (n .kinds i b) ∙ q in
           rw (n .bounds i b was .1, c .1) (h .sound .ranges i b was);
       elems = h .sound .elems;
+      pinned = λ k i. pinned-as chars s (h .sound) (run program tree) n k i (subst (λ (v : List ℕ). Shaved (textOf tree (k .node)) v) (sym (told-text k i))
+          (trimming-kept (textOf tree) spaced e _ (own-rising chars tree spaced e (tree .nodeCount)) (k .node)));
     };
     exact = λ k i a. at k i a (decLt e (k .node));
   }
@@ -461,6 +484,7 @@ module _ (chars : List ℕ) (all : List Event) where
           let z : _≡_ {A = ℕ} 1 2 = sym (getD-set-same (replicate n 0) 0 1 0 (omega (arith, room-fits (cleared n m b) h))) ∙ (rw q at k) in
           absurd (omega arith);
       elems = λ k i. absurd i;
+      pinned = λ k i. absurd i;
     };
     exact = λ k i a. absurd i;
   }

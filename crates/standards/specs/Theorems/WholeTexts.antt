@@ -284,7 +284,7 @@ rising-nodes chars t w e i (suc n) m l = go (eqb (kindOf t i) TEXT) (rising-node
     go true h g = (l, h)
     go false h g = g
 
-own-rising : (chars : List ℕ) (t : Tree) (w : XmlSpace) (e n : ℕ) → Rising e (ownTextNodes chars t w e n)
+pub own-rising : (chars : List ℕ) (t : Tree) (w : XmlSpace) (e n : ℕ) → Rising e (ownTextNodes chars t w e n)
 unfolding ownTextNodes
 own-rising chars t w e n = rising-nodes chars t w e (e + 1) (n - (e + 1)) e (omega arith)
 
