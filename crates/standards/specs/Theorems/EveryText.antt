@@ -1,4 +1,4 @@
--- Every build: a text node that is alone in its text element has SVG 1.1's text, by the xml:space in force.
+-- Every build: what every text node is made of, by the xml:space in force, and SVG 1.1's text of a node that is alone in its text element.
 use Prim.Native.Nat.{ℕ, zero, suc, _+_, _-_, _*_, _≤_, _<_}
 use mathlib.Core.Path.{_≡_, refl, sym, ap, ap₂, _∙_, subst}
 use mathlib.Core.Logic.{_⊎_, inl, inr}
@@ -12,6 +12,7 @@ use lib.ListN.{length, getD, set, replicate}
 use lib.Seq.{slice, getD-set-same, getD-set-other}
 use Rattle.model.specs.Base.{pick}
 use Rattle.model.specs.EId
+use Rattle.model.specs.Utf8.{isUtf8}
 use Rattle.model.specs.Drawing.{Element, Source, Event, events, valuesIn}
 use Rattle.model.specs.Tables.{Tree, Out, refused, done, then, ELEMENT, TEXT, word, kindOf, parentOf, fromOf, toOf, textOf, Entry, nodeRoom, attributeRoom, textRoom, addElement, addText, cleared, rooted}
 use Rattle.model.specs.Element.{entriesOf, mostNodes, parseSvgElement}
@@ -19,14 +20,16 @@ use Rattle.model.specs.Text.{XmlSpace, default, preserve, spaceOf, getXmlspace,
 use Rattle.model.specs.Parse.{inside, label, plain}
 use Rattle.model.specs.Noted.{Note, size, Noted, In, noteOf, noting, notedParsed, notedTree, notesOf, notes, stripped}
 use Rattle.model.specs.Build.{Result, build, answered, withRepairs, withRoot, parsed, tested, firstIsSvg}
-use Rattle.model.specs.Repair.{applied, repairs, repaired}
+use Rattle.model.specs.Repair.{Cut, applied, repairs, repaired}
 use Rattle.model.specs.Theorems.Laws.{appended-new, room-fits}
 use Rattle.model.specs.Theorems.Reach.{Within, within-trimming, own-collected}
 use Rattle.model.specs.Theorems.Always.{Always, always-then}
 use Rattle.model.specs.Theorems.Whole.{build-checked, build-noted}
-use Rattle.standards.specs.SvgSpace.{NEWLINE, BLANK, RETURN, convert, asDefault, asPreserve}
+use Rattle.standards.specs.SvgSpace.{NEWLINE, BLANK, RETURN, without, convert, asDefault, asPreserve}
 use Rattle.standards.specs.Theorems.Trimmings.{withText, told, run-told}
-use Rattle.standards.specs.Theorems.Shaved.{Shaved, whole, shaved-then, trimming-kept}
+use Rattle.standards.specs.Theorems.Shaved.{Shaved, whole, shaved-then, trimming-kept, shaved-shorter, shaved-visible, shaved-no-two, shaved-utf8}
+use Rattle.standards.specs.Theorems.Spaces.{NoTwo, trim-no-two, trim-visible}
+use Rattle.standards.specs.Theorems.Sequences.{trim-text-utf8}
 use Rattle.standards.specs.Theorems.OneText.{OneText, one-text-default, one-text-preserve}
 use Rattle.standards.specs.Theorems.WholeTexts.{Held, always-test, element-held, text-held, finish-held, root-held, Noticed, lies, places, run-keeps, kind-cut, element-text, element-old, element-kind, old-text, text-old, new-word, new-text, made-fits, cuts-texts, own-rising}
 use Rattle.standards.specs.Theorems.Recursion.{AtLeast, inside-law, parsed-law}
@@ -503,14 +506,50 @@ module _ (chars : List ℕ) (all : List Event) where
       (λ s g. always-then (λ u. Outside chars (record { tree = u; notes = s .notes })) (Outside chars) (tested (s .tree)) _
       (always-test _ (firstIsSvg (s .tree)) _ _ (λ e. g .0) (λ e f. omega arith)) (λ u k. k)))
 
--- THEOREM. In every build that is accepted, a text node that is alone in its text element, where the same xml:space is in force at its parent
--- and at its text element, has SVG 1.1's text of its sources by that xml:space. The drawing <text> a </text> has such a node, with default;
--- <text xml:space="preserve"><tspan> a </tspan></text> has one with preserve. (`k` is the note of the node, which `texts-made` gives.)
-pub alone-is-standard : (script chars : List ℕ) (n m b : ℕ) → build script chars n m b .number ≡ 0 →
-    (k : Note) → In k (notes script chars n m b) → Alone k (notes script chars n m b) → Exact chars k (build script chars n m b .tree)
-unfolding notes notesOf stripped repaired textOf
-alone-is-standard script chars n m b h k i a = subst (λ (r : Result). Exact chars k (r .tree)) (sym is)
-    (go (notedTree (plain chars) all (cleared n m b)) (tree-outside chars all n m b) (subst (λ (r : Result). r .number ≡ 0) is h) i a)
+-- THEOREMS
+
+-- What is known of the text nodes of a tree, by their notes.
+record Texts (chars : List ℕ) (ns : List Note) (t : Tree) : Type 0 where
+  pub noted : (i : ℕ) → i < t .nodeCount → kindOf t i ≡ TEXT → (k : Note) × In k ns × (k .node ≡ i)
+  pub pinned : (k : Note) → In k ns → Pinned chars k t
+  pub exact : (k : Note) → In k ns → Alone k ns → Exact chars k t
+
+-- The repairs keep it.
+repaired-texts : (chars : List ℕ) (s : Noted) (cs : List Cut) → Outside chars s → Texts chars (s .notes) (applied (s .tree) cs)
+unfolding textOf
+repaired-texts chars s cs h = record {
+  noted = λ i l e. h .sound .held .noted i (rw (← c .2) l) (ap (λ (ns : List ℕ). getD ns (8 * i + 0) 0) (sym (c .0)) ∙ e);
+  pinned = λ k i. subst (λ (v : XmlSpace). Shaved (trimText v (joined chars (k .texts))) (textOf r (k .node))) (sym (around k i))
+      (subst (λ (v : List ℕ). Shaved (trimText (spaceOf chars t (parentOf t (k .node) - 1)) (joined chars (k .texts))) v) (sym (text k)) (h .sound .pinned k i));
+  exact = λ k i a w p q. text k ∙ h .exact k i a w (sym (around k i) ∙ p) (sym (spaces (k .elem) (omega (arith, h .sound .elems k i, low k i))) ∙ q);
+}
+  where
+    t : Tree
+    t = s .tree
+
+    r : Tree
+    r = applied t cs
+
+    c : (r .nodes ≡ t .nodes) × (r .text ≡ t .text) × (r .nodeCount ≡ t .nodeCount)
+    c = cuts-texts cs t
+
+    low : (k : Note) → In k (s .notes) → k .node < t .nodeCount
+    low k i = h .sound .held .below k i .0
+
+    text : (k : Note) → textOf r (k .node) ≡ textOf t (k .node)
+    text k = ap₂ (λ (ns ts : List ℕ). slice (getD ns (8 * k .node + 6) 0) (getD ns (8 * k .node + 7) 0) ts) (c .0) (c .1)
+
+    spaces : (i : ℕ) → i < t .nodeCount → spaceOf chars r i ≡ spaceOf chars t i
+    spaces i l = repaired-space chars cs t (h .sound .falls) i l
+
+    around : (k : Note) → In k (s .notes) → spaceOf chars r (parentOf r (k .node) - 1) ≡ spaceOf chars t (parentOf t (k .node) - 1)
+    around k i = ap (λ (ns : List ℕ). spaceOf chars r (getD ns (8 * k .node + 1) 0 - 1)) (c .0)
+        ∙ spaces (parentOf t (k .node) - 1) (omega (arith, h .sound .falls (k .node) (low k i), low k i))
+
+all-texts : (script chars : List ℕ) (n m b : ℕ) → build script chars n m b .number ≡ 0 → Texts chars (notes script chars n m b) (build script chars n m b .tree)
+unfolding notes notesOf stripped repaired
+all-texts script chars n m b h = subst (λ (r : Result). Texts chars (notes script chars n m b) (r .tree)) (sym is)
+    (go (notedTree (plain chars) all (cleared n m b)) (tree-outside chars all n m b) (subst (λ (r : Result). r .number ≡ 0) is h))
   where
     all : List Event
     all = events script chars
@@ -521,14 +560,40 @@ alone-is-standard script chars n m b h k i a = subst (λ (r : Result). Exact cha
     is : build script chars n m b ≡ answer (notedTree (plain chars) all (cleared n m b))
     is = build-noted script chars n m b (build-checked script chars n m b h)
 
-    go : (o : Out Noted) → Always (Outside chars) o → answer o .number ≡ 0 → In k (notesOf o) → Alone k (notesOf o) → Exact chars k (answer o .tree)
-    go (refused q) x h i a = absurd (x h)
-    go (done s) x h i a = λ w p q.
-        let cs = repairs chars (valuesIn all) (s .tree) in
-        let c = cuts-texts cs (s .tree) in
-        let l = x .sound .held .below k i .0 in
-        ap₂ (λ (ns ts : List ℕ). slice (getD ns (8 * k .node + 6) 0) (getD ns (8 * k .node + 7) 0) ts) (c .0) (c .1)
-        ∙ x .exact k i a w
-        (sym (repaired-space chars cs (s .tree) (x .sound .falls) (parentOf (s .tree) (k .node) - 1) (omega (arith, x .sound .falls (k .node) l)))
-        ∙ ap (λ (ns : List ℕ). spaceOf chars (applied (s .tree) cs) (getD ns (8 * k .node + 1) 0 - 1)) (sym (c .0)) ∙ p)
-        (sym (repaired-space chars cs (s .tree) (x .sound .falls) (k .elem) (omega (arith, x .sound .elems k i, l))) ∙ q)
+    go : (o : Out Noted) → Always (Outside chars) o → answer o .number ≡ 0 → Texts chars (notesOf o) (answer o .tree)
+    go (refused q) x h = absurd (x h)
+    go (done s) x h = repaired-texts chars s (repairs chars (valuesIn all) (s .tree)) x
+
+-- EVERY TEXT NODE. In every build that is accepted, every text node has a note of what it is made from, and its text is what `trim_text` made
+-- of these sources by the xml:space in force at its parent, with spaces taken off its ends. Every drawing with a text meets it.
+pub texts-made : (script chars : List ℕ) (n m b : ℕ) → build script chars n m b .number ≡ 0 →
+    (i : ℕ) → i < build script chars n m b .tree .nodeCount → kindOf (build script chars n m b .tree) i ≡ TEXT →
+    (k : Note) × In k (notes script chars n m b) × (k .node ≡ i) × Pinned chars k (build script chars n m b .tree)
+texts-made script chars n m b h i l e =
+    let f = all-texts script chars n m b h in
+    let q = f .noted i l e in (q .0, q .1, q .2, f .pinned (q .0) (q .1))
+
+-- ONE TEXT NODE. In every build that is accepted, a text node that is alone in its text element, where the same xml:space is in force at its
+-- parent and at its text element, has SVG 1.1's text of its sources by that xml:space. The drawing <text> a </text> has such a node, with
+-- default; <text xml:space="preserve"><tspan> a </tspan></text> has one with preserve. (`k` is the note that `texts-made` gives.)
+pub alone-is-standard : (script chars : List ℕ) (n m b : ℕ) → build script chars n m b .number ≡ 0 →
+    (k : Note) → In k (notes script chars n m b) → Alone k (notes script chars n m b) → Exact chars k (build script chars n m b .tree)
+alone-is-standard script chars n m b h k i a = all-texts script chars n m b h .exact k i a
+
+-- WHAT FOLLOWS for each text node of a build, k its note and t the build's tree (`texts-made` gives them).
+module _ (chars : List ℕ) (k : Note) (t : Tree) (m : Pinned chars k t) where
+  -- No node gains a character: its text is no longer than its sources are together.
+  pub no-longer : length (textOf t (k .node)) ≤ size k
+  no-longer = omega (arith, shaved-shorter m, made-fits (spaceOf chars t (parentOf t (k .node) - 1)) chars (k .texts))
+
+  -- Its characters other than white space are those of its sources, in their order.
+  pub same-visible : without BLANK (textOf t (k .node)) ≡ without BLANK (asPreserve (convert RETURN NEWLINE (joined chars (k .texts))))
+  same-visible = shaved-visible m ∙ trim-visible (spaceOf chars t (parentOf t (k .node) - 1)) (joined chars (k .texts))
+
+  -- Where default is in force at its parent, as in <text> a  b </text>, no two spaces stand in a row.
+  pub no-two-spaces : spaceOf chars t (parentOf t (k .node) - 1) ≡ default → NoTwo (textOf t (k .node))
+  no-two-spaces e = shaved-no-two m (subst (λ (v : XmlSpace). NoTwo (trimText v (joined chars (k .texts)))) (sym e) (trim-no-two (joined chars (k .texts))))
+
+  -- Where its sources are UTF-8, as every text is that check takes, so is its text.
+  pub still-utf8 : isUtf8 (joined chars (k .texts)) ≡ true → isUtf8 (textOf t (k .node)) ≡ true
+  still-utf8 h = shaved-utf8 m (trim-text-utf8 (spaceOf chars t (parentOf t (k .node) - 1)) (joined chars (k .texts)) h)

@@ -1,4 +1,4 @@
--- Every text node of every build: its text is what `trim_text` made of its sources, with spaces taken off its ends.
+-- Text nodes in the tables of a build: what an element, a text, a trimming and the repairs keep of them.
 use Prim.Native.Nat.{ℕ, zero, suc, _+_, _-_, _*_, _≤_, _<_}
 use mathlib.Core.Path.{_≡_, refl, sym, ap, ap₂, _∙_, subst}
 use mathlib.Core.Logic.{_⊎_, inl, inr}
@@ -120,12 +120,7 @@ made-fits w chars from = omega (arith, trim-fits w 48 (joined chars from), joine
 
 -- WHAT HOLDS AT ALL TIMES OF A BUILD
 
--- The text of a noted node is what `trim_text` made of its sources by some xml:space, with spaces taken off its ends.
-pub record Made (chars : List ℕ) (n : Note) (t : Tree) : Type 0 where
-  pub space : XmlSpace
-  pub shaved : Shaved (trimText space (joined chars (n .texts))) (textOf t (n .node))
-
--- Records and bytes that are counted are there; notes and text nodes belong together; each text lies in its own place; and each is `Made`.
+-- Records and bytes that are counted are there; notes and text nodes belong together; and each text lies in its own place.
 pub record Held (chars : List ℕ) (s : Noted) : Type 0 where
   pub room : 8 * s .tree .nodeCount ≤ length (s .tree .nodes)
   pub bytes : s .tree .textCount ≤ length (s .tree .text)
@@ -133,7 +128,6 @@ pub record Held (chars : List ℕ) (s : Noted) : Type 0 where
   pub fits : (n : Note) → In n (s .notes) → Fits n (s .tree)
   pub apart : Apart (s .notes)
   pub noted : (i : ℕ) → i < s .tree .nodeCount → kindOf (s .tree) i ≡ TEXT → (n : Note) × In n (s .notes) × (n .node ≡ i)
-  pub made : (n : Note) → In n (s .notes) → Made chars n (s .tree)
 
 pub always-test : {S : Type 0} (P : S → Type 0) (b : Bool) (x y : Unit {0} → Out S) → (b ≡ true → Always P (x tt)) →
     (b ≡ false → Always P (y tt)) → Always P (pick b x y)
@@ -158,11 +152,6 @@ module _ (chars : List ℕ) where
         (old n b 7 (omega arith) (λ x y. omega arith)) (h .fits n i);
     apart = h .apart;
     noted = λ i l k. go i l k (decLt i (t .nodeCount));
-    made = λ n i. let m = h .made n i in record {
-      space = m .space;
-      shaved = subst (λ (v : List ℕ). Shaved (trimText (m .space) (joined chars (n .texts))) v)
-          (sym (element-text c es p t (n .node) (h .below n i .0))) (m .shaved);
-    };
   }
     where
       t : Tree
@@ -195,7 +184,6 @@ module _ (chars : List ℕ) where
     fits = λ n i. fit n i;
     apart = (h .below, h .apart);
     noted = λ i l k. go i l k (decLt i (t .nodeCount));
-    made = λ n i. was n i;
   }
     where
       t : Tree
@@ -240,19 +228,6 @@ module _ (chars : List ℕ) where
           let f = h .noted i b (sym (text-old bs (totalSize from) p t i 0 b (omega arith) (λ x y. omega arith)) ∙ k) in
           (f .0, inr (f .1), f .2)
       go i l k (no b) = (new, inl refl, omega arith)
-
-      was : (n : Note) → In n (new ∷ s .notes) → Made chars n grown
-      was n (inl q) = rw q (record {
-        space = w;
-        shaved =
-            subst (λ (v : List ℕ). Shaved bs v) (sym (new-text bs (totalSize from) p t room (omega (arith, short)))) whole;
-      })
-      was n (inr i) = let m = h .made n i in record {
-        space = m .space;
-        shaved = subst (λ (v : List ℕ). Shaved (trimText (m .space) (joined chars (n .texts))) v)
-            (sym (old-text bs (totalSize from) p t (n .node) (h .below n i .0) (omega (arith, h .fits n i .high, h .below n i .1))))
-            (m .shaved);
-      }
 
 -- TRIMMING
 
@@ -357,7 +332,7 @@ module _ (chars : List ℕ) (s : Noted) (h : Held chars s) where
         };
   }
 
-  module _ (g : Trimming) (w : Within Noticed g) (sh : (j : ℕ) → Shaved (textOf (s .tree) j) (told g (textOf (s .tree)) j)) where
+  module _ (g : Trimming) (w : Within Noticed g) where
     run-held : Held chars (record { tree = run g (s .tree); notes = s .notes })
     run-held =
         let k = run-keeps Noticed Stays stays-cut g w (s .tree)
@@ -369,12 +344,6 @@ module _ (chars : List ℕ) (s : Noted) (h : Held chars s) where
           fits = k .fits;
           apart = h .apart;
           noted = λ i l e. h .noted i (rw (← k .nodeCount) l) (sym (k .kinds i) ∙ e);
-          made = λ n i. let m = h .made n i in record {
-            space = m .space;
-            shaved = subst (λ (v : List ℕ). Shaved (trimText (m .space) (joined chars (n .texts))) v)
-                (sym (run-told Noticed g (s .tree) (textOf (s .tree)) w places (λ j q. refl) (n .node) (n, i, refl)))
-                (shaved-then (m .shaved) (sh (n .node)));
-          };
         }
 
   pub finish-held : (e : ℕ) → Held chars (record { tree = trimTextNodes chars e (s .tree); notes = s .notes })
@@ -391,38 +360,11 @@ module _ (chars : List ℕ) (s : Noted) (h : Held chars s) where
       })
       go (yes l) = run-held _
           (within-trimming Noticed v _ (own-collected Noticed chars (s .tree) v e (s .tree .nodeCount) l (λ j x y k. h .noted j y k)))
-          (trimming-kept (textOf (s .tree)) v e _ (own-rising chars (s .tree) v e (s .tree .nodeCount)))
       go (no l) = rw (nothing-own chars (s .tree) v e (s .tree .nodeCount) (omega arith)) (rw (stopped v (s .tree)) h)
 
--- EVERY BUILD
+-- THE ROOT
 
 module _ (chars : List ℕ) where
-  element-step : (x : Element) (c : ℕ) (i : Bool) (p : ℕ) (s : Noted) → Held chars s →
-      Always (Held chars) (noting (plain chars) .element x c i p s)
-  unfolding parseSvgElement
-  element-step x c i p s h =
-      let t = s .tree in
-      let es = entriesOf t p c i x in
-      always-then (λ r. Held chars (record { tree = r; notes = s .notes })) (Held chars) (parseSvgElement x c i p t) _
-      (always-test _ (leb (t .attributeCount + length es) (attributeRoom t)) _ _
-      (λ a. always-test _ (leb (t .nodeCount) mostNodes) _ _
-      (λ b. always-test _ (ltb (t .nodeCount) (nodeRoom t)) _ _ (λ r. element-held chars c es p s (room-fits t r) h) (λ r e. omega arith))
-      (λ b e. omega arith)) (λ a e. omega arith))
-      (λ r k. k)
-
-  text-step : (e : ℕ) (from : List Source) (p : ℕ) (s : Noted) → Held chars s → Always (Held chars) (noting (plain chars) .text e from p s)
-  unfolding appendText textRoom
-  text-step e from p s h =
-      let t = s .tree in
-      let ns = noteOf e from (t .nodeCount) (t .textCount) ∷ s .notes in
-      always-then (λ r. Held chars (record { tree = r; notes = ns })) (Held chars) (appendText chars from p t) _
-      (always-test _ (leb (t .textCount + totalSize from) (textRoom t)) _ _
-      (λ a. always-test _ (ltb (t .nodeCount) (nodeRoom t)) _ _
-      (λ b. text-held chars (spaceOf chars t p) e from p s (room-fits t b)
-      (omega (arith, leb-true (t .textCount + totalSize from) (textRoom t) a)) h)
-      (λ b k. omega arith)) (λ a k. omega arith))
-      (λ r k. k)
-
   pub root-held : (n m b : ℕ) → ltb 0 (nodeRoom (cleared n m b)) ≡ true → Held chars (record { tree = rooted (cleared n m b); notes = [] })
   unfolding rooted cleared
   root-held n m b h = record {
@@ -435,20 +377,7 @@ module _ (chars : List ℕ) where
         let q : i ≡ 0 = omega arith in
         let z : _≡_ {A = ℕ} 1 3 = sym (getD-set-same (replicate n 0) 0 1 0 (omega (arith, room-fits (cleared n m b) h))) ∙ (rw q at e) in
         absurd (omega arith);
-    made = λ k i. absurd i;
   }
-
-  -- With the notes, up to the repairs.
-  tree-held : (all : List Event) (n m b : ℕ) → Always (Held chars) (notedTree (plain chars) all (cleared n m b))
-  unfolding notedTree withRoot notedParsed tested
-  tree-held all n m b =
-      always-then (λ r. Held chars (record { tree = r; notes = [] })) (Held chars) (withRoot (cleared n m b)) _
-      (always-test _ (ltb 0 (nodeRoom (cleared n m b))) _ _ (λ h. root-held n m b h) (λ h e. omega arith))
-      (λ r k. always-then (Held chars) (Held chars) (parsed (noting (plain chars)) all (record { tree = r; notes = [] })) _
-      (parsed-always (Held chars) (noting (plain chars)) all element-step text-step (λ e s h. finish-held chars s h e)
-      (record { tree = r; notes = [] }) k)
-      (λ s g. always-then (λ u. Held chars (record { tree = u; notes = s .notes })) (Held chars) (tested (s .tree)) _
-      (always-test _ (firstIsSvg (s .tree)) _ _ (λ e. g) (λ e f. omega arith)) (λ u k. k)))
 
 -- The repairs change no text.
 pub one-cut : (c : Cut) (t : Tree) → (applyCut t c .nodes ≡ t .nodes) × (applyCut t c .text ≡ t .text)
@@ -467,62 +396,3 @@ pub cuts-texts : (cs : List Cut) (t : Tree) → (applied t cs .nodes ≡ t .node
 unfolding applied
 cuts-texts [] t = (refl, refl, refl)
 cuts-texts (c ∷ cs) t = let h = cuts-texts cs (applyCut t c) in let g = one-cut c t in (h .0 ∙ g .0, h .1 ∙ g .1, h .2 ∙ g .2)
-
--- THEOREM. In every build that is accepted, every text node has a note of what it is made from, and its text is what `trim_text` made of
--- these sources, with spaces taken off its ends.
-pub texts-made : (script chars : List ℕ) (n m b : ℕ) → build script chars n m b .number ≡ 0 →
-    (i : ℕ) → i < build script chars n m b .tree .nodeCount → kindOf (build script chars n m b .tree) i ≡ TEXT →
-    (k : Note) × In k (notes script chars n m b) × (k .node ≡ i) × Made chars k (build script chars n m b .tree)
-unfolding notes notesOf stripped repaired textOf
-texts-made script chars n m b h i l k = made
-  where
-    all : List Event
-    all = events script chars
-
-    answer : Out Noted → Result
-    answer o = answered chars (cleared n m b) (withRepairs chars all (stripped o))
-
-    go : (o : Out Noted) → Always (Held chars) o → answer o .number ≡ 0 → i < answer o .tree .nodeCount → kindOf (answer o .tree) i ≡ TEXT →
-        (k : Note) × In k (notesOf o) × (k .node ≡ i) × Made chars k (answer o .tree)
-    go (refused q) a h l e = absurd (a h)
-    go (done s) a h l e =
-        let c = cuts-texts (repairs chars (valuesIn all) (s .tree)) (s .tree) in
-        let q = a .noted i (rw (← c .2) l) (ap (λ (ns : List ℕ). getD ns (8 * i + 0) 0) (sym (c .0)) ∙ e) in
-        let m = a .made (q .0) (q .1) in (
-          q .0,
-          q .1,
-          q .2,
-          record {
-            space = m .space;
-            shaved = subst (λ (v : List ℕ). Shaved (trimText (m .space) (joined chars (q .0 .texts))) v)
-                (ap₂ (λ (ns ts : List ℕ). slice (getD ns (8 * q .0 .node + 6) 0) (getD ns (8 * q .0 .node + 7) 0) ts) (sym (c .0))
-                (sym (c .1))) (m .shaved);
-          },
-        )
-
-    is : build script chars n m b ≡ answer (notedTree (plain chars) all (cleared n m b))
-    is = build-noted script chars n m b (build-checked script chars n m b h)
-
-    made : (k : Note) × In k (notes script chars n m b) × (k .node ≡ i) × Made chars k (build script chars n m b .tree)
-    made = subst (λ (r : Result). (k : Note) × In k (notes script chars n m b) × (k .node ≡ i) × Made chars k (r .tree)) (sym is)
-        (go (notedTree (plain chars) all (cleared n m b)) (tree-held chars all n m b)
-        (subst (λ (r : Result). r .number ≡ 0) is h) (subst (λ (r : Result). i < r .tree .nodeCount) is l)
-        (subst (λ (r : Result). kindOf (r .tree) i ≡ TEXT) is k))
-
--- WHAT FOLLOWS for each text node of a build, k its note and t the build's tree (`texts-made` gives them).
-module _ (chars : List ℕ) (k : Note) (t : Tree) (m : Made chars k t) where
-  -- No node gains a character: its text is no longer than its sources are together.
-  pub no-longer : length (textOf t (k .node)) ≤ size k
-  no-longer = omega (arith, shaved-shorter (m .shaved), made-fits (m .space) chars (k .texts))
-
-  -- Its characters other than white space are those of its sources, in their order.
-  pub same-visible : without BLANK (textOf t (k .node)) ≡ without BLANK (asPreserve (convert RETURN NEWLINE (joined chars (k .texts))))
-  same-visible = shaved-visible (m .shaved) ∙ trim-visible (m .space) (joined chars (k .texts))
-
-  -- Where its xml:space is default, as in <text> a  b </text>, no two spaces stand in a row.
-  pub no-two-spaces : m .space ≡ default → NoTwo (textOf t (k .node))
-  no-two-spaces e = shaved-no-two (m .shaved) (rw e (trim-no-two (joined chars (k .texts))))
-
-  -- Where its sources are UTF-8, as every text is that check takes, so is its text.
-  pub still-utf8 : isUtf8 (joined chars (k .texts)) ≡ true → isUtf8 (textOf t (k .node)) ≡ true
-  still-utf8 h = shaved-utf8 (m .shaved) (trim-text-utf8 (m .space) (joined chars (k .texts)) h)
