@@ -1,6 +1,6 @@
 -- UTF-8: what is done to spaces leaves every sequence of bytes whole.
-use Prim.Native.Nat.{ℕ, suc, _-_, _≤_, _<_}
-use mathlib.Core.Path.{_≡_, refl, sym, _∙_, subst}
+use Prim.Native.Nat.{ℕ, suc, _+_, _-_, _≤_, _<_}
+use mathlib.Core.Path.{_≡_, refl, sym, ap, _∙_, subst}
 use mathlib.Core.Bool.{Bool, true, false, false≢true}
 use mathlib.Core.List.{List, [], _∷_, _++_}
 use native.Mathlib.Omega.{arith}
@@ -8,10 +8,12 @@ use native.Mathlib.Decide.{decLt}
 use borrow.Author.Tests.{eqb-true, eqb-false, ne-eqb, leb-true, le-leb, lt-leb}
 use lib.Dec.{eqb, leb}
 use lib.ListN.{length}
+use lib.Seq.{slice}
 use Rattle.model.specs.Base.{pick, and, among}
 use Rattle.model.specs.Utf8.{Range, isWithin, wellFormed, begins, sequenceOf, isUtf8From, isUtf8}
-use Rattle.model.specs.Text.{XmlSpace, isDefault, SPACE, converted, trimTextAfter, trimText}
-use Rattle.model.specs.Theorems.Sim.{and-left}
+use Rattle.model.specs.Drawing.{Source}
+use Rattle.model.specs.Text.{XmlSpace, isDefault, SPACE, converted, trimTextAfter, trimText, joined}
+use Rattle.model.specs.Theorems.Sim.{Every, and-left, and-right}
 
 -- Bytes behind the first of a sequence are 128 at least.
 abbrev AllHigh : List Range → Type 0
@@ -279,3 +281,102 @@ first-space-utf8 bs h = sym (low-utf8 SPACE bs (omega arith)) ∙ h
 pub last-space-utf8 : (bs : List ℕ) → isUtf8 (bs ++ (SPACE ∷ [])) ≡ true → isUtf8 bs ≡ true
 unfolding isUtf8
 last-space-utf8 bs h = last-from bs [] tt (unfold begins in refl) h
+
+-- ONE TEXT BEHIND ANOTHER
+
+-- The rows' first bytes come in order, each range behind the one before.
+abbrev Ordered : ℕ → List (List Range) → Type 0
+Ordered m [] = Unit {0}
+Ordered m ([] ∷ rows) = ⊥
+Ordered m ((f ∷ rs) ∷ rows) = (m ≤ f .first) × (f .first ≤ f .last) × Ordered (suc (f .last)) rows
+
+rows-ordered : Ordered 0 wellFormed
+unfolding wellFormed
+rows-ordered =
+    (omega arith, omega arith, (omega arith, omega arith, (omega arith, omega arith, (omega arith, omega arith, (omega arith, omega arith,
+    (omega arith, omega arith, (omega arith, omega arith, (omega arith, omega arith, (omega arith, omega arith, tt)))))))))
+
+low-found : (rows : List (List Range)) (m : ℕ) → Ordered m rows → (b : ℕ) (xs : List ℕ) → eqb (sequenceOf rows (b ∷ xs)) 0 ≡ false → m ≤ b
+unfolding sequenceOf begins
+low-found [] m o b xs e = absurd (false≢true (sym e))
+low-found ([] ∷ rows) m o b xs e = absurd o
+low-found ((f ∷ rs) ∷ rows) m o b xs e = go (isWithin b f) refl (begins rs xs) e (low-found rows (suc (f .last)) (o .2) b xs)
+  where
+    go : (x : Bool) → isWithin b f ≡ x → (y : Bool) →
+        eqb (pick (pick x (λ u. y) (λ u. false)) (λ u. suc (length rs)) (λ u. sequenceOf rows (b ∷ xs))) 0 ≡ false →
+        (eqb (sequenceOf rows (b ∷ xs)) 0 ≡ false → suc (f .last) ≤ b) → m ≤ b
+    go true p true e k = omega (arith, o .0, leb-true (f .first) b (and-left (leb (f .first) b) _ p))
+    go true p false e k = omega (arith, o .0, o .1, k e)
+    go false p y e k = omega (arith, o .0, o .1, k e)
+
+-- A sequence that is found is found again wherever its bytes behind the first stand.
+record Again (rows : List (List Range)) (b : ℕ) (xs : List ℕ) : Type 0 where
+  pub ranges : List Range
+  pub high : AllHigh ranges
+  pub begun : begins ranges xs ≡ true
+  pub long : sequenceOf rows (b ∷ xs) ≡ suc (length ranges)
+  pub same : (z : List ℕ) → begins ranges z ≡ true → sequenceOf rows (b ∷ z) ≡ suc (length ranges)
+
+again : (rows : List (List Range)) (m : ℕ) → Ordered m rows → HighRows rows → (b : ℕ) (xs : List ℕ) → eqb (sequenceOf rows (b ∷ xs)) 0 ≡ false →
+    Again rows b xs
+unfolding sequenceOf begins
+again [] m o h b xs e = absurd (false≢true (sym e))
+again ([] ∷ rows) m o h b xs e = absurd h
+again ((f ∷ rs) ∷ rows) m o h b xs e =
+    go (isWithin b f) refl (begins rs xs) refl e (λ k. low-found rows (suc (f .last)) (o .2) b xs k) (λ k. again rows (suc (f .last)) (o .2) (h .1) b xs k)
+  where
+    go : (x : Bool) → isWithin b f ≡ x → (y : Bool) → begins rs xs ≡ y →
+        eqb (pick (pick x (λ u. y) (λ u. false)) (λ u. suc (length rs)) (λ u. sequenceOf rows (b ∷ xs))) 0 ≡ false →
+        (eqb (sequenceOf rows (b ∷ xs)) 0 ≡ false → suc (f .last) ≤ b) → (eqb (sequenceOf rows (b ∷ xs)) 0 ≡ false → Again rows b xs) →
+        Again ((f ∷ rs) ∷ rows) b xs
+    go true p true q e l k =
+        record { ranges = rs; high = h .0; begun = q; long = rw (p, q) refl; same = λ z c. rw (p, c) refl }
+    go true p false q e l k = absurd (omega (arith, l e, leb-true b (f .last) (and-right (leb (f .first) b) _ p)))
+    go false p y q e l k =
+        let g = k e in
+        record { ranges = g .ranges; high = g .high; begun = g .begun; long = rw p (g .long); same = λ z c. rw p (g .same z c) }
+
+begins-more : (rs : List Range) (xs ys : List ℕ) → begins rs xs ≡ true → begins rs (xs ++ ys) ≡ true
+unfolding begins
+begins-more [] xs ys h = refl
+begins-more (r ∷ rs) [] ys h = absurd (false≢true h)
+begins-more (r ∷ rs) (x ∷ xs) ys h = go (isWithin x r) h (begins-more rs xs ys)
+  where
+    go : (b : Bool) → pick b (λ u. begins rs xs) (λ u. false) ≡ true → (begins rs xs ≡ true → begins rs (xs ++ ys) ≡ true) →
+        pick b (λ u. begins rs (xs ++ ys)) (λ u. false) ≡ true
+    go true h k = k h
+    go false h k = absurd (false≢true h)
+
+append-from : (xs : List ℕ) (rs : List Range) (ys : List ℕ) → begins rs xs ≡ true → isUtf8From (length rs) xs ≡ true → isUtf8From 0 ys ≡ true →
+    isUtf8From (length rs) (xs ++ ys) ≡ true
+unfolding begins isUtf8From
+append-from [] [] ys g u v = v
+append-from [] (r ∷ rs) ys g u v = absurd (false≢true g)
+append-from (b ∷ xs) (r ∷ rs) ys g u v = append-from xs rs ys (tail (isWithin b r) g) u v
+  where
+    tail : (c : Bool) → pick c (λ u. begins rs xs) (λ u. false) ≡ true → begins rs xs ≡ true
+    tail true h = h
+    tail false h = absurd (false≢true h)
+append-from (b ∷ xs) [] ys g u v = go (eqb (sequenceOf wellFormed (b ∷ xs)) 0) refl u (λ rs c w. append-from xs rs ys c w v)
+  where
+    go : (c : Bool) → eqb (sequenceOf wellFormed (b ∷ xs)) 0 ≡ c → pick c (λ u. false) (λ u. isUtf8From (sequenceOf wellFormed (b ∷ xs) - 1) xs) ≡ true →
+        ((rs : List Range) → begins rs xs ≡ true → isUtf8From (length rs) xs ≡ true → isUtf8From (length rs) (xs ++ ys) ≡ true) →
+        isUtf8From 0 (b ∷ (xs ++ ys)) ≡ true
+    go true e w k = absurd (false≢true w)
+    go false e w k =
+        let f = again wellFormed 0 rows-ordered rows-high b xs e in
+        let q : suc (length (f .ranges)) - 1 ≡ length (f .ranges) = omega arith in
+        rw (f .same (xs ++ ys) (begins-more (f .ranges) xs ys (f .begun)), ne-eqb (suc (length (f .ranges))) 0 (omega arith), q)
+        (k (f .ranges) (f .begun) (subst (λ (n : ℕ). isUtf8From n xs ≡ true) (ap (λ (n : ℕ). n - 1) (f .long) ∙ q) w))
+
+-- Two texts of UTF-8, one behind the other, are UTF-8.
+pub append-utf8 : (xs ys : List ℕ) → isUtf8 xs ≡ true → isUtf8 ys ≡ true → isUtf8 (xs ++ ys) ≡ true
+unfolding isUtf8
+append-utf8 xs ys h g = append-from xs [] ys (unfold begins in refl) h g
+
+-- The sources of a text node, one behind the other, where each is UTF-8.
+pub joined-utf8 : (chars : List ℕ) (from : List Source) → Every (λ (a : Source). isUtf8 (slice (a .start) (a .start + a .size) chars) ≡ true) from →
+    isUtf8 (joined chars from) ≡ true
+unfolding joined
+joined-utf8 chars [] h = unfold isUtf8 isUtf8From in refl
+joined-utf8 chars (a ∷ from) h = append-utf8 (slice (a .start) (a .start + a .size) chars) (joined chars from) (h .0) (joined-utf8 chars from (h .1))
