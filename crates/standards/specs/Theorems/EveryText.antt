@@ -6,14 +6,15 @@ use mathlib.Core.Bool.{Bool, true, false, false≢true}
 use mathlib.Core.List.{List, [], _∷_}
 use native.Mathlib.Omega.{arith}
 use native.Mathlib.Decide.{decLt, ℕ-discrete}
-use borrow.Author.Tests.{eqb-true, eqb-false, eq-eqb, ne-eqb, leb-true}
+use borrow.Author.Tests.{eqb-true, eqb-false, eq-eqb, ne-eqb, leb-true, not-false}
 use lib.Dec.{eqb, leb, ltb}
 use lib.ListN.{length, getD, set, replicate}
 use lib.Seq.{slice, getD-set-same, getD-set-other}
 use Rattle.model.specs.Base.{pick}
 use Rattle.model.specs.EId
 use Rattle.model.specs.Utf8.{isUtf8}
-use Rattle.model.specs.Drawing.{Element, Source, Event, events, valuesIn}
+use Rattle.model.specs.Drawing.{Command, opening, attribute, declaration, reading, closing, broken, Mark, past, Element, Source, Event, commands, eventsFrom, events, valuesIn}
+use Rattle.model.specs.Check.{State, starting, firstOf, stringTests, testsOf, stepped, checkFrom, check}
 use Rattle.model.specs.Tables.{Tree, Out, refused, done, then, ELEMENT, TEXT, word, kindOf, parentOf, fromOf, toOf, textOf, Entry, nodeRoom, attributeRoom, textRoom, addElement, addText, cleared, rooted}
 use Rattle.model.specs.Element.{entriesOf, mostNodes, parseSvgElement}
 use Rattle.model.specs.Text.{XmlSpace, default, preserve, spaceOf, getXmlspace, trimText, totalSize, joined, appendText, Trimming, stop, look, cut, cutText, run, TextNode, depthBelow, textNodes, ownTextNodes, trimming, trimTextNodes}
@@ -23,16 +24,18 @@ use Rattle.model.specs.Build.{Result, build, answered, withRepairs, withRoot, p
 use Rattle.model.specs.Repair.{Cut, applied, repairs, repaired}
 use Rattle.model.specs.Theorems.Laws.{appended-new, room-fits}
 use Rattle.model.specs.Theorems.Reach.{Within, within-trimming, own-collected}
+use Rattle.model.specs.Theorems.Sim.{Every, Events}
+use Rattle.model.specs.Theorems.Inside.{first-drop, check-cons, check-walk}
 use Rattle.model.specs.Theorems.Always.{Always, always-then}
 use Rattle.model.specs.Theorems.Whole.{build-checked, build-noted}
 use Rattle.standards.specs.SvgSpace.{NEWLINE, BLANK, RETURN, without, convert, asDefault, asPreserve}
 use Rattle.standards.specs.Theorems.Trimmings.{withText, told, run-told}
 use Rattle.standards.specs.Theorems.Shaved.{Shaved, whole, shaved-then, trimming-kept, shaved-shorter, shaved-visible, shaved-no-two, shaved-utf8}
 use Rattle.standards.specs.Theorems.Spaces.{NoTwo, trim-no-two, trim-visible}
-use Rattle.standards.specs.Theorems.Sequences.{trim-text-utf8}
+use Rattle.standards.specs.Theorems.Sequences.{trim-text-utf8, joined-utf8}
 use Rattle.standards.specs.Theorems.OneText.{OneText, one-text-default, one-text-preserve}
 use Rattle.standards.specs.Theorems.WholeTexts.{Held, always-test, element-held, text-held, finish-held, root-held, Noticed, lies, places, run-keeps, kind-cut, element-text, element-old, element-kind, old-text, text-old, new-word, new-text, made-fits, cuts-texts, own-rising}
-use Rattle.standards.specs.Theorems.Recursion.{AtLeast, inside-law, parsed-law}
+use Rattle.standards.specs.Theorems.Recursion.{TextsOf, AtLeast, inside-law, parsed-law}
 use Rattle.standards.specs.Theorems.SpaceStays.{Ranges, SameNodes, same-sees, space-seen, element-same, text-same, same-cut, repaired-space}
 
 -- SVG 1.1's text of a source by xml:space: for default of the source with its newlines made spaces (the difference of `default-is-standard`),
@@ -44,6 +47,10 @@ standardText preserve bs = asPreserve (convert RETURN NEWLINE bs)
 -- No other text node stands in its text element.
 abbrev pub Alone : Note → List Note → Type 0
 Alone k ns = (m : Note) → In m ns → m .elem ≡ k .elem → m .node ≡ k .node
+
+-- A text of the drawing is UTF-8.
+abbrev pub Spelled : List ℕ → Source → Type 0
+Spelled chars a = isUtf8 (slice (a .start) (a .start + a .size) chars) ≡ true
 
 module _ (chars : List ℕ) where
   -- The node has the standard's text, where the same xml:space is in force at its parent and at its text element.
@@ -66,6 +73,7 @@ module _ (chars : List ℕ) where
     pub ranges : Ranges (s .tree) (s .tree .nodeCount) (s .tree .attributeCount)
     pub elems : (k : Note) → In k (s .notes) → k .elem < k .node
     pub pinned : (k : Note) → In k (s .notes) → Pinned k (s .tree)
+    pub sources : (k : Note) → In k (s .notes) → Every (Spelled chars) (k .texts)
 
   -- Between text elements.
   record Outside (s : Noted) : Type 0 where
@@ -119,6 +127,7 @@ module _ (chars : List ℕ) where
       falls = λ i l. falls i l (decLt i (t .nodeCount));
       ranges = λ i l e. ranges i l e (decLt i (t .nodeCount));
       elems = h .elems;
+      sources = h .sources;
       pinned = λ k i. pinned-stays s h (addElement c es p t) (element-same c es p t) k i (element-text c es p t (k .node) (h .held .below k i .0));
     }
       where
@@ -163,7 +172,7 @@ module _ (chars : List ℕ) where
   -- A TEXT
 
   module _ (e : ℕ) (from : List Source) (p : ℕ) (s : Noted) (room : 8 * s .tree .nodeCount + 8 ≤ length (s .tree .nodes))
-      (space : s .tree .textCount + totalSize from ≤ length (s .tree .text)) (low : p < s .tree .nodeCount) where
+      (space : s .tree .textCount + totalSize from ≤ length (s .tree .text)) (low : p < s .tree .nodeCount) (spelled : Every (Spelled chars) from) where
     -- What `trim_text` makes of it.
     abbrev bytes : List ℕ
     bytes = trimText (spaceOf chars (s .tree) p) (joined chars from)
@@ -183,6 +192,7 @@ module _ (chars : List ℕ) where
         ranges = λ i l k. ranges i l k (decLt i (t .nodeCount));
         elems = λ k i. elems k i;
         pinned = λ k i. pinned k i;
+        sources = λ k i. sources k i;
       };
       there = omega (arith, h .there);
       old = λ k i l a. old k i l a;
@@ -218,6 +228,10 @@ module _ (chars : List ℕ) where
         elems : (k : Note) → In k (note ∷ s .notes) → k .elem < k .node
         elems k (inl q) = rw q (h .there)
         elems k (inr i) = h .sound .elems k i
+
+        sources : (k : Note) → In k (note ∷ s .notes) → Every (Spelled chars) (k .texts)
+        sources k (inl q) = rw q spelled
+        sources k (inr i) = h .sound .sources k i
 
         kept : (k : Note) → In k (s .notes) → textOf r (k .node) ≡ textOf t (k .node)
         kept k i =
@@ -388,6 +402,7 @@ module _ (chars : List ℕ) (e : ℕ) (s : Noted) (h : Inside chars e s) where
           let was = sym (n .kinds i b) ∙ q in
           rw (n .bounds i b was .1, c .1) (h .sound .ranges i b was);
       elems = h .sound .elems;
+      sources = h .sound .sources;
       pinned = λ k i. pinned-as chars s (h .sound) (run program tree) n k i (subst (λ (v : List ℕ). Shaved (textOf tree (k .node)) v) (sym (told-text k i))
           (trimming-kept (textOf tree) spaced e _ (own-rising chars tree spaced e (tree .nodeCount)) (k .node)));
     };
@@ -400,7 +415,7 @@ module _ (chars : List ℕ) (e : ℕ) (s : Noted) (h : Inside chars e s) where
 
 -- EVERY BUILD
 
-module _ (chars : List ℕ) (all : List Event) where
+module _ (chars : List ℕ) (all : List Event) (ok : TextsOf (Spelled chars) all) where
   element-step : (x : Element) (c : ℕ) (i : Bool) (p : ℕ) (s : Noted) → p < s .tree .nodeCount → (P : Noted → Type 0) →
       ((es : List Entry) → 8 * s .tree .nodeCount + 8 ≤ length (s .tree .nodes) → P (record { tree = addElement c es p (s .tree); notes = s .notes })) →
       Always P (noting (plain chars) .element x c i p s)
@@ -416,46 +431,46 @@ module _ (chars : List ℕ) (all : List Event) where
       (λ r k. k)
 
   outside-step : (x : Element) (c : ℕ) (i : Bool) (p : ℕ) (s : Noted) → p < s .tree .nodeCount → Outside chars s →
-      Always (AtLeast (noting (plain chars)) all (Outside chars) (s .tree .nodeCount + 1)) (noting (plain chars) .element x c i p s)
+      Always (AtLeast (noting (plain chars)) (Outside chars) (s .tree .nodeCount + 1)) (noting (plain chars) .element x c i p s)
   outside-step x c i p s l h = element-step x c i p s l _ (λ es room. (
     unfold grownBy in outside-element chars c es p s room l h,
     unfold addElement in omega arith,
   ))
 
   inside-step : (e : ℕ) (x : Element) (c p : ℕ) (s : Noted) → p < s .tree .nodeCount → Inside chars e s →
-      Always (AtLeast (noting (plain chars)) all (Inside chars e) (s .tree .nodeCount + 1)) (noting (plain chars) .element x c false p s)
+      Always (AtLeast (noting (plain chars)) (Inside chars e) (s .tree .nodeCount + 1)) (noting (plain chars) .element x c false p s)
   inside-step e x c p s l h = element-step x c false p s l _ (λ es room. (
     unfold grownBy in inside-element chars c es p s room l e h,
     unfold addElement in omega arith,
   ))
 
-  text-step : (e : ℕ) (from : List Source) (p : ℕ) (s : Noted) → p < s .tree .nodeCount → Inside chars e s →
-      Always (AtLeast (noting (plain chars)) all (Inside chars e) (s .tree .nodeCount + 1)) (noting (plain chars) .text e from p s)
+  text-step : (e : ℕ) (from : List Source) → Every (Spelled chars) from → (p : ℕ) (s : Noted) → p < s .tree .nodeCount → Inside chars e s →
+      Always (AtLeast (noting (plain chars)) (Inside chars e) (s .tree .nodeCount + 1)) (noting (plain chars) .text e from p s)
   unfolding appendText textRoom
-  text-step e from p s l h =
+  text-step e from sp p s l h =
       let t = s .tree in
       let ns = noteOf e from (t .nodeCount) (t .textCount) ∷ s .notes in
-      always-then (λ r. AtLeast (noting (plain chars)) all (Inside chars e) (t .nodeCount + 1) (record { tree = r; notes = ns }))
-      (AtLeast (noting (plain chars)) all (Inside chars e) (t .nodeCount + 1)) (appendText chars from p t) _
+      always-then (λ r. AtLeast (noting (plain chars)) (Inside chars e) (t .nodeCount + 1) (record { tree = r; notes = ns }))
+      (AtLeast (noting (plain chars)) (Inside chars e) (t .nodeCount + 1)) (appendText chars from p t) _
       (always-test _ (leb (t .textCount + totalSize from) (textRoom t)) _ _
       (λ a. always-test _ (ltb (t .nodeCount) (nodeRoom t)) _ _
       (λ b. (
-        unfold withIt in inside-text chars e from p s (room-fits t b) (omega (arith, leb-true (t .textCount + totalSize from) (textRoom t) a)) l h,
+        unfold withIt in inside-text chars e from p s (room-fits t b) (omega (arith, leb-true (t .textCount + totalSize from) (textRoom t) a)) l sp h,
         unfold addText in omega arith,
       ))
       (λ b k. omega arith)) (λ a k. omega arith))
       (λ r k. k)
 
-  label-step : (x : Element) (xs : List Event) (i : Bool) (p : ℕ) (s : Noted) → p < s .tree .nodeCount → Outside chars s →
-      Always (AtLeast (noting (plain chars)) all (Outside chars) (s .tree .nodeCount)) (label (noting (plain chars)) all x xs i p s)
-  label-step x xs i p s l h =
-      always-then (Inside chars (s .tree .nodeCount)) (AtLeast (noting (plain chars)) all (Outside chars) (s .tree .nodeCount))
+  label-step : (x : Element) (xs : List Event) → TextsOf (Spelled chars) xs → (i : Bool) (p : ℕ) (s : Noted) → p < s .tree .nodeCount → Outside chars s →
+      Always (AtLeast (noting (plain chars)) (Outside chars) (s .tree .nodeCount)) (label (noting (plain chars)) all x xs i p s)
+  label-step x xs ts i p s l h =
+      always-then (Inside chars (s .tree .nodeCount)) (AtLeast (noting (plain chars)) (Outside chars) (s .tree .nodeCount))
       (noting (plain chars) .element x EId.Text i p s) _
       (element-step x EId.Text i p s l _ (λ es room. begun es room (unfold grownBy in outside-element chars EId.Text es p s room l h)))
-      (λ r k. always-then (Inside chars (s .tree .nodeCount)) (AtLeast (noting (plain chars)) all (Outside chars) (s .tree .nodeCount))
+      (λ r k. always-then (Inside chars (s .tree .nodeCount)) (AtLeast (noting (plain chars)) (Outside chars) (s .tree .nodeCount))
       (inside (noting (plain chars)) all (s .tree .nodeCount) xs zero (s .tree .nodeCount) r) _
-      (inside-law (noting (plain chars)) all (s .tree .nodeCount) (Inside chars (s .tree .nodeCount)) (inside-step (s .tree .nodeCount)) (text-step (s .tree .nodeCount))
-      (λ q u b f. omega (arith, f .sound .falls q b)) xs zero (s .tree .nodeCount) r (k .there) k)
+      (inside-law (noting (plain chars)) all (Spelled chars) ok (s .tree .nodeCount) (Inside chars (s .tree .nodeCount)) (inside-step (s .tree .nodeCount)) (text-step (s .tree .nodeCount))
+      (λ q u b f. omega (arith, f .sound .falls q b)) xs ts zero (s .tree .nodeCount) r (k .there) k)
       (λ u f. (finish-outside chars (s .tree .nodeCount) u f, rw (ends u) (omega (arith, f .there)))))
     where
       ends : (u : Noted) → trimTextNodes chars (s .tree .nodeCount) (u .tree) .nodeCount ≡ u .tree .nodeCount
@@ -488,6 +503,7 @@ module _ (chars : List ℕ) (all : List Event) where
           absurd (omega arith);
       elems = λ k i. absurd i;
       pinned = λ k i. absurd i;
+      sources = λ k i. absurd i;
     };
     exact = λ k i a. absurd i;
   }
@@ -500,11 +516,46 @@ module _ (chars : List ℕ) (all : List Event) where
   tree-outside n m b =
       always-then (λ r. (0 < r .nodeCount) × Outside chars (record { tree = r; notes = [] })) (Outside chars) (withRoot (cleared n m b)) _
       (always-test _ (ltb 0 (nodeRoom (cleared n m b))) _ _ (λ h. (unfold rooted in omega arith, root-outside n m b h)) (λ h e. omega arith))
-      (λ r k. always-then (AtLeast (noting (plain chars)) all (Outside chars) (r .nodeCount)) (Outside chars)
+      (λ r k. always-then (AtLeast (noting (plain chars)) (Outside chars) (r .nodeCount)) (Outside chars)
       (parsed (noting (plain chars)) all (record { tree = r; notes = [] })) _
-      (parsed-law (noting (plain chars)) all (Outside chars) outside-step label-step (record { tree = r; notes = [] }) (k .0) (k .1))
+      (parsed-law (noting (plain chars)) all (Spelled chars) ok (Outside chars) outside-step label-step (record { tree = r; notes = [] }) (k .0) (k .1))
       (λ s g. always-then (λ u. Outside chars (record { tree = u; notes = s .notes })) (Outside chars) (tested (s .tree)) _
       (always-test _ (firstIsSvg (s .tree)) _ _ (λ e. g .0) (λ e f. omega arith)) (λ u k. k)))
+
+-- CHECK
+
+spelled-string : (chars : List ℕ) (size at l : ℕ) → firstOf (stringTests chars size at l) ≡ 0 → isUtf8 (slice at (at + l) chars) ≡ true
+spelled-string chars size at l h = not-false (isUtf8 (slice at (at + l) chars)) (first-drop 8 _ _ (first-drop 5 _ _ h .1) .0)
+
+-- The texts of commands that check has seen.
+texts-seen : (chars : List ℕ) (size : ℕ) (s : State) (m : Mark) (cs : List Command) → m .at ≡ s .at → checkFrom chars size s cs ≡ 0 →
+    TextsOf (Spelled chars) (eventsFrom chars m cs)
+unfolding eventsFrom testsOf stepped
+texts-seen chars size s m [] e h = tt
+texts-seen chars size s m (opening c n ∷ cs) e h =
+    (tt, texts-seen chars size _ (past m (opening c n)) cs (omega arith) (check-cons chars size s (opening c n) cs h .1))
+texts-seen chars size s m (attribute a n l ∷ cs) e h =
+    texts-seen chars size _ (past m (attribute a n l)) cs (omega arith) (check-cons chars size s (attribute a n l) cs h .1)
+texts-seen chars size s m (declaration a i l ∷ cs) e h =
+    texts-seen chars size _ (past m (declaration a i l)) cs (omega arith) (check-cons chars size s (declaration a i l) cs h .1)
+texts-seen chars size s m (reading k o l ∷ cs) e h =
+    texts-seen chars size _ (past m (reading k o l)) cs (omega arith) (check-cons chars size s (reading k o l) cs h .1)
+texts-seen chars size s m (Command.text l ∷ cs) e h =
+    let c = check-cons chars size s (Command.text l) cs h in
+    (
+      rw e (spelled-string chars size (s .at) l (first-drop 3 _ _ (first-drop 6 _ _ (c .0) .1) .1)),
+      texts-seen chars size _ (past m (Command.text l)) cs (omega arith) (c .1),
+    )
+texts-seen chars size s m (Command.other ∷ cs) e h =
+    texts-seen chars size _ (past m Command.other) cs (omega arith) (check-cons chars size s Command.other cs h .1)
+texts-seen chars size s m (closing ∷ cs) e h =
+    texts-seen chars size _ (past m closing) cs (omega arith) (check-cons chars size s closing cs h .1)
+texts-seen chars size s m (broken b ∷ cs) e h = tt
+
+texts-spelled : (script chars : List ℕ) → check script chars ≡ 0 → TextsOf (Spelled chars) (events script chars)
+unfolding events starting
+texts-spelled script chars h =
+    texts-seen chars (length chars) starting (record { number = 0; at = 0; texts = 0 }) (commands script) refl (check-walk script chars h)
 
 -- THEOREMS
 
@@ -513,6 +564,7 @@ record Texts (chars : List ℕ) (ns : List Note) (t : Tree) : Type 0 where
   pub noted : (i : ℕ) → i < t .nodeCount → kindOf t i ≡ TEXT → (k : Note) × In k ns × (k .node ≡ i)
   pub pinned : (k : Note) → In k ns → Pinned chars k t
   pub exact : (k : Note) → In k ns → Alone k ns → Exact chars k t
+  pub sources : (k : Note) → In k ns → Every (Spelled chars) (k .texts)
 
 -- The repairs keep it.
 repaired-texts : (chars : List ℕ) (s : Noted) (cs : List Cut) → Outside chars s → Texts chars (s .notes) (applied (s .tree) cs)
@@ -521,6 +573,7 @@ repaired-texts chars s cs h = record {
   noted = λ i l e. h .sound .held .noted i (rw (← c .2) l) (ap (λ (ns : List ℕ). getD ns (8 * i + 0) 0) (sym (c .0)) ∙ e);
   pinned = λ k i. subst (λ (v : XmlSpace). Shaved (trimText v (joined chars (k .texts))) (textOf r (k .node))) (sym (around k i))
       (subst (λ (v : List ℕ). Shaved (trimText (spaceOf chars t (parentOf t (k .node) - 1)) (joined chars (k .texts))) v) (sym (text k)) (h .sound .pinned k i));
+  sources = h .sound .sources;
   exact = λ k i a w p q. text k ∙ h .exact k i a w (sym (around k i) ∙ p) (sym (spaces (k .elem) (omega (arith, h .sound .elems k i, low k i))) ∙ q);
 }
   where
@@ -549,7 +602,7 @@ repaired-texts chars s cs h = record {
 all-texts : (script chars : List ℕ) (n m b : ℕ) → build script chars n m b .number ≡ 0 → Texts chars (notes script chars n m b) (build script chars n m b .tree)
 unfolding notes notesOf stripped repaired
 all-texts script chars n m b h = subst (λ (r : Result). Texts chars (notes script chars n m b) (r .tree)) (sym is)
-    (go (notedTree (plain chars) all (cleared n m b)) (tree-outside chars all n m b) (subst (λ (r : Result). r .number ≡ 0) is h))
+    (go (notedTree (plain chars) all (cleared n m b)) (tree-outside chars all (texts-spelled script chars (build-checked script chars n m b h)) n m b) (subst (λ (r : Result). r .number ≡ 0) is h))
   where
     all : List Event
     all = events script chars
@@ -594,6 +647,15 @@ module _ (chars : List ℕ) (k : Note) (t : Tree) (m : Pinned chars k t) where
   pub no-two-spaces : spaceOf chars t (parentOf t (k .node) - 1) ≡ default → NoTwo (textOf t (k .node))
   no-two-spaces e = shaved-no-two m (subst (λ (v : XmlSpace). NoTwo (trimText v (joined chars (k .texts)))) (sym e) (trim-no-two (joined chars (k .texts))))
 
-  -- Where its sources are UTF-8, as every text is that check takes, so is its text.
-  pub still-utf8 : isUtf8 (joined chars (k .texts)) ≡ true → isUtf8 (textOf t (k .node)) ≡ true
-  still-utf8 h = shaved-utf8 m (trim-text-utf8 (spaceOf chars t (parentOf t (k .node) - 1)) (joined chars (k .texts)) h)
+  -- Where its sources are UTF-8, so is its text.
+  spelled-text : Every (Spelled chars) (k .texts) → isUtf8 (textOf t (k .node)) ≡ true
+  spelled-text h = shaved-utf8 m (trim-text-utf8 (spaceOf chars t (parentOf t (k .node) - 1)) (joined chars (k .texts)) (joined-utf8 chars (k .texts) h))
+
+-- UTF-8. In every build that is accepted, the text of every text node is UTF-8.
+pub texts-utf8 : (script chars : List ℕ) (n m b : ℕ) → build script chars n m b .number ≡ 0 →
+    (i : ℕ) → i < build script chars n m b .tree .nodeCount → kindOf (build script chars n m b .tree) i ≡ TEXT → isUtf8 (textOf (build script chars n m b .tree) i) ≡ true
+texts-utf8 script chars n m b h i l e =
+    let f = all-texts script chars n m b h in
+    let q = f .noted i l e in
+    subst (λ (j : ℕ). isUtf8 (textOf (build script chars n m b .tree) j) ≡ true) (q .2)
+    (spelled-text chars (q .0) (build script chars n m b .tree) (f .pinned (q .0) (q .1)) (f .sources (q .0) (q .1)))
