@@ -1,12 +1,12 @@
 -- Every build: what every text node is made of, by the xml:space in force, and SVG 1.1's text of a node that is alone in its text element.
 use Prim.Native.Nat.{ℕ, zero, suc, _+_, _-_, _*_, _≤_, _<_}
 use mathlib.Core.Path.{_≡_, refl, sym, ap, ap₂, _∙_, subst}
-use mathlib.Core.Logic.{_⊎_, inl, inr}
-use mathlib.Core.Bool.{Bool, true, false, false≢true}
+use mathlib.Core.Logic.{inl, inr}
+use mathlib.Core.Bool.{Bool, true, false}
 use mathlib.Core.List.{List, [], _∷_}
 use native.Mathlib.Omega.{arith}
 use native.Mathlib.Decide.{decLt, ℕ-discrete}
-use borrow.Author.Tests.{eqb-true, eqb-false, eq-eqb, ne-eqb, leb-true, not-false}
+use borrow.Author.Tests.{eqb-true, eqb-false, ne-eqb, leb-true, not-false}
 use lib.Dec.{eqb, leb, ltb}
 use lib.ListN.{length, getD, set, replicate}
 use lib.Seq.{slice, getD-set-same, getD-set-other}
@@ -15,7 +15,7 @@ use Rattle.model.specs.EId
 use Rattle.model.specs.Utf8.{isUtf8}
 use Rattle.model.specs.Drawing.{Command, opening, attribute, declaration, reading, closing, broken, Mark, past, Element, Source, Event, commands, eventsFrom, events, valuesIn}
 use Rattle.model.specs.Check.{State, starting, firstOf, stringTests, testsOf, stepped, checkFrom, check}
-use Rattle.model.specs.Tables.{Tree, Out, refused, done, then, ELEMENT, TEXT, word, kindOf, parentOf, fromOf, toOf, textOf, Entry, nodeRoom, attributeRoom, textRoom, addElement, addText, cleared, rooted}
+use Rattle.model.specs.Tables.{Tree, Out, refused, done, ELEMENT, TEXT, word, kindOf, parentOf, toOf, textOf, Entry, nodeRoom, attributeRoom, textRoom, addElement, addText, cleared, rooted}
 use Rattle.model.specs.Element.{entriesOf, mostNodes, parseSvgElement}
 use Rattle.model.specs.Text.{XmlSpace, default, preserve, spaceOf, getXmlspace, trimText, totalSize, joined, appendText, Trimming, stop, look, cut, cutText, run, TextNode, depthBelow, textNodes, ownTextNodes, trimming, trimTextNodes}
 use Rattle.model.specs.Parse.{inside, label, plain}
@@ -24,21 +24,22 @@ use Rattle.model.specs.Build.{Result, build, answered, withRepairs, withRoot, p
 use Rattle.model.specs.Repair.{Cut, applied, repairs, repaired}
 use Rattle.model.specs.Theorems.Laws.{appended-new, room-fits}
 use Rattle.model.specs.Theorems.Reach.{Within, within-trimming, own-collected}
-use Rattle.model.specs.Theorems.Sim.{Every, Events}
+use Rattle.model.specs.Theorems.Sim.{Every}
 use Rattle.model.specs.Theorems.Inside.{first-drop, check-cons, check-walk}
 use Rattle.model.specs.Theorems.Always.{Always, always-then}
 use Rattle.model.specs.Theorems.Whole.{build-checked, build-noted}
 use Rattle.standards.specs.SvgSpace.{NEWLINE, BLANK, RETURN, without, convert, asDefault, asPreserve}
-use Rattle.standards.specs.Theorems.Trimmings.{withText, told, run-told}
+use Rattle.standards.specs.Theorems.Trimmings.{told, run-told}
 use Rattle.standards.specs.Theorems.Shaved.{Shaved, whole, shaved-then, trimming-kept, shaved-shorter, shaved-visible, shaved-no-two, shaved-utf8}
 use Rattle.standards.specs.Theorems.Spaces.{NoTwo, trim-no-two, trim-visible}
 use Rattle.standards.specs.Theorems.Sequences.{trim-text-utf8, joined-utf8}
-use Rattle.standards.specs.Theorems.OneText.{OneText, one-text-default, one-text-preserve}
-use Rattle.standards.specs.Theorems.WholeTexts.{Held, always-test, element-held, text-held, finish-held, root-held, Noticed, lies, places, run-keeps, kind-cut, element-text, element-old, element-kind, old-text, text-old, new-word, new-text, made-fits, cuts-texts, own-rising}
+use Rattle.standards.specs.Theorems.OneText.{one-text-default, one-text-preserve}
+use Rattle.standards.specs.Theorems.WholeTexts.{Held, always-test, element-held, text-held, finish-held, root-held, Noticed, lies, places, run-keeps, kind-cut, element-text, element-old, old-text, text-old, new-word, new-text, made-fits, cuts-texts, own-rising}
 use Rattle.standards.specs.Theorems.Recursion.{TextsOf, AtLeast, inside-law, parsed-law}
 use Rattle.standards.specs.Theorems.SpaceStays.{Ranges, SameNodes, same-sees, space-seen, element-same, text-same, same-cut, repaired-space}
 
--- SVG 1.1's text of a source by xml:space: for default of the source with its newlines made spaces (the difference of `default-is-standard`),
+-- SVG 1.1's text of a source by xml:space: for default of the source with its newlines made spaces (the difference of
+-- `default-is-standard`),
 -- carriage returns taken as newlines.
 abbrev pub standardText : XmlSpace → List ℕ → List ℕ
 standardText default bs = asDefault (convert NEWLINE BLANK (convert RETURN NEWLINE bs))
@@ -91,12 +92,15 @@ module _ (chars : List ℕ) where
 
   module _ (s : Noted) (h : Sound s) (r : Tree) (n : SameNodes (s .tree) r (s .tree .nodeCount) (s .tree .attributeCount)) where
     space-same : (i : ℕ) → i < s .tree .nodeCount → spaceOf chars r i ≡ spaceOf chars (s .tree) i
-    space-same = space-seen chars (s .tree) r (s .tree .nodeCount) (same-sees chars (s .tree) r (s .tree .nodeCount) (s .tree .attributeCount) (h .ranges) n) (h .falls)
+    space-same = space-seen chars (s .tree) r (s .tree .nodeCount)
+        (same-sees chars (s .tree) r (s .tree .nodeCount) (s .tree .attributeCount) (h .ranges) n) (h .falls)
 
-    parent-same : (k : Note) → In k (s .notes) → spaceOf chars r (parentOf r (k .node) - 1) ≡ spaceOf chars (s .tree) (parentOf (s .tree) (k .node) - 1)
+    parent-same : (k : Note) → In k (s .notes) → spaceOf chars r (parentOf r (k .node) - 1)
+        ≡ spaceOf chars (s .tree) (parentOf (s .tree) (k .node) - 1)
     parent-same k i =
         let b = h .held .below k i .0 in
-        ap (λ p. spaceOf chars r (p - 1)) (n .parents (k .node) b) ∙ space-same (parentOf (s .tree) (k .node) - 1) (omega (arith, h .falls (k .node) b))
+        ap (λ p. spaceOf chars r (p - 1)) (n .parents (k .node) b)
+        ∙ space-same (parentOf (s .tree) (k .node) - 1) (omega (arith, h .falls (k .node) b))
 
     elem-same : (k : Note) → In k (s .notes) → spaceOf chars r (k .elem) ≡ spaceOf chars (s .tree) (k .elem)
     elem-same k i = space-same (k .elem) (omega (arith, h .held .below k i .0, h .elems k i))
@@ -106,7 +110,8 @@ module _ (chars : List ℕ) where
 
     pinned-as : (k : Note) → In k (s .notes) → Shaved (textOf (s .tree) (k .node)) (textOf r (k .node)) → Pinned k r
     pinned-as k i e =
-        subst (λ (v : XmlSpace). Shaved (trimText v (joined chars (k .texts))) (textOf r (k .node))) (sym (parent-same k i)) (shaved-then (h .pinned k i) e)
+        subst (λ (v : XmlSpace). Shaved (trimText v (joined chars (k .texts))) (textOf r (k .node))) (sym (parent-same k i))
+        (shaved-then (h .pinned k i) e)
 
     pinned-stays : (k : Note) → In k (s .notes) → textOf r (k .node) ≡ textOf (s .tree) (k .node) → Pinned k r
     pinned-stays k i e = pinned-as k i (subst (λ (v : List ℕ). Shaved (textOf (s .tree) (k .node)) v) (sym e) whole)
@@ -116,7 +121,8 @@ module _ (chars : List ℕ) where
 
   -- AN ELEMENT
 
-  module _ (c : ℕ) (es : List Entry) (p : ℕ) (s : Noted) (room : 8 * s .tree .nodeCount + 8 ≤ length (s .tree .nodes)) (low : p < s .tree .nodeCount) where
+  module _ (c : ℕ) (es : List Entry) (p : ℕ) (s : Noted) (room : 8 * s .tree .nodeCount + 8 ≤ length (s .tree .nodes))
+      (low : p < s .tree .nodeCount) where
     grownBy : Noted
     grownBy = record { tree = addElement c es p (s .tree); notes = s .notes }
 
@@ -128,7 +134,8 @@ module _ (chars : List ℕ) where
       ranges = λ i l e. ranges i l e (decLt i (t .nodeCount));
       elems = h .elems;
       sources = h .sources;
-      pinned = λ k i. pinned-stays s h (addElement c es p t) (element-same c es p t) k i (element-text c es p t (k .node) (h .held .below k i .0));
+      pinned = λ k i. pinned-stays s h (addElement c es p t) (element-same c es p t) k i
+          (element-text c es p t (k .node) (h .held .below k i .0));
     }
       where
         t : Tree
@@ -156,7 +163,8 @@ module _ (chars : List ℕ) where
     unfolding grownBy
     outside-element h = record {
       sound = sound-element (h .sound);
-      exact = λ k i a. exact-stays s (h .sound) (addElement c es p (s .tree)) (element-same c es p (s .tree)) k i (text-stays k i (h .sound)) (h .exact k i a);
+      exact = λ k i a. exact-stays s (h .sound) (addElement c es p (s .tree)) (element-same c es p (s .tree)) k i
+          (text-stays k i (h .sound)) (h .exact k i a);
     }
 
     inside-element : (e : ℕ) → Inside e s → Inside e grownBy
@@ -164,15 +172,20 @@ module _ (chars : List ℕ) where
     inside-element e h = record {
       sound = sound-element (h .sound);
       there = unfold addElement in omega (arith, h .there);
-      old = λ k i l a. exact-stays s (h .sound) (addElement c es p (s .tree)) (element-same c es p (s .tree)) k i (text-stays k i (h .sound)) (h .old k i l a);
-      new = λ k i l. let f = h .new k i l in
-          (f .0, raw-stays s (h .sound) (addElement c es p (s .tree)) (element-same c es p (s .tree)) k i (text-stays k i (h .sound)) (f .1));
+      old = λ k i l a. exact-stays s (h .sound) (addElement c es p (s .tree)) (element-same c es p (s .tree)) k i
+          (text-stays k i (h .sound)) (h .old k i l a);
+      new = λ k i l. let f = h .new k i l in (
+        f .0,
+        raw-stays s (h .sound) (addElement c es p (s .tree)) (element-same c es p (s .tree)) k i (text-stays k i (h .sound))
+            (f .1),
+      );
     }
 
   -- A TEXT
 
   module _ (e : ℕ) (from : List Source) (p : ℕ) (s : Noted) (room : 8 * s .tree .nodeCount + 8 ≤ length (s .tree .nodes))
-      (space : s .tree .textCount + totalSize from ≤ length (s .tree .text)) (low : p < s .tree .nodeCount) (spelled : Every (Spelled chars) from) where
+      (space : s .tree .textCount + totalSize from ≤ length (s .tree .text)) (low : p < s .tree .nodeCount)
+      (spelled : Every (Spelled chars) from) where
     -- What `trim_text` makes of it.
     abbrev bytes : List ℕ
     bytes = trimText (spaceOf chars (s .tree) p) (joined chars from)
@@ -240,7 +253,8 @@ module _ (chars : List ℕ) where
 
         old : (k : Note) → In k (note ∷ s .notes) → k .node ≤ e → Alone k (note ∷ s .notes) → Exact k r
         old k (inl q) l a = let z : k .node ≡ t .nodeCount = ap (λ (m : Note). m .node) q in absurd (omega (arith, h .there))
-        old k (inr i) l a = exact-stays s (h .sound) r (text-same bytes (totalSize from) p t) k i (kept k i) (h .old k i l (λ m j. a m (inr j)))
+        old k (inr i) l a = exact-stays s (h .sound) r (text-same bytes (totalSize from) p t) k i (kept k i)
+            (h .old k i l (λ m j. a m (inr j)))
 
         short : length bytes ≤ totalSize from
         short = made-fits (spaceOf chars t p) chars from
@@ -253,7 +267,8 @@ module _ (chars : List ℕ) where
             ∙ space-same s (h .sound) r (text-same bytes (totalSize from) p t) p low)
 
         own : Raw note r
-        own w q = new-text bytes (totalSize from) p t room (omega (arith, short)) ∙ ap (λ (v : XmlSpace). trimText v (joined chars from)) (back ∙ q)
+        own w q = new-text bytes (totalSize from) p t room (omega (arith, short))
+            ∙ ap (λ (v : XmlSpace). trimText v (joined chars from)) (back ∙ q)
 
         pinned : (k : Note) → In k (note ∷ s .notes) → Pinned k r
         pinned k (inl q) = subst (λ (m : Note). Pinned m r) (sym q)
@@ -263,7 +278,11 @@ module _ (chars : List ℕ) where
 
         new : (k : Note) → In k (note ∷ s .notes) → e < k .node → (k .elem ≡ e) × Raw k r
         new k (inl q) l = subst (λ (m : Note). (m .elem ≡ e) × Raw m r) (sym q) (refl, own)
-        new k (inr i) l = let f = h .new k i l in (f .0, raw-stays s (h .sound) r (text-same bytes (totalSize from) p t) k i (kept k i) (f .1))
+        new k (inr i) l = let f = h .new k i l in (
+          f .0,
+          raw-stays s (h .sound) r (text-same bytes (totalSize from) p t) k i (kept k i)
+              (f .1),
+        )
 
 -- THE END OF A TEXT ELEMENT
 
@@ -276,13 +295,16 @@ told-else e (cut i a b k) f w j l =
     told-else e k _ (w .1) j l ∙ rw (ne-eqb j i (λ q. omega (arith, w .0))) refl
 
 -- Text nodes: none, or one.
-none-among : (chars : List ℕ) (t : Tree) (w : XmlSpace) (e n i : ℕ) → ((m : ℕ) → i ≤ m → m < i + n → kindOf t m ≡ TEXT → ⊥) → textNodes chars t w e i n ≡ []
+none-among : (chars : List ℕ) (t : Tree) (w : XmlSpace) (e n i : ℕ) → ((m : ℕ) → i ≤ m → m < i + n → kindOf t m ≡ TEXT → ⊥) →
+    textNodes chars t w e i n ≡ []
 unfolding textNodes
 none-among chars t w e zero i h = refl
-none-among chars t w e (suc n) i h = go (eqb (kindOf t i) TEXT) refl (none-among chars t w e n (i + 1) (λ m x y. h m (omega arith) (omega arith)))
+none-among chars t w e (suc n) i h = go (eqb (kindOf t i) TEXT) refl
+    (none-among chars t w e n (i + 1) (λ m x y. h m (omega arith) (omega arith)))
   where
     go : (b : Bool) → eqb (kindOf t i) TEXT ≡ b → textNodes chars t w e (i + 1) n ≡ [] →
-        pick b (λ u. record { node = i; depth = depthBelow t e i i; space = getXmlspace chars t (parentOf t i - 1) w } ∷ textNodes chars t w e (i + 1) n)
+        pick b (λ u. record { node = i; depth = depthBelow t e i i; space = getXmlspace chars t (parentOf t i - 1) w }
+        ∷ textNodes chars t w e (i + 1) n)
         (λ u. textNodes chars t w e (i + 1) n) ≡ []
     go true q r = absurd (h i (omega arith) (omega arith) (eqb-true (kindOf t i) TEXT q))
     go false q r = r
@@ -291,15 +313,26 @@ one-among : (chars : List ℕ) (t : Tree) (w : XmlSpace) (e n i j : ℕ) → i �
     ((m : ℕ) → i ≤ m → m < i + n → kindOf t m ≡ TEXT → m ≡ j) → (a : TextNode) × (a .node ≡ j) × (textNodes chars t w e i n ≡ a ∷ [])
 unfolding textNodes
 one-among chars t w e zero i j x y k h = absurd (omega arith)
-one-among chars t w e (suc n) i j x y k h = go (eqb (kindOf t i) TEXT) refl (λ z. one-among chars t w e n (i + 1) j z (omega arith) k (λ m u v. h m (omega arith) (omega arith)))
+one-among chars t w e (suc n) i j x y k h = go (eqb (kindOf t i) TEXT) refl
+    (λ z. one-among chars t w e n (i + 1) j z (omega arith) k (λ m u v. h m (omega arith) (omega arith)))
   where
-    go : (b : Bool) → eqb (kindOf t i) TEXT ≡ b → (i + 1 ≤ j → (a : TextNode) × (a .node ≡ j) × (textNodes chars t w e (i + 1) n ≡ a ∷ [])) →
-        (a : TextNode) × (a .node ≡ j) × (pick b (λ u. record { node = i; depth = depthBelow t e i i; space = getXmlspace chars t (parentOf t i - 1) w }
+    go : (b : Bool) → eqb (kindOf t i) TEXT ≡ b → (i + 1 ≤ j →
+        (a : TextNode) × (a .node ≡ j) × (textNodes chars t w e (i + 1) n ≡ a ∷ [])) →
+        (a : TextNode) × (a .node ≡ j) × (pick b (λ u. record {
+          node = i;
+          depth = depthBelow t e i i;
+          space =
+              getXmlspace chars t (parentOf t i - 1) w;
+        }
         ∷ textNodes chars t w e (i + 1) n) (λ u. textNodes chars t w e (i + 1) n) ≡ a ∷ [])
     go true q r =
         let z : i ≡ j = h i (omega arith) (omega arith) (eqb-true (kindOf t i) TEXT q) in
-        let a : TextNode = record { node = i; depth = depthBelow t e i i; space = getXmlspace chars t (parentOf t i - 1) w } in
-        (a, z, ap (λ l. a ∷ l) (none-among chars t w e n (i + 1) (λ m u v o. (let d : m ≡ j = h m (omega arith) (omega arith) o in omega arith))))
+        let a : TextNode = record { node = i; depth = depthBelow t e i i; space = getXmlspace chars t (parentOf t i - 1) w } in (
+          a,
+          z,
+          ap (λ l. a ∷ l) (none-among chars t w e n (i + 1)
+              (λ m u v o. (let d : m ≡ j = h m (omega arith) (omega arith) o in omega arith))),
+        )
     go false q r = r (at (ℕ-discrete i j))
       where
         at : Dec (i ≡ j) → i + 1 ≤ j
@@ -313,10 +346,11 @@ run-count (look i k) t = run-count (k (textOf t i)) t
 run-count (cut i a b k) t = run-count k (cutText i a b t)
 
 module _ (chars : List ℕ) (e : ℕ) (s : Noted) (h : Inside chars e s) where
-  -- The tree at the end, and the xml:space of the element.
+  -- The tree at the end.
   abbrev tree : Tree
   tree = s .tree
 
+  -- The xml:space of the element.
   abbrev spaced : XmlSpace
   spaced = spaceOf chars tree e
 
@@ -340,7 +374,16 @@ module _ (chars : List ℕ) (e : ℕ) (s : Noted) (h : Inside chars e s) where
         kinds = λ j. kind-cut i a b t j ∙ k .kinds j;
       })
       program (names (λ i. kindOf tree i ≡ TEXT) (λ j x y k. k)) tree
-      (record { nodes = record { kinds = λ i l. refl; parents = λ i l. refl; bounds = λ i l q. (refl, refl); entries = λ j l. refl }; kinds = λ j. refl })
+      (record {
+        nodes = record {
+          kinds = λ i l. refl;
+          parents = λ i l. refl;
+          bounds = λ i l q. (refl, refl);
+          entries =
+              λ j l. refl;
+        };
+        kinds = λ j. refl;
+      })
 
   ended : Tree
   ended = run program tree
@@ -348,7 +391,8 @@ module _ (chars : List ℕ) (e : ℕ) (s : Noted) (h : Inside chars e s) where
   told-text : (k : Note) → In k (s .notes) → textOf ended (k .node) ≡ told program (textOf tree) (k .node)
   unfolding ended
   told-text k i = run-told (Noticed chars s (h .sound .held)) program tree (textOf tree)
-      (names (Noticed chars s (h .sound .held)) (λ j x y q. h .sound .held .noted j y q)) (places chars s (h .sound .held)) (λ j q. refl) (k .node) (k, i, refl)
+      (names (Noticed chars s (h .sound .held)) (λ j x y q. h .sound .held .noted j y q)) (places chars s (h .sound .held))
+      (λ j q. refl) (k .node) (k, i, refl)
 
   old-exact : (k : Note) → In k (s .notes) → k .node ≤ e → Alone k (s .notes) → Exact chars k ended
   unfolding ended
@@ -373,7 +417,8 @@ module _ (chars : List ℕ) (e : ℕ) (s : Noted) (h : Inside chars e s) where
       same-parent = sym (parent-same chars s (h .sound) (run program tree) (leaves .nodes) k i) ∙ p
 
       same-elem : spaceOf chars tree e ≡ w
-      same-elem = ap (λ (j : ℕ). spaceOf chars tree j) (sym (h .new k i l .0)) ∙ sym (elem-same chars s (h .sound) (run program tree) (leaves .nodes) k i) ∙ q
+      same-elem = ap (λ (j : ℕ). spaceOf chars tree j) (sym (h .new k i l .0))
+          ∙ sym (elem-same chars s (h .sound) (run program tree) (leaves .nodes) k i) ∙ q
 
       byspace : (w : XmlSpace) → spaceOf chars tree e ≡ w → textOf tree (k .node) ≡ trimText w (joined chars (k .texts)) →
           textOf (trimTextNodes chars e tree) (k .node) ≡ standardText w (joined chars (k .texts))
@@ -394,20 +439,21 @@ module _ (chars : List ℕ) (e : ℕ) (s : Noted) (h : Inside chars e s) where
       let c = run-count program tree in
       let n = leaves .nodes in
       record {
-    sound = record {
-      held = finish-held chars s (h .sound .held) e;
-      falls = λ i l. let b : i < tree .nodeCount = subst (λ (m : ℕ). i < m) (c .0) l in rw (n .parents i b) (h .sound .falls i b);
-      ranges = λ i l q.
-          let b : i < tree .nodeCount = subst (λ (m : ℕ). i < m) (c .0) l in
-          let was = sym (n .kinds i b) ∙ q in
-          rw (n .bounds i b was .1, c .1) (h .sound .ranges i b was);
-      elems = h .sound .elems;
-      sources = h .sound .sources;
-      pinned = λ k i. pinned-as chars s (h .sound) (run program tree) n k i (subst (λ (v : List ℕ). Shaved (textOf tree (k .node)) v) (sym (told-text k i))
-          (trimming-kept (textOf tree) spaced e _ (own-rising chars tree spaced e (tree .nodeCount)) (k .node)));
-    };
-    exact = λ k i a. at k i a (decLt e (k .node));
-  }
+        sound = record {
+          held = finish-held chars s (h .sound .held) e;
+          falls = λ i l. let b : i < tree .nodeCount = subst (λ (m : ℕ). i < m) (c .0) l in rw (n .parents i b) (h .sound .falls i b);
+          ranges = λ i l q.
+              let b : i < tree .nodeCount = subst (λ (m : ℕ). i < m) (c .0) l in
+              let was = sym (n .kinds i b) ∙ q in
+              rw (n .bounds i b was .1, c .1) (h .sound .ranges i b was);
+          elems = h .sound .elems;
+          sources = h .sound .sources;
+          pinned = λ k i. pinned-as chars s (h .sound) (run program tree) n k i
+              (subst (λ (v : List ℕ). Shaved (textOf tree (k .node)) v) (sym (told-text k i))
+              (trimming-kept (textOf tree) spaced e _ (own-rising chars tree spaced e (tree .nodeCount)) (k .node)));
+        };
+        exact = λ k i a. at k i a (decLt e (k .node));
+      }
     where
       at : (k : Note) → In k (s .notes) → Alone k (s .notes) → Dec (e < k .node) → Exact chars k (run program tree)
       at k i a (yes l) = new-exact k i l a
@@ -417,7 +463,8 @@ module _ (chars : List ℕ) (e : ℕ) (s : Noted) (h : Inside chars e s) where
 
 module _ (chars : List ℕ) (all : List Event) (ok : TextsOf (Spelled chars) all) where
   element-step : (x : Element) (c : ℕ) (i : Bool) (p : ℕ) (s : Noted) → p < s .tree .nodeCount → (P : Noted → Type 0) →
-      ((es : List Entry) → 8 * s .tree .nodeCount + 8 ≤ length (s .tree .nodes) → P (record { tree = addElement c es p (s .tree); notes = s .notes })) →
+      ((es : List Entry) → 8 * s .tree .nodeCount + 8 ≤ length (s .tree .nodes) →
+      P (record { tree = addElement c es p (s .tree); notes = s .notes })) →
       Always P (noting (plain chars) .element x c i p s)
   unfolding parseSvgElement
   element-step x c i p s l P f =
@@ -455,13 +502,15 @@ module _ (chars : List ℕ) (all : List Event) (ok : TextsOf (Spelled chars) all
       (always-test _ (leb (t .textCount + totalSize from) (textRoom t)) _ _
       (λ a. always-test _ (ltb (t .nodeCount) (nodeRoom t)) _ _
       (λ b. (
-        unfold withIt in inside-text chars e from p s (room-fits t b) (omega (arith, leb-true (t .textCount + totalSize from) (textRoom t) a)) l sp h,
+        unfold withIt in inside-text chars e from p s (room-fits t b)
+            (omega (arith, leb-true (t .textCount + totalSize from) (textRoom t) a)) l sp h,
         unfold addText in omega arith,
       ))
       (λ b k. omega arith)) (λ a k. omega arith))
       (λ r k. k)
 
-  label-step : (x : Element) (xs : List Event) → TextsOf (Spelled chars) xs → (i : Bool) (p : ℕ) (s : Noted) → p < s .tree .nodeCount → Outside chars s →
+  label-step : (x : Element) (xs : List Event) → TextsOf (Spelled chars) xs → (i : Bool) (p : ℕ) (s : Noted) → p < s .tree .nodeCount →
+      Outside chars s →
       Always (AtLeast (noting (plain chars)) (Outside chars) (s .tree .nodeCount)) (label (noting (plain chars)) all x xs i p s)
   label-step x xs ts i p s l h =
       always-then (Inside chars (s .tree .nodeCount)) (AtLeast (noting (plain chars)) (Outside chars) (s .tree .nodeCount))
@@ -469,7 +518,8 @@ module _ (chars : List ℕ) (all : List Event) (ok : TextsOf (Spelled chars) all
       (element-step x EId.Text i p s l _ (λ es room. begun es room (unfold grownBy in outside-element chars EId.Text es p s room l h)))
       (λ r k. always-then (Inside chars (s .tree .nodeCount)) (AtLeast (noting (plain chars)) (Outside chars) (s .tree .nodeCount))
       (inside (noting (plain chars)) all (s .tree .nodeCount) xs zero (s .tree .nodeCount) r) _
-      (inside-law (noting (plain chars)) all (Spelled chars) ok (s .tree .nodeCount) (Inside chars (s .tree .nodeCount)) (inside-step (s .tree .nodeCount)) (text-step (s .tree .nodeCount))
+      (inside-law (noting (plain chars)) all (Spelled chars) ok (s .tree .nodeCount) (Inside chars (s .tree .nodeCount))
+      (inside-step (s .tree .nodeCount)) (text-step (s .tree .nodeCount))
       (λ q u b f. omega (arith, f .sound .falls q b)) xs ts zero (s .tree .nodeCount) r (k .there) k)
       (λ u f. (finish-outside chars (s .tree .nodeCount) u f, rw (ends u) (omega (arith, f .there)))))
     where
@@ -491,7 +541,8 @@ module _ (chars : List ℕ) (all : List Event) (ok : TextsOf (Spelled chars) all
   zero-at (suc n) zero = refl
   zero-at (suc n) (suc i) = zero-at n i
 
-  root-outside : (n m b : ℕ) → ltb 0 (nodeRoom (cleared n m b)) ≡ true → Outside chars (record { tree = rooted (cleared n m b); notes = [] })
+  root-outside : (n m b : ℕ) → ltb 0 (nodeRoom (cleared n m b)) ≡ true →
+      Outside chars (record { tree = rooted (cleared n m b); notes = [] })
   unfolding rooted cleared
   root-outside n m b h = record {
     sound = record {
@@ -515,10 +566,12 @@ module _ (chars : List ℕ) (all : List Event) (ok : TextsOf (Spelled chars) all
   unfolding notedTree withRoot notedParsed tested
   tree-outside n m b =
       always-then (λ r. (0 < r .nodeCount) × Outside chars (record { tree = r; notes = [] })) (Outside chars) (withRoot (cleared n m b)) _
-      (always-test _ (ltb 0 (nodeRoom (cleared n m b))) _ _ (λ h. (unfold rooted in omega arith, root-outside n m b h)) (λ h e. omega arith))
+      (always-test _ (ltb 0 (nodeRoom (cleared n m b))) _ _ (λ h. (unfold rooted in omega arith, root-outside n m b h))
+      (λ h e. omega arith))
       (λ r k. always-then (AtLeast (noting (plain chars)) (Outside chars) (r .nodeCount)) (Outside chars)
       (parsed (noting (plain chars)) all (record { tree = r; notes = [] })) _
-      (parsed-law (noting (plain chars)) all (Spelled chars) ok (Outside chars) outside-step label-step (record { tree = r; notes = [] }) (k .0) (k .1))
+      (parsed-law (noting (plain chars)) all (Spelled chars) ok (Outside chars) outside-step label-step
+      (record { tree = r; notes = [] }) (k .0) (k .1))
       (λ s g. always-then (λ u. Outside chars (record { tree = u; notes = s .notes })) (Outside chars) (tested (s .tree)) _
       (always-test _ (firstIsSvg (s .tree)) _ _ (λ e. g .0) (λ e f. omega arith)) (λ u k. k)))
 
@@ -541,8 +594,7 @@ texts-seen chars size s m (declaration a i l ∷ cs) e h =
 texts-seen chars size s m (reading k o l ∷ cs) e h =
     texts-seen chars size _ (past m (reading k o l)) cs (omega arith) (check-cons chars size s (reading k o l) cs h .1)
 texts-seen chars size s m (Command.text l ∷ cs) e h =
-    let c = check-cons chars size s (Command.text l) cs h in
-    (
+    let c = check-cons chars size s (Command.text l) cs h in (
       rw e (spelled-string chars size (s .at) l (first-drop 3 _ _ (first-drop 6 _ _ (c .0) .1) .1)),
       texts-seen chars size _ (past m (Command.text l)) cs (omega arith) (c .1),
     )
@@ -572,9 +624,11 @@ unfolding textOf
 repaired-texts chars s cs h = record {
   noted = λ i l e. h .sound .held .noted i (rw (← c .2) l) (ap (λ (ns : List ℕ). getD ns (8 * i + 0) 0) (sym (c .0)) ∙ e);
   pinned = λ k i. subst (λ (v : XmlSpace). Shaved (trimText v (joined chars (k .texts))) (textOf r (k .node))) (sym (around k i))
-      (subst (λ (v : List ℕ). Shaved (trimText (spaceOf chars t (parentOf t (k .node) - 1)) (joined chars (k .texts))) v) (sym (text k)) (h .sound .pinned k i));
+      (subst (λ (v : List ℕ). Shaved (trimText (spaceOf chars t (parentOf t (k .node) - 1)) (joined chars (k .texts))) v) (sym (text k))
+      (h .sound .pinned k i));
   sources = h .sound .sources;
-  exact = λ k i a w p q. text k ∙ h .exact k i a w (sym (around k i) ∙ p) (sym (spaces (k .elem) (omega (arith, h .sound .elems k i, low k i))) ∙ q);
+  exact = λ k i a w p q. text k ∙ h .exact k i a w (sym (around k i) ∙ p)
+      (sym (spaces (k .elem) (omega (arith, h .sound .elems k i, low k i))) ∙ q);
 }
   where
     t : Tree
@@ -599,10 +653,12 @@ repaired-texts chars s cs h = record {
     around k i = ap (λ (ns : List ℕ). spaceOf chars r (getD ns (8 * k .node + 1) 0 - 1)) (c .0)
         ∙ spaces (parentOf t (k .node) - 1) (omega (arith, h .sound .falls (k .node) (low k i), low k i))
 
-all-texts : (script chars : List ℕ) (n m b : ℕ) → build script chars n m b .number ≡ 0 → Texts chars (notes script chars n m b) (build script chars n m b .tree)
+all-texts : (script chars : List ℕ) (n m b : ℕ) → build script chars n m b .number ≡ 0 →
+    Texts chars (notes script chars n m b) (build script chars n m b .tree)
 unfolding notes notesOf stripped repaired
 all-texts script chars n m b h = subst (λ (r : Result). Texts chars (notes script chars n m b) (r .tree)) (sym is)
-    (go (notedTree (plain chars) all (cleared n m b)) (tree-outside chars all (texts-spelled script chars (build-checked script chars n m b h)) n m b) (subst (λ (r : Result). r .number ≡ 0) is h))
+    (go (notedTree (plain chars) all (cleared n m b)) (tree-outside chars all
+    (texts-spelled script chars (build-checked script chars n m b h)) n m b) (subst (λ (r : Result). r .number ≡ 0) is h))
   where
     all : List Event
     all = events script chars
@@ -617,7 +673,8 @@ all-texts script chars n m b h = subst (λ (r : Result). Texts chars (notes scri
     go (refused q) x h = absurd (x h)
     go (done s) x h = repaired-texts chars s (repairs chars (valuesIn all) (s .tree)) x
 
--- EVERY TEXT NODE. In every build that is accepted, every text node has a note of what it is made from, and its text is what `trim_text` made
+-- EVERY TEXT NODE. In every build that is accepted, every text node has a note of what it is made from, and its text is what `trim_text`
+-- made
 -- of these sources by the xml:space in force at its parent, with spaces taken off its ends. Every drawing with a text meets it.
 pub texts-made : (script chars : List ℕ) (n m b : ℕ) → build script chars n m b .number ≡ 0 →
     (i : ℕ) → i < build script chars n m b .tree .nodeCount → kindOf (build script chars n m b .tree) i ≡ TEXT →
@@ -626,7 +683,8 @@ texts-made script chars n m b h i l e =
     let f = all-texts script chars n m b h in
     let q = f .noted i l e in (q .0, q .1, q .2, f .pinned (q .0) (q .1))
 
--- ONE TEXT NODE. In every build that is accepted, a text node that is alone in its text element, where the same xml:space is in force at its
+-- ONE TEXT NODE. In every build that is accepted, a text node that is alone in its text element, where the same xml:space is in force at
+-- its
 -- parent and at its text element, has SVG 1.1's text of its sources by that xml:space. The drawing <text> a </text> has such a node, with
 -- default; <text xml:space="preserve"><tspan> a </tspan></text> has one with preserve. (`k` is the note that `texts-made` gives.)
 pub alone-is-standard : (script chars : List ℕ) (n m b : ℕ) → build script chars n m b .number ≡ 0 →
@@ -645,15 +703,18 @@ module _ (chars : List ℕ) (k : Note) (t : Tree) (m : Pinned chars k t) where
 
   -- Where default is in force at its parent, as in <text> a  b </text>, no two spaces stand in a row.
   pub no-two-spaces : spaceOf chars t (parentOf t (k .node) - 1) ≡ default → NoTwo (textOf t (k .node))
-  no-two-spaces e = shaved-no-two m (subst (λ (v : XmlSpace). NoTwo (trimText v (joined chars (k .texts)))) (sym e) (trim-no-two (joined chars (k .texts))))
+  no-two-spaces e = shaved-no-two m (subst (λ (v : XmlSpace). NoTwo (trimText v (joined chars (k .texts)))) (sym e)
+      (trim-no-two (joined chars (k .texts))))
 
   -- Where its sources are UTF-8, so is its text.
   spelled-text : Every (Spelled chars) (k .texts) → isUtf8 (textOf t (k .node)) ≡ true
-  spelled-text h = shaved-utf8 m (trim-text-utf8 (spaceOf chars t (parentOf t (k .node) - 1)) (joined chars (k .texts)) (joined-utf8 chars (k .texts) h))
+  spelled-text h = shaved-utf8 m (trim-text-utf8 (spaceOf chars t (parentOf t (k .node) - 1)) (joined chars (k .texts))
+      (joined-utf8 chars (k .texts) h))
 
 -- UTF-8. In every build that is accepted, the text of every text node is UTF-8.
 pub texts-utf8 : (script chars : List ℕ) (n m b : ℕ) → build script chars n m b .number ≡ 0 →
-    (i : ℕ) → i < build script chars n m b .tree .nodeCount → kindOf (build script chars n m b .tree) i ≡ TEXT → isUtf8 (textOf (build script chars n m b .tree) i) ≡ true
+    (i : ℕ) → i < build script chars n m b .tree .nodeCount → kindOf (build script chars n m b .tree) i ≡ TEXT →
+    isUtf8 (textOf (build script chars n m b .tree) i) ≡ true
 texts-utf8 script chars n m b h i l e =
     let f = all-texts script chars n m b h in
     let q = f .noted i l e in

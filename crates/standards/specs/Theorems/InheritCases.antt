@@ -77,9 +77,11 @@ pub any-space-case : (shown (attr AId.Space "preserve" ∷ say " a" ∷ []) ≡ 
 unfolding computed without convert noLeading noTrailing consolidated asDefault
 any-space-case = (refl, refl)
 
--- OTHER KEYWORDS. Of CSS's keywords for every property only `inherit` is known, and only in small letters: initial, unset and INHERIT stay as
+-- OTHER KEYWORDS. Of CSS's keywords for every property only `inherit` is known, and only in small letters: initial, unset and INHERIT
+-- stay as
 -- written. CSS Cascade, section 7.3, has the first two, and CSS keywords are the same in capital letters.
 pub keywords-case : (valued AId.Fill (decl AId.Fill 0 "initial" ∷ []) ≡ ascii "initial" ∷ [])
-    × (valued AId.Fill (decl AId.Fill 0 "unset" ∷ []) ≡ ascii "unset" ∷ []) × (valued AId.Fill (decl AId.Fill 0 "INHERIT" ∷ []) ≡ ascii "INHERIT" ∷ [])
+    × (valued AId.Fill (decl AId.Fill 0 "unset" ∷ []) ≡ ascii "unset" ∷ [])
+    × (valued AId.Fill (decl AId.Fill 0 "INHERIT" ∷ []) ≡ ascii "INHERIT" ∷ [])
 unfolding computed
 keywords-case = (refl, refl, refl)

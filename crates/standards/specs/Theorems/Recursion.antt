@@ -1,7 +1,7 @@
--- One law for what holds of every state of the recursion, where each step knows that its parent is a node of the tree, and the steps inside a
+-- One law for what holds of every state of the recursion, where each step knows that its parent is a node of the tree, and the steps
+-- inside a
 -- text element keep a fact of their own.
 use Prim.Native.Nat.{ℕ, zero, suc, _+_, _≤_, _<_}
-use mathlib.Core.Path.{_≡_}
 use mathlib.Core.Bool.{Bool, true, false, not}
 use mathlib.Core.List.{List, [], _∷_}
 use mathlib.Core.Option.{Option, none, some}
@@ -10,7 +10,7 @@ use lib.Dec.{eqb}
 use Rattle.model.specs.Base.{pick, and}
 use Rattle.model.specs.EId
 use Rattle.model.specs.Drawing.{Part, Element, Source, Event, begin, text, other, close, childrenFrom, hasId, firstWithId, linkedBy, useHref, hasTagName, quoted, mayCopy, copied, useTarget}
-use Rattle.model.specs.Tables.{Out, refused, done, then}
+use Rattle.model.specs.Tables.{Out, refused, done}
 use Rattle.model.specs.Text.{totalSize}
 use Rattle.model.specs.Parse.{Ops, Builder, each, refuse, tagOf, textTagOf, isTextContent, quote, inside, label, copy, level, node}
 use Rattle.model.specs.Build.{parsed}
@@ -70,7 +70,8 @@ module _ {S : Type 0} (o : Ops S) (all : List Event) (H : Source → Type 0) (ok
   -- INSIDE THE TEXT ELEMENT e
   module _ (e : ℕ) (P : S → Type 0)
       (el : (x : Element) (c p : ℕ) (s : S) → p < o .count s → P s → Always (AtLeast o P (o .count s + 1)) (o .element x c false p s))
-      (tx : (from : List Source) → Every H from → (p : ℕ) (s : S) → p < o .count s → P s → Always (AtLeast o P (o .count s + 1)) (o .text e from p s))
+      (tx : (from : List Source) → Every H from → (p : ℕ) (s : S) → p < o .count s → P s →
+      Always (AtLeast o P (o .count s + 1)) (o .text e from p s))
       (up : (p : ℕ) (s : S) → p < o .count s → P s → o .parent p s < o .count s) where
     pub inside-law : (xs : List Event) → TextsOf H xs → (k p : ℕ) (s : S) → p < o .count s → P s → Always P (inside o all e xs k p s)
     inside-law [] t k p s l h = h
@@ -80,7 +81,8 @@ module _ {S : Type 0} (o : Ops S) (all : List Event) (H : Source → Type 0) (ok
         always-pick P (eqb (x .code) EId.Tref) _ _
         (always-then (AtLeast o P (o .count s + 1)) P (quote o all e (quoted all x) (o .count s) r) _
         (always-pick (AtLeast o P (o .count s + 1)) (eqb (totalSize (quoted all x)) 0) _ _ g
-        (weaker (o .count r) (o .count s) (o .text e (quoted all x) (o .count s) r) (omega (arith, g .1)) (tx (quoted all x) (texts-quoted (λ e. Unit {0}) H all x ok) (o .count s) r (omega (arith, g .1)) (g .0))))
+        (weaker (o .count r) (o .count s) (o .text e (quoted all x) (o .count s) r) (omega (arith, g .1))
+        (tx (quoted all x) (texts-quoted (λ e. Unit {0}) H all x ok) (o .count s) r (omega (arith, g .1)) (g .0))))
         (λ q f. inside-law xs (t .1) 1 p q (omega (arith, f .1)) (f .0)))
         (inside-law xs (t .1) zero (o .count s) r (omega (arith, g .1)) (g .0))))
         (inside-law xs (t .1) 1 p s l h)
@@ -90,7 +92,8 @@ module _ {S : Type 0} (o : Ops S) (all : List Event) (H : Source → Type 0) (ok
         weaker n m (done q) l h = (h .0, omega (arith, h .1))
     inside-law (begin x ∷ xs) t (suc k) p s l h = inside-law xs (t .1) (suc (suc k)) p s l h
     inside-law (text a ∷ xs) t zero p s l h =
-        always-then (AtLeast o P (o .count s + 1)) P (o .text e (a ∷ []) p s) _ (tx (a ∷ []) (t .0, tt) p s l h) (λ r g. inside-law xs (t .1) zero p r (omega (arith, g .1)) (g .0))
+        always-then (AtLeast o P (o .count s + 1)) P (o .text e (a ∷ []) p s) _ (tx (a ∷ []) (t .0, tt) p s l h)
+        (λ r g. inside-law xs (t .1) zero p r (omega (arith, g .1)) (g .0))
     inside-law (text a ∷ xs) t (suc k) p s l h = inside-law xs (t .1) (suc k) p s l h
     inside-law (other ∷ xs) t k p s l h = inside-law xs t k p s l h
     inside-law (close ∷ xs) t zero p s l h = always-pick P (eqb p e) _ _ h (inside-law xs t zero (o .parent p s) s (up p s l h) h)
@@ -98,24 +101,29 @@ module _ {S : Type 0} (o : Ops S) (all : List Event) (H : Source → Type 0) (ok
 
   -- THE WHOLE
   module _ (P : S → Type 0)
-      (el : (x : Element) (c : ℕ) (i : Bool) (p : ℕ) (s : S) → p < o .count s → P s → Always (AtLeast o P (o .count s + 1)) (o .element x c i p s))
-      (lb : (x : Element) (xs : List Event) → TextsOf H xs → (i : Bool) (p : ℕ) (s : S) → p < o .count s → P s → Always (AtLeast o P (o .count s)) (label o all x xs i p s)) where
+      (el : (x : Element) (c : ℕ) (i : Bool) (p : ℕ) (s : S) → p < o .count s → P s →
+      Always (AtLeast o P (o .count s + 1)) (o .element x c i p s))
+      (lb : (x : Element) (xs : List Event) → TextsOf H xs → (i : Bool) (p : ℕ) (s : S) → p < o .count s → P s →
+      Always (AtLeast o P (o .count s)) (label o all x xs i p s)) where
     -- A way to build a node that keeps P and takes no node away.
     abbrev Keeps : Builder S → Type 0
-    Keeps f = (x : List Event) → TextsOf H x → (n : ℕ) (i : Bool) (p : ℕ) (s : S) → p < o .count s → P s → Always (AtLeast o P (o .count s)) (f x n i p s)
+    Keeps f = (x : List Event) → TextsOf H x → (n : ℕ) (i : Bool) (p : ℕ) (s : S) → p < o .count s → P s →
+        Always (AtLeast o P (o .count s)) (f x n i p s)
 
     more : (n m : ℕ) (x : Out S) → m ≤ n → Always (AtLeast o P n) x → Always (AtLeast o P m) x
     more n m (refused k) l h = h
     more n m (done q) l h = (h .0, omega (arith, h .1))
 
-    each-law : (f : Builder S) → Keeps f → (xs : List (List Event)) → Every (TextsOf H) xs → (n : ℕ) (i : Bool) (p : ℕ) (s : S) → p < o .count s → P s →
+    each-law : (f : Builder S) → Keeps f → (xs : List (List Event)) → Every (TextsOf H) xs → (n : ℕ) (i : Bool) (p : ℕ) (s : S) →
+        p < o .count s → P s →
         Always (AtLeast o P (o .count s)) (each f xs n i p s)
     each-law f k [] t n i p s l h = (h, omega arith)
     each-law f k (x ∷ xs) t n i p s l h =
         always-then (AtLeast o P (o .count s)) (AtLeast o P (o .count s)) (f x n i p s) _ (k x (t .0) n i p s l h)
         (λ r g. more (o .count r) (o .count s) (each f xs n i p r) (g .1) (each-law f k xs (t .1) n i p r (omega (arith, g .1)) (g .0)))
 
-    copy-law : (f : Builder S) → Keeps f → (xs : List Event) → TextsOf H xs → (n p : ℕ) (s : S) → p < o .count s → P s → Always (AtLeast o P (o .count s)) (copy o all f xs n p s)
+    copy-law : (f : Builder S) → Keeps f → (xs : List Event) → TextsOf H xs → (n p : ℕ) (s : S) → p < o .count s → P s →
+        Always (AtLeast o P (o .count s)) (copy o all f xs n p s)
     copy-law f k [] t n p s l h = (h, omega arith)
     copy-law f k (x ∷ xs) t n p s l h = k (x ∷ xs) t n true p s l h
 
@@ -127,10 +135,13 @@ module _ {S : Type 0} (o : Ops S) (all : List Event) (H : Source → Type 0) (ok
     level-law f g k m (begin x ∷ xs) t n i p s l h =
         always-pick (AtLeast o P (o .count s)) (and (hasTagName x) (not (eqb (x .code) EId.Style))) _ _
         (always-pick (AtLeast o P (o .count s)) (eqb (x .code) EId.Text) _ _ (lb x xs (t .1) i p s l h)
-        (always-then (AtLeast o P (o .count s + 1)) (AtLeast o P (o .count s)) (o .element x (tagOf x) i p s) _ (el x (tagOf x) i p s l h) (λ r q.
+        (always-then (AtLeast o P (o .count s + 1)) (AtLeast o P (o .count s)) (o .element x (tagOf x) i p s) _
+        (el x (tagOf x) i p s l h) (λ r q.
         always-pick (AtLeast o P (o .count s)) (eqb (x .code) EId.Use) _ _
-        (more (o .count r) (o .count s) (copy o all g (useTarget all x n) (x .number) (o .count s) r) (omega (arith, q .1)) (copy-law g m (useTarget all x n) (texts-target H all x n ok) (x .number) (o .count s) r (omega (arith, q .1)) (q .0)))
-        (more (o .count r) (o .count s) (each f (childrenFrom zero xs) n i (o .count s) r) (omega (arith, q .1)) (each-law f k (childrenFrom zero xs) (texts-children H zero xs (t .1)) n i (o .count s) r (omega (arith, q .1)) (q .0))))))
+        (more (o .count r) (o .count s) (copy o all g (useTarget all x n) (x .number) (o .count s) r) (omega (arith, q .1))
+        (copy-law g m (useTarget all x n) (texts-target H all x n ok) (x .number) (o .count s) r (omega (arith, q .1)) (q .0)))
+        (more (o .count r) (o .count s) (each f (childrenFrom zero xs) n i (o .count s) r) (omega (arith, q .1))
+        (each-law f k (childrenFrom zero xs) (texts-children H zero xs (t .1)) n i (o .count s) r (omega (arith, q .1)) (q .0))))))
         (h, omega arith)
 
     refuse-law : Keeps refuse

@@ -292,9 +292,27 @@ Ordered m ((f ∷ rs) ∷ rows) = (m ≤ f .first) × (f .first ≤ f .last) × 
 
 rows-ordered : Ordered 0 wellFormed
 unfolding wellFormed
-rows-ordered =
-    (omega arith, omega arith, (omega arith, omega arith, (omega arith, omega arith, (omega arith, omega arith, (omega arith, omega arith,
-    (omega arith, omega arith, (omega arith, omega arith, (omega arith, omega arith, (omega arith, omega arith, tt)))))))))
+rows-ordered = (
+  omega arith,
+  omega arith,
+  (
+    omega arith,
+    omega arith,
+    (
+      omega arith,
+      omega arith,
+      (
+        omega arith,
+        omega arith,
+        (
+          omega arith,
+          omega arith,
+          (omega arith, omega arith, (omega arith, omega arith, (omega arith, omega arith, (omega arith, omega arith, tt)))),
+        ),
+      ),
+    ),
+  ),
+)
 
 low-found : (rows : List (List Range)) (m : ℕ) → Ordered m rows → (b : ℕ) (xs : List ℕ) → eqb (sequenceOf rows (b ∷ xs)) 0 ≡ false → m ≤ b
 unfolding sequenceOf begins
@@ -317,13 +335,15 @@ record Again (rows : List (List Range)) (b : ℕ) (xs : List ℕ) : Type 0 where
   pub long : sequenceOf rows (b ∷ xs) ≡ suc (length ranges)
   pub same : (z : List ℕ) → begins ranges z ≡ true → sequenceOf rows (b ∷ z) ≡ suc (length ranges)
 
-again : (rows : List (List Range)) (m : ℕ) → Ordered m rows → HighRows rows → (b : ℕ) (xs : List ℕ) → eqb (sequenceOf rows (b ∷ xs)) 0 ≡ false →
+again : (rows : List (List Range)) (m : ℕ) → Ordered m rows → HighRows rows → (b : ℕ) (xs : List ℕ) →
+    eqb (sequenceOf rows (b ∷ xs)) 0 ≡ false →
     Again rows b xs
 unfolding sequenceOf begins
 again [] m o h b xs e = absurd (false≢true (sym e))
 again ([] ∷ rows) m o h b xs e = absurd h
 again ((f ∷ rs) ∷ rows) m o h b xs e =
-    go (isWithin b f) refl (begins rs xs) refl e (λ k. low-found rows (suc (f .last)) (o .2) b xs k) (λ k. again rows (suc (f .last)) (o .2) (h .1) b xs k)
+    go (isWithin b f) refl (begins rs xs) refl e (λ k. low-found rows (suc (f .last)) (o .2) b xs k)
+    (λ k. again rows (suc (f .last)) (o .2) (h .1) b xs k)
   where
     go : (x : Bool) → isWithin b f ≡ x → (y : Bool) → begins rs xs ≡ y →
         eqb (pick (pick x (λ u. y) (λ u. false)) (λ u. suc (length rs)) (λ u. sequenceOf rows (b ∷ xs))) 0 ≡ false →
@@ -347,7 +367,8 @@ begins-more (r ∷ rs) (x ∷ xs) ys h = go (isWithin x r) h (begins-more rs xs 
     go true h k = k h
     go false h k = absurd (false≢true h)
 
-append-from : (xs : List ℕ) (rs : List Range) (ys : List ℕ) → begins rs xs ≡ true → isUtf8From (length rs) xs ≡ true → isUtf8From 0 ys ≡ true →
+append-from : (xs : List ℕ) (rs : List Range) (ys : List ℕ) → begins rs xs ≡ true → isUtf8From (length rs) xs ≡ true →
+    isUtf8From 0 ys ≡ true →
     isUtf8From (length rs) (xs ++ ys) ≡ true
 unfolding begins isUtf8From
 append-from [] [] ys g u v = v
@@ -359,7 +380,8 @@ append-from (b ∷ xs) (r ∷ rs) ys g u v = append-from xs rs ys (tail (isWithi
     tail false h = absurd (false≢true h)
 append-from (b ∷ xs) [] ys g u v = go (eqb (sequenceOf wellFormed (b ∷ xs)) 0) refl u (λ rs c w. append-from xs rs ys c w v)
   where
-    go : (c : Bool) → eqb (sequenceOf wellFormed (b ∷ xs)) 0 ≡ c → pick c (λ u. false) (λ u. isUtf8From (sequenceOf wellFormed (b ∷ xs) - 1) xs) ≡ true →
+    go : (c : Bool) → eqb (sequenceOf wellFormed (b ∷ xs)) 0 ≡ c →
+        pick c (λ u. false) (λ u. isUtf8From (sequenceOf wellFormed (b ∷ xs) - 1) xs) ≡ true →
         ((rs : List Range) → begins rs xs ≡ true → isUtf8From (length rs) xs ≡ true → isUtf8From (length rs) (xs ++ ys) ≡ true) →
         isUtf8From 0 (b ∷ (xs ++ ys)) ≡ true
     go true e w k = absurd (false≢true w)
@@ -375,8 +397,10 @@ unfolding isUtf8
 append-utf8 xs ys h g = append-from xs [] ys (unfold begins in refl) h g
 
 -- The sources of a text node, one behind the other, where each is UTF-8.
-pub joined-utf8 : (chars : List ℕ) (from : List Source) → Every (λ (a : Source). isUtf8 (slice (a .start) (a .start + a .size) chars) ≡ true) from →
+pub joined-utf8 : (chars : List ℕ) (from : List Source) →
+    Every (λ (a : Source). isUtf8 (slice (a .start) (a .start + a .size) chars) ≡ true) from →
     isUtf8 (joined chars from) ≡ true
 unfolding joined
 joined-utf8 chars [] h = unfold isUtf8 isUtf8From in refl
-joined-utf8 chars (a ∷ from) h = append-utf8 (slice (a .start) (a .start + a .size) chars) (joined chars from) (h .0) (joined-utf8 chars from (h .1))
+joined-utf8 chars (a ∷ from) h = append-utf8 (slice (a .start) (a .start + a .size) chars) (joined chars from) (h .0)
+    (joined-utf8 chars from (h .1))

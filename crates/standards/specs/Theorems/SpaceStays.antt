@@ -1,19 +1,19 @@
 -- The xml:space in force at a node stays the same whatever is built, trimmed or repaired after it.
 use Prim.Native.Nat.{ℕ, zero, suc, _+_, _-_, _*_, _≤_, _<_}
 use mathlib.Core.Path.{_≡_, refl, sym, ap, _∙_, subst}
-use mathlib.Core.Logic.{_⊎_, inl, inr}
-use mathlib.Core.Bool.{Bool, true, false, not, false≢true}
+use mathlib.Core.Logic.{inl, inr}
+use mathlib.Core.Bool.{Bool, true, false}
 use mathlib.Core.List.{List, [], _∷_}
 use native.Mathlib.Omega.{arith}
-use native.Mathlib.Decide.{decLt, ℕ-discrete}
-use borrow.Author.Tests.{eqb-true, eqb-false, eq-eqb, ne-eqb}
+use native.Mathlib.Decide.{decLt}
+use borrow.Author.Tests.{eqb-true, eqb-false}
 use lib.Dec.{eqb}
-use lib.ListN.{length, getD, set}
+use lib.ListN.{getD, set}
 use lib.Seq.{getD-set-other}
 use Rattle.model.specs.Base.{pick, sameBytes}
 use Rattle.model.specs.AId
 use Rattle.model.specs.Tables.{Tree, ELEMENT, TEXT, word, kindOf, parentOf, fromOf, toOf, Entry, entryWord, entryAt, valueOf, valueAtEntry, findEntry, attributeId, hasAttribute, holderFrom, setText, setNone, addElement, addText}
-use Rattle.model.specs.Text.{XmlSpace, default, preserve, preserveWord, getXmlspace, spaceOf, cutText, cutFrom, cutTo}
+use Rattle.model.specs.Text.{default, preserve, preserveWord, getXmlspace, spaceOf, cutText, cutFrom, cutTo}
 use Rattle.model.specs.Repair.{Cut, cutName, cutEntry, applyCut, applied}
 use Rattle.model.specs.Theorems.Agree.{sets-out}
 use Rattle.model.specs.Theorems.Entries.{holder-falls, old-entry, none-others}
@@ -48,8 +48,10 @@ module _ (chars : List ℕ) (s r : Tree) (n : ℕ) (k : Sees chars s r n) (falls
   said-seen i l = rw (k .ids i l) (go (eqb (attributeId s i AId.Space) 0) refl)
     where
       go : (b : Bool) → eqb (attributeId s i AId.Space) 0 ≡ b →
-          pick b (λ u. default) (λ u. pick (sameBytes (valueAtEntry chars r (attributeId s i AId.Space)) preserveWord) (λ v. preserve) (λ v. default))
-          ≡ pick b (λ u. default) (λ u. pick (sameBytes (valueAtEntry chars s (attributeId s i AId.Space)) preserveWord) (λ v. preserve) (λ v. default))
+          pick b (λ u. default) (λ u. pick (sameBytes (valueAtEntry chars r (attributeId s i AId.Space)) preserveWord) (λ v. preserve)
+          (λ v. default))
+          ≡ pick b (λ u. default) (λ u. pick (sameBytes (valueAtEntry chars s (attributeId s i AId.Space)) preserveWord) (λ v. preserve)
+          (λ v. default))
       go true e = refl
       go false e = rw (k .values i l (eqb-false (attributeId s i AId.Space) 0 e)) refl
 
@@ -93,11 +95,13 @@ id-low t i a = go (eqb (kindOf t i) ELEMENT)
         at (yes l) = omega (arith, find-low t a (fromOf t i) (toOf t i - fromOf t i))
         at (no l) =
             let z : toOf t i - fromOf t i ≡ 0 = omega arith in
-            let e : findEntry t a (fromOf t i) (toOf t i - fromOf t i) ≡ 0 = ap (λ m. findEntry t a (fromOf t i) m) z ∙ none-found t a (fromOf t i) in
+            let e : findEntry t a (fromOf t i) (toOf t i - fromOf t i) ≡ 0 = ap (λ m. findEntry t a (fromOf t i) m) z
+            ∙ none-found t a (fromOf t i) in
             omega (arith, e)
     go false = omega arith
 
-find-below : (s r : Tree) (c a : ℕ) → ((j : ℕ) → j < c → entryWord r j 0 ≡ entryWord s j 0) → (j m : ℕ) → j + m ≤ c → findEntry r a j m ≡ findEntry s a j m
+find-below : (s r : Tree) (c a : ℕ) → ((j : ℕ) → j < c → entryWord r j 0 ≡ entryWord s j 0) → (j m : ℕ) → j + m ≤ c →
+    findEntry r a j m ≡ findEntry s a j m
 unfolding findEntry
 find-below s r c a h j zero l = refl
 find-below s r c a h j (suc m) l = rw (h j (omega arith), find-below s r c a h (j + 1) m (omega arith)) refl
@@ -125,7 +129,8 @@ id-kind : (t : Tree) (i a : ℕ) → (attributeId t i a ≡ 0 → ⊥) → kindO
 unfolding attributeId
 id-kind t i a = go (eqb (kindOf t i) ELEMENT) refl
   where
-    go : (b : Bool) → eqb (kindOf t i) ELEMENT ≡ b → (pick b (λ u. findEntry t a (fromOf t i) (toOf t i - fromOf t i)) (λ u. 0) ≡ 0 → ⊥) → kindOf t i ≡ ELEMENT
+    go : (b : Bool) → eqb (kindOf t i) ELEMENT ≡ b → (pick b (λ u. findEntry t a (fromOf t i) (toOf t i - fromOf t i)) (λ u. 0) ≡ 0 →
+        ⊥) → kindOf t i ≡ ELEMENT
     go true e h = eqb-true (kindOf t i) ELEMENT e
     go false e h = absurd (h refl)
 
@@ -161,7 +166,11 @@ pub element-same : (c : ℕ) (es : List Entry) (p : ℕ) (t : Tree) → SameNode
 element-same c es p t = record {
   kinds = λ i l. element-old c es p t i 0 l (omega arith) (λ x y. omega arith);
   parents = λ i l. element-old c es p t i 1 l (omega arith) (λ x y. omega arith);
-  bounds = λ i l e. (element-old c es p t i 6 l (omega arith) (λ x y. omega arith), element-old c es p t i 7 l (omega arith) (λ x y. omega arith));
+  bounds = λ i l e. (
+    element-old c es p t i 6 l (omega arith) (λ x y. omega arith),
+    element-old c es p t i 7 l (omega arith)
+        (λ x y. omega arith),
+  );
   entries = λ j l. old-entry c es p t j (λ x y. omega arith);
 }
 
@@ -171,7 +180,11 @@ pub text-same : (bs : List ℕ) (n p : ℕ) (t : Tree) → SameNodes t (addText 
 text-same bs n p t = record {
   kinds = λ i l. text-old bs n p t i 0 l (omega arith) (λ x y. omega arith);
   parents = λ i l. text-old bs n p t i 1 l (omega arith) (λ x y. omega arith);
-  bounds = λ i l e. (text-old bs n p t i 6 l (omega arith) (λ x y. omega arith), text-old bs n p t i 7 l (omega arith) (λ x y. omega arith));
+  bounds = λ i l e. (
+    text-old bs n p t i 6 l (omega arith) (λ x y. omega arith),
+    text-old bs n p t i 7 l (omega arith)
+        (λ x y. omega arith),
+  );
   entries = λ j l. unfold entryAt addText in refl;
 }
 
@@ -180,7 +193,8 @@ text-same bs n p t = record {
 word-cut : (i a b : ℕ) (t : Tree) (j k : ℕ) → k < 6 → word (cutText i a b t .nodes) j k ≡ word (t .nodes) j k
 unfolding cutText setText
 word-cut i a b t j k l =
-    getD-set-other (set (t .nodes) (8 * i + 6) (cutFrom (fromOf t i) (toOf t i) a)) (8 * i + 7) (8 * j + k) (cutTo (fromOf t i) (toOf t i) a b) 0 (omega arith)
+    getD-set-other (set (t .nodes) (8 * i + 6) (cutFrom (fromOf t i) (toOf t i) a)) (8 * i + 7) (8 * j + k)
+    (cutTo (fromOf t i) (toOf t i) a b) 0 (omega arith)
     ∙ getD-set-other (t .nodes) (8 * i + 6) (8 * j + k) (cutFrom (fromOf t i) (toOf t i) a) 0 (omega arith)
 
 entries-cut : (i a b : ℕ) (t : Tree) (j : ℕ) → entryAt (cutText i a b t) j ≡ entryAt t j
@@ -188,7 +202,8 @@ unfolding cutText setText entryAt
 entries-cut i a b t j = refl
 
 -- What a cut of a text node leaves as it was in s.
-pub same-cut : (s : Tree) (n c i a b : ℕ) (t : Tree) → kindOf t i ≡ TEXT → ((j : ℕ) → kindOf t j ≡ kindOf s j) → SameNodes s t n c → SameNodes s (cutText i a b t) n c
+pub same-cut : (s : Tree) (n c i a b : ℕ) (t : Tree) → kindOf t i ≡ TEXT → ((j : ℕ) → kindOf t j ≡ kindOf s j) → SameNodes s t n c →
+    SameNodes s (cutText i a b t) n c
 same-cut s n c i a b t k f h = record {
   kinds = λ j l. word-cut i a b t j 0 (omega arith) ∙ h .kinds j l;
   parents = λ j l. word-cut i a b t j 1 (omega arith) ∙ h .parents j l;
@@ -228,7 +243,8 @@ none-id j t i a = go (eqb (kindOf t i) ELEMENT)
     same-nodes : setNone j t .nodes ≡ t .nodes
     same-nodes = refl
 
-    go : (b : Bool) → pick (eqb (kindOf (setNone j t) i) ELEMENT) (λ u. findEntry (setNone j t) a (fromOf (setNone j t) i) (toOf (setNone j t) i - fromOf (setNone j t) i)) (λ u. 0)
+    go : (b : Bool) → pick (eqb (kindOf (setNone j t) i) ELEMENT)
+        (λ u. findEntry (setNone j t) a (fromOf (setNone j t) i) (toOf (setNone j t) i - fromOf (setNone j t) i)) (λ u. 0)
         ≡ pick (eqb (kindOf t i) ELEMENT) (λ u. findEntry t a (fromOf t i) (toOf t i - fromOf t i)) (λ u. 0)
     go b = rw (same-nodes, none-find j t a (fromOf t i) (toOf t i - fromOf t i)) refl
 
@@ -250,9 +266,11 @@ cut-space chars c t falls i l = go (eqb (cutEntry t (c .pass) (c .node)) 0) refl
     go true e = refl
     go false e = space-seen chars t (setNone (cutEntry t (c .pass) (c .node) - 1) t) (t .nodeCount)
         (none-sees chars (cutEntry t (c .pass) (c .node) - 1) (t .nodeCount) t
-        (λ q. cut-other (c .pass) (sym (id-name t (c .node) (cutName (c .pass)) (eqb-false (cutEntry t (c .pass) (c .node)) 0 e)) ∙ q))) falls i l
+        (λ q. cut-other (c .pass) (sym (id-name t (c .node) (cutName (c .pass)) (eqb-false (cutEntry t (c .pass) (c .node)) 0 e)) ∙ q)))
+        falls i l
 
-pub repaired-space : (chars : List ℕ) (cs : List Cut) (t : Tree) → ((i : ℕ) → i < t .nodeCount → parentOf t i ≤ i) → (i : ℕ) → i < t .nodeCount →
+pub repaired-space : (chars : List ℕ) (cs : List Cut) (t : Tree) → ((i : ℕ) → i < t .nodeCount → parentOf t i ≤ i) → (i : ℕ) →
+    i < t .nodeCount →
     spaceOf chars (applied t cs) i ≡ spaceOf chars t i
 unfolding applied
 repaired-space chars [] t falls i l = refl

@@ -1,37 +1,28 @@
 -- Text nodes in the tables of a build: what an element, a text, a trimming and the repairs keep of them.
 use Prim.Native.Nat.{ℕ, zero, suc, _+_, _-_, _*_, _≤_, _<_}
-use mathlib.Core.Path.{_≡_, refl, sym, ap, ap₂, _∙_, subst}
+use mathlib.Core.Path.{_≡_, refl, sym, ap, _∙_}
 use mathlib.Core.Logic.{_⊎_, inl, inr}
 use mathlib.Core.Bool.{Bool, true, false}
 use mathlib.Core.List.{List, [], _∷_}
 use native.Mathlib.Omega.{arith}
 use native.Mathlib.Decide.{decLt}
-use borrow.Author.Tests.{leb-true}
-use lib.Dec.{eqb, leb, ltb}
+use lib.Dec.{eqb, ltb}
 use lib.ListN.{length, getD, set, take, replicate, length-set, length-take, length-drop, length-append}
 use lib.Seq.{sets, slice, getD-set-same, getD-set-other, length-sets, ext-getD, getD-take, getD-drop, length-slice}
 use Rattle.model.specs.Base.{pick, and}
-use Rattle.model.specs.Utf8.{isUtf8}
-use Rattle.model.specs.Drawing.{Element, Source, Event, events, valuesIn}
-use Rattle.model.specs.Tables.{Tree, Out, refused, done, ELEMENT, TEXT, word, kindOf, parentOf, fromOf, toOf, textOf, setText, Entry, nodeRoom, attributeRoom, textRoom, addElement, addText, cleared, rooted, setNone}
-use Rattle.model.specs.Element.{entriesOf, mostNodes, parseSvgElement}
-use Rattle.model.specs.Text.{XmlSpace, default, isDefault, SPACE, converted, trimTextAfter, trimText, totalSize, joined, spaceOf, getXmlspace, appendText, Trimming, stop, look, cut, cutText, cutFrom, cutTo, run, depthBelow, textNodes, ownTextNodes, trimming, trimTextNodes}
-use Rattle.model.specs.Parse.{plain}
-use Rattle.model.specs.Noted.{Note, size, Noted, In, noteOf, noting, notedParsed, notedTree, notesOf, notes, stripped}
-use Rattle.model.specs.Repair.{Cut, cutEntry, applyCut, applied, repairs, repaired}
-use Rattle.model.specs.Build.{Result, build, answered, withRepairs, withRoot, parsed, tested, firstIsSvg}
+use Rattle.model.specs.Drawing.{Source}
+use Rattle.model.specs.Tables.{Tree, Out, ELEMENT, TEXT, word, kindOf, parentOf, fromOf, toOf, textOf, setText, Entry, nodeRoom, addElement, addText, cleared, rooted, setNone}
+use Rattle.model.specs.Text.{XmlSpace, isDefault, SPACE, converted, trimTextAfter, trimText, totalSize, joined, spaceOf, getXmlspace, Trimming, stop, look, cut, cutText, cutFrom, cutTo, run, depthBelow, textNodes, ownTextNodes, trimming, trimTextNodes}
+use Rattle.model.specs.Noted.{Note, size, Noted, In, noteOf, notes}
+use Rattle.model.specs.Repair.{Cut, cutEntry, applyCut, applied}
 use Rattle.model.specs.Theorems.Laws.{appended-old, appended-new, room-fits}
 use Rattle.model.specs.Theorems.Agree.{agree-outs, agree-slice, sets-in}
 use Rattle.model.specs.Theorems.Unused.{element-lengths, text-lengths}
 use Rattle.model.specs.Theorems.Good.{Fits, Apart}
 use Rattle.model.specs.Theorems.Reach.{Within, within-trimming, own-collected}
-use Rattle.model.specs.Theorems.Always.{Always, always-then, parsed-always}
-use Rattle.model.specs.Theorems.Whole.{build-checked, build-noted}
-use Rattle.standards.specs.SvgSpace.{NEWLINE, BLANK, RETURN, without, convert, asPreserve}
-use Rattle.standards.specs.Theorems.Spaces.{NoTwo, trim-no-two, trim-visible}
-use Rattle.standards.specs.Theorems.Sequences.{trim-text-utf8}
-use Rattle.standards.specs.Theorems.Trimmings.{told, Placed, within-cut, placed-cut, lengths, run-told}
-use Rattle.standards.specs.Theorems.Shaved.{Shaved, whole, shaved-then, Rising, trimming-kept, shaved-shorter, shaved-visible, shaved-no-two, shaved-utf8}
+use Rattle.model.specs.Theorems.Always.{Always}
+use Rattle.standards.specs.Theorems.Trimmings.{Placed, within-cut, placed-cut, lengths}
+use Rattle.standards.specs.Theorems.Shaved.{Rising}
 
 -- TEXTS AFTER AN APPEND
 
