@@ -14,6 +14,7 @@ pub mod Inheritance
 pub mod Cascade
 pub mod Attributes
 pub mod Stored
+pub mod HrefInTree
 pub mod CascadeCases
 pub mod Properties
 pub mod InheritCases

@@ -136,10 +136,10 @@ tree-value-stands x tag g p t q h a = first (leb (t .attributeCount + length es)
 
 -- IMPORTANCE. A declaration of a presentation name whose value is not `inherit` comes to an entry with the declaration's own importance: so
 -- what counts as important for the two rules is what is written in the drawing, and only `inherit` brings another importance.
-not-name : (a k : ℕ) → isPresentation a ≡ true → isPresentation k ≡ false → eqb a k ≡ false
+pub not-name : (a k : ℕ) → isPresentation a ≡ true → isPresentation k ≡ false → eqb a k ≡ false
 not-name a k h n = ne-eqb a k (λ e. false≢true (sym n ∙ subst (λ (b : ℕ). isPresentation b ≡ true) e h))
 
-no-such : (isPresentation AId.Style ≡ false) × (isPresentation AId.Class ≡ false) × (isPresentation AId.Href ≡ false)
+pub no-such : (isPresentation AId.Style ≡ false) × (isPresentation AId.Class ≡ false) × (isPresentation AId.Href ≡ false)
 unfolding isPresentation among
 no-such = (refl, refl, refl)
 
