@@ -15,6 +15,7 @@ pub mod Cascade
 pub mod Attributes
 pub mod Stored
 pub mod HrefInTree
+pub mod AsWritten
 pub mod CascadeCases
 pub mod Properties
 pub mod InheritCases

@@ -6,19 +6,19 @@ use mathlib.Core.List.{List, [], _∷_, _++_, map}
 use mathlib.Core.Option.{Option, none, some}
 use lib.Dec.{eqb}
 use lib.ListN.{length}
-use Rattle.model.specs.Base.{pick, and, given, orElse, folded, Pair}
+use Rattle.model.specs.Base.{pick, and, given, orElse, Pair}
 use Rattle.model.specs.Names.{isPresentation, fontResets}
 use Rattle.model.specs.EId
 use Rattle.model.specs.AId
 use Rattle.model.specs.Drawing.{Part, Declaration, Element, readingOf}
-use Rattle.model.specs.Tables.{Tree, Out, done, Entry}
-use Rattle.model.specs.Element.{marker, addAttribute, fontParts, isRead, parseSvgElement}
+use Rattle.model.specs.Tables.{Tree, done, Entry}
+use Rattle.model.specs.Element.{marker, fontParts, isRead, parseSvgElement}
 use Rattle.model.specs.Theorems.Sim.{Every}
 use Rattle.standards.specs.CssCascade.{those, lastOf, firstOf}
 use Rattle.standards.specs.SvgHref.{NONE, hrefs, usedHref}
 use Rattle.standards.specs.Theorems.Inheritance.{ownEntry}
 use Rattle.standards.specs.Theorems.Cascade.{kept, isImportant, Longhand, longhand, resetLonghand, partLonghands, writtenOut, allWrittenOut, applying, asList, attributeEntry}
-use Rattle.standards.specs.Theorems.Attributes.{hrefEntry, hrefEntryOf, tree-href-used}
+use Rattle.standards.specs.Theorems.Attributes.{hrefEntryOf, tree-href-used}
 use Rattle.standards.specs.Theorems.Stored.{not-name, no-such, tree-value-stands}
 
 -- A longhand of another name.
@@ -35,7 +35,8 @@ every-append [] ys h g = g
 every-append (x ∷ xs) ys h g = (h .0, every-append xs ys (h .1) g)
 
 module _ (t : Tree) (p tag : ℕ) (d : Declaration) where
-  resets-other : (rs : List Pair) → Every (λ (r : Pair). eqb (r .key) AId.Href ≡ false) rs → Every NotHref (map (resetLonghand t p tag d) rs)
+  resets-other : (rs : List Pair) → Every (λ (r : Pair). eqb (r .key) AId.Href ≡ false) rs →
+      Every NotHref (map (resetLonghand t p tag d) rs)
   resets-other [] h = tt
   resets-other (r ∷ rs) h = (h .0, resets-other rs (h .1))
 
@@ -51,7 +52,8 @@ module _ (t : Tree) (p tag : ℕ) (d : Declaration) where
 
   out-other : Every NotHref (writtenOut t p tag d)
   unfolding writtenOut fontResets fontParts
-  out-other = go (eqb (d .name) marker) (eqb (d .name) AId.Font) (and (isRead t p tag d 9) (isRead t p tag d 10)) (isPresentation (d .name)) refl
+  out-other = go (eqb (d .name) marker) (eqb (d .name) AId.Font) (and (isRead t p tag d 9) (isRead t p tag d 10))
+      (isPresentation (d .name)) refl
     where
       v : Part
       v = d .value .part
@@ -88,9 +90,11 @@ alone-kept (some e) = go (eqb (e .important) 0)
     go true = refl
     go false = refl
 
--- THEOREM. An element that is built, other than a tspan, with at most one href in no namespace, as in every XML document: the tree's entry of
+-- THEOREM. An element that is built, other than a tspan, with at most one href in no namespace, as in every XML document: the tree's
+-- entry of
 -- href is the one that SVG 2 says, whatever the order of the attributes. <use xlink:href="#a" href="#b"/> meets it.
-pub href-in-tree : (x : Element) (tag : ℕ) (g : Bool) (p : ℕ) (t q : Tree) → parseSvgElement x tag g p t ≡ done q → eqb tag EId.Tspan ≡ false →
+pub href-in-tree : (x : Element) (tag : ℕ) (g : Bool) (p : ℕ) (t q : Tree) → parseSvgElement x tag g p t ≡ done q →
+    eqb tag EId.Tspan ≡ false →
     length (hrefs NONE (x .attributes)) ≤ 1 → ownEntry q AId.Href (t .nodeCount) ≡ hrefEntryOf (usedHref (x .attributes))
 href-in-tree x tag g p t q h s l =
     tree-value-stands x tag g p t q h AId.Href
