@@ -38,8 +38,7 @@ abbrev pub EnableBackground : ℕ
 EnableBackground = 29
 
 -- The table. Of SVG 1.1's index it has every property that has a code: `font` and `marker` are shorthands, and the list of names has
--- neither
--- cursor nor pointer-events. overflow is CSS 2.1's, to which the index refers.
+-- neither cursor nor pointer-events. overflow is CSS 2.1's, to which the index refers.
 unfoldable pub properties : List Property
 properties =
     -- SVG 1.1, appendix N, the property index

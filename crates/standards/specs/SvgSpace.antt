@@ -76,8 +76,7 @@ Free c (b ∷ bs) = (eqb b c ≡ false) × Free c bs
 -- WHICH xml:space IS IN FORCE
 
 -- XML 1.0, section 2.10, and SVG 1.1, section 10.15: what an element says holds for it and for all within it, unless one within says
--- otherwise;
--- where none says anything it is the default. `said` is what an element and those around it say, the innermost first.
+-- otherwise; where none says anything it is the default. `said` is what an element and those around it say, the innermost first.
 unfoldable pub inForce : {A : Type 0} → List (Option A) → A → A
 inForce [] d = d
 inForce (some w ∷ said) d = w

@@ -1,6 +1,5 @@
--- The cascade by the importance that is written in the drawing: for an element without `inherit` the value is the cascade's winner
--- wherever at
--- most one declaration of the name is marked as important.
+-- The cascade by the importance that is written in the drawing: for an element without `inherit` the value is the cascade's winner wherever
+-- at most one declaration of the name is marked as important.
 use Prim.Native.Nat.{ℕ, suc, _≤_}
 use mathlib.Core.Path.{_≡_, refl, sym, ap, _∙_, subst}
 use mathlib.Core.Bool.{Bool, true, false, not, false≢true}
@@ -255,8 +254,8 @@ hint-match a none ls es h g = g
 hint-match a (some e) ls es h g = ((refl, h), g)
 
 -- THEOREM. For every presentation name and every element none of whose values is `inherit`, as in <rect fill="red" style="fill:blue
--- !important"/>:
--- where at most one declaration of the name is marked as important, the value is the cascade's winner by what is marked in the drawing.
+-- !important"/>: where at most one declaration of the name is marked as important, the value is the cascade's winner by what is marked in
+-- the drawing.
 pub winner-as-written : (t : Tree) (p tag : ℕ) (g : Bool) (a : ℕ) (e : Element) → isPresentation a ≡ true →
     Every PlainAttribute (e .attributes) → Every PlainDeclaration (e .declarations) →
     length (those isMarked (allDeclared t p tag g a e)) ≤ 1 →

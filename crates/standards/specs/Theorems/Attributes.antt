@@ -250,8 +250,7 @@ module _ (t : Tree) (p tag : ℕ) (g : Bool) (span : eqb tag EId.Tspan ≡ false
   tree-href xs = many-attributes xs [] none refl ∙ ap hrefEntryOf (href-last none xs)
 
   -- So it is the href that SVG 2 says, and the one that `use` follows, wherever there is at most one in no namespace, as in every XML
-  -- document:
-  -- <use xlink:href="#a" href="#b"/>, in either order.
+  -- document: <use xlink:href="#a" href="#b"/>, in either order.
   pub tree-href-used : (xs : List Attribute) → length (hrefs NONE xs) ≤ 1 → entryOf AId.Href (folded (addAttribute t p tag g) [] xs)
       ≡ hrefEntryOf (usedHref xs)
   unfolding usedHref

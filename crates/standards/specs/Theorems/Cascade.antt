@@ -448,8 +448,7 @@ abbrev pub attributeEntry : Tree → ℕ → ℕ → Bool → ℕ → Element �
 attributeEntry t p tag g a e = entryOf a (folded (addAttribute t p tag g) [] (e .attributes))
 
 -- All that applies for a name: the presentation attribute first, then the declarations with their shorthands written out, `inherit`
--- resolved
--- and dropped ones left out.
+-- resolved and dropped ones left out.
 abbrev pub allApplying : Tree → ℕ → ℕ → Bool → ℕ → Element → List Entry
 allApplying t p tag g a e = asList (attributeEntry t p tag g a e) ++ applying a (allWrittenOut t p tag (e .declarations))
 

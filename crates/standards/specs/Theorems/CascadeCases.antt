@@ -21,8 +21,7 @@ unfolding computed lastOf those winner
 later-important = (refl, refl)
 
 -- Importance comes along with `inherit`: under an element whose fill is red !important, fill="inherit" and then fill blue leave red. For
--- the
--- cascade neither of the two is important, and the winner is blue.
+-- the cascade neither of the two is important, and the winner is blue.
 pub importance-carried :
     (valued AId.Fill (decl AId.Fill 1 "red" ∷ el EId.G (attr AId.Fill "inherit" ∷ decl AId.Fill 0 "blue" ∷ []) ∷ [])
     ≡ ascii "red" ∷ ascii "red" ∷ [])
@@ -30,9 +29,8 @@ pub importance-carried :
 unfolding computed lastOf those winner
 importance-carried = (refl, refl)
 
--- A dropped `inherit` leaves the value before it: color="red", then color inherit with none above. The tree has red; the cascade's
--- winner is
--- `inherit`, which at the top is the initial value.
+-- A dropped `inherit` leaves the value before it: color="red", then color inherit with none above. The tree has red; the cascade's winner
+-- is `inherit`, which at the top is the initial value.
 pub dropped-leaves : (valued AId.Color (attr AId.Color "red" ∷ decl AId.Color 0 "inherit" ∷ []) ≡ ascii "red" ∷ [])
     × (winner (λ x. false) (ascii "red" ∷ ascii "inherit" ∷ []) ≡ some (ascii "inherit"))
 unfolding computed lastOf those winner

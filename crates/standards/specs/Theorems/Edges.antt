@@ -23,8 +23,7 @@ unfolding computed without convert noLeading noTrailing consolidated asDefault
 gap-lost = (refl, refl)
 
 -- A trailing space stays where a leading one went in the same step: <text> <tspan>b </tspan></text> gives "" and "b "; the standard's is
--- "b".
--- So it is with " a" and "b ", which give "a" and "b ".
+-- "b". So it is with " a" and "b ", which give "a" and "b ".
 pub trailing-stays : (shown (say " " ∷ el EId.Tspan (say "b " ∷ []) ∷ []) ≡ ascii "" ∷ ascii "b " ∷ [])
     × (asDefault (ascii " b ") ≡ ascii "b")
     × (shown (say " a" ∷ el EId.Tspan (say "b " ∷ []) ∷ []) ≡ ascii "a" ∷ ascii "b " ∷ []) × (asDefault (ascii " ab ") ≡ ascii "ab")

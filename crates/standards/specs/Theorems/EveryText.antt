@@ -39,8 +39,7 @@ use Rattle.standards.specs.Theorems.Recursion.{TextsOf, AtLeast, inside-
 use Rattle.standards.specs.Theorems.SpaceStays.{Ranges, SameNodes, same-sees, space-seen, element-same, text-same, same-cut, repaired-space}
 
 -- SVG 1.1's text of a source by xml:space: for default of the source with its newlines made spaces (the difference of
--- `default-is-standard`),
--- carriage returns taken as newlines.
+-- `default-is-standard`), carriage returns taken as newlines.
 abbrev pub standardText : XmlSpace → List ℕ → List ℕ
 standardText default bs = asDefault (convert NEWLINE BLANK (convert RETURN NEWLINE bs))
 standardText preserve bs = asPreserve (convert RETURN NEWLINE bs)
@@ -674,8 +673,7 @@ all-texts script chars n m b h = subst (λ (r : Result). Texts chars (notes scri
     go (done s) x h = repaired-texts chars s (repairs chars (valuesIn all) (s .tree)) x
 
 -- EVERY TEXT NODE. In every build that is accepted, every text node has a note of what it is made from, and its text is what `trim_text`
--- made
--- of these sources by the xml:space in force at its parent, with spaces taken off its ends. Every drawing with a text meets it.
+-- made of these sources by the xml:space in force at its parent, with spaces taken off its ends. Every drawing with a text meets it.
 pub texts-made : (script chars : List ℕ) (n m b : ℕ) → build script chars n m b .number ≡ 0 →
     (i : ℕ) → i < build script chars n m b .tree .nodeCount → kindOf (build script chars n m b .tree) i ≡ TEXT →
     (k : Note) × In k (notes script chars n m b) × (k .node ≡ i) × Pinned chars k (build script chars n m b .tree)
@@ -684,9 +682,8 @@ texts-made script chars n m b h i l e =
     let q = f .noted i l e in (q .0, q .1, q .2, f .pinned (q .0) (q .1))
 
 -- ONE TEXT NODE. In every build that is accepted, a text node that is alone in its text element, where the same xml:space is in force at
--- its
--- parent and at its text element, has SVG 1.1's text of its sources by that xml:space. The drawing <text> a </text> has such a node, with
--- default; <text xml:space="preserve"><tspan> a </tspan></text> has one with preserve. (`k` is the note that `texts-made` gives.)
+-- its parent and at its text element, has SVG 1.1's text of its sources by that xml:space. The drawing <text> a </text> has such a node,
+-- with default; <text xml:space="preserve"><tspan> a </tspan></text> has one with preserve. (`k` is the note that `texts-made` gives.)
 pub alone-is-standard : (script chars : List ℕ) (n m b : ℕ) → build script chars n m b .number ≡ 0 →
     (k : Note) → In k (notes script chars n m b) → Alone k (notes script chars n m b) → Exact chars k (build script chars n m b .tree)
 alone-is-standard script chars n m b h k i a = all-texts script chars n m b h .exact k i a

@@ -90,9 +90,8 @@ alone-kept (some e) = go (eqb (e .important) 0)
     go true = refl
     go false = refl
 
--- THEOREM. An element that is built, other than a tspan, with at most one href in no namespace, as in every XML document: the tree's
--- entry of
--- href is the one that SVG 2 says, whatever the order of the attributes. <use xlink:href="#a" href="#b"/> meets it.
+-- THEOREM. An element that is built, other than a tspan, with at most one href in no namespace, as in every XML document: the tree's entry
+-- of href is the one that SVG 2 says, whatever the order of the attributes. <use xlink:href="#a" href="#b"/> meets it.
 pub href-in-tree : (x : Element) (tag : ℕ) (g : Bool) (p : ℕ) (t q : Tree) → parseSvgElement x tag g p t ≡ done q →
     eqb tag EId.Tspan ≡ false →
     length (hrefs NONE (x .attributes)) ≤ 1 → ownEntry q AId.Href (t .nodeCount) ≡ hrefEntryOf (usedHref (x .attributes))

@@ -29,8 +29,7 @@ none-inherited t a true (i ∷ is) d h = rw (h .0) (none-inherited t a true is d
 none-inherited t a false (i ∷ is) d h = rw (h .0) refl
 
 -- DROPPED. A name that has no fixed value, where neither the parent nor those around it have the attribute: `inherit` gives none at all,
--- and
--- CSS's initial value is missing. <svg color="inherit"/> meets it.
+-- and CSS's initial value is missing. <svg color="inherit"/> meets it.
 pub inherit-dropped : (t : Tree) (p a : ℕ) → inheritDefault a ≡ 0 → NoneHas t a (upward t p) → resolveInherit t p a ≡ none
 inherit-dropped t p a z h =
     inherit-is-inherited t p a ∙ none-inherited t a (isInheritable a) (upward t p) (initialEntry t p a) h ∙ rw z refl
@@ -50,8 +49,7 @@ unfolding computed inherited
 parent-case = (refl, refl)
 
 -- HANDED DOWN. dominant-baseline does not inherit in SVG 1.1; `inherit` finds it all the same past an element without it. By SVG 1.1 the
--- value
--- is the parent's, which is the initial value auto. (CSS Inline 3 and SVG 2 let it inherit.)
+-- value is the parent's, which is the initial value auto. (CSS Inline 3 and SVG 2 let it inherit.)
 pub handed-down-case : (valued AId.DominantBaseline
     (attr AId.DominantBaseline "middle" ∷ el EId.G (el EId.G (attr AId.DominantBaseline "inherit" ∷ []) ∷ []) ∷ [])
     ≡ ascii "middle" ∷ ascii "middle" ∷ []) × (inherited false (none ∷ some (ascii "middle") ∷ []) (ascii "auto") ≡ ascii "auto")
@@ -77,9 +75,8 @@ pub any-space-case : (shown (attr AId.Space "preserve" ∷ say " a" ∷ []) ≡ 
 unfolding computed without convert noLeading noTrailing consolidated asDefault
 any-space-case = (refl, refl)
 
--- OTHER KEYWORDS. Of CSS's keywords for every property only `inherit` is known, and only in small letters: initial, unset and INHERIT
--- stay as
--- written. CSS Cascade, section 7.3, has the first two, and CSS keywords are the same in capital letters.
+-- OTHER KEYWORDS. Of CSS's keywords for every property only `inherit` is known, and only in small letters: initial, unset and INHERIT stay
+-- as written. CSS Cascade, section 7.3, has the first two, and CSS keywords are the same in capital letters.
 pub keywords-case : (valued AId.Fill (decl AId.Fill 0 "initial" ∷ []) ≡ ascii "initial" ∷ [])
     × (valued AId.Fill (decl AId.Fill 0 "unset" ∷ []) ≡ ascii "unset" ∷ [])
     × (valued AId.Fill (decl AId.Fill 0 "INHERIT" ∷ []) ≡ ascii "INHERIT" ∷ [])

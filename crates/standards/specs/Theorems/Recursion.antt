@@ -1,6 +1,5 @@
--- One law for what holds of every state of the recursion, where each step knows that its parent is a node of the tree, and the steps
--- inside a
--- text element keep a fact of their own.
+-- One law for what holds of every state of the recursion, where each step knows that its parent is a node of the tree, and the steps inside
+-- a text element keep a fact of their own.
 use Prim.Native.Nat.{ℕ, zero, suc, _+_, _≤_, _<_}
 use mathlib.Core.Bool.{Bool, true, false, not}
 use mathlib.Core.List.{List, [], _∷_}
