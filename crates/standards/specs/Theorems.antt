@@ -9,6 +9,7 @@ pub mod TextElement
 pub mod Recursion
 pub mod SpaceStays
 pub mod EveryText
+pub mod Met
 pub mod Edges
 pub mod Inheritance
 pub mod Cascade
