@@ -22,3 +22,4 @@ pub mod Properties
 pub mod InheritCases
 pub mod HrefCases
 pub mod Circles
+pub mod OtherCases
