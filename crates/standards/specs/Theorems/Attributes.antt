@@ -288,6 +288,7 @@ module _ (t : Tree) (p tag : ℕ) (g : Bool) where
       go true k = k
       go false k = refl
 
+  -- For every name but href, such as fill, the first attribute of that name that is taken and not dropped stands.
   pub attributes-first : (a : ℕ) → eqb a AId.Href ≡ false → (xs : List Attribute) (es : List Entry) →
       entryOf a (folded (addAttribute t p tag g) es xs) ≡ orElse (entryOf a es) (firstMade a xs)
   unfolding firstMade addAttribute

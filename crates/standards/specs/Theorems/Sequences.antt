@@ -268,7 +268,7 @@ last-from (b ∷ xs) [] h g u = go (decLt b 128) (λ v. last-from xs [] tt refl 
 
 -- THEOREMS
 
--- A text that is UTF-8 is UTF-8 after `trim_text`, under Default and Preserve.
+-- A text that is UTF-8, as every text is that check takes, is UTF-8 after `trim_text`, under Default and Preserve.
 pub trim-text-utf8 : (w : XmlSpace) (bs : List ℕ) → isUtf8 bs ≡ true → isUtf8 (trimText w bs) ≡ true
 unfolding isUtf8 trimText
 trim-text-utf8 w bs h = trimmed-from bs [] w 48 tt (unfold begins in refl) h tt

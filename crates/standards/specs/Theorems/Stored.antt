@@ -134,15 +134,19 @@ tree-value-stands x tag g p t q h a = first (leb (t .attributeCount + length es)
     first true r k = second (omega (arith, leb-true (t .attributeCount + length es) (attributeRoom t) r)) (leb (t .nodeCount) mostNodes) k
     first false r k = absurd (false≢true (ap isDone k))
 
--- IMPORTANCE. A declaration of a presentation name whose value is not `inherit` comes to an entry with the declaration's own importance: so
--- what counts as important for the two rules is what is written in the drawing, and only `inherit` brings another importance.
+-- IMPORTANCE
+
+-- A presentation name is none that is not.
 pub not-name : (a k : ℕ) → isPresentation a ≡ true → isPresentation k ≡ false → eqb a k ≡ false
 not-name a k h n = ne-eqb a k (λ e. false≢true (sym n ∙ subst (λ (b : ℕ). isPresentation b ≡ true) e h))
 
+-- style, class and href are none.
 pub no-such : (isPresentation AId.Style ≡ false) × (isPresentation AId.Class ≡ false) × (isPresentation AId.Href ≡ false)
 unfolding isPresentation among
 no-such = (refl, refl, refl)
 
+-- A declaration of a presentation name whose value is not `inherit`, such as fill:red, comes to an entry with the declaration's own
+-- importance: so what counts as important for the two rules is what is written in the drawing, and only `inherit` brings another one.
 pub declared-importance : (t : Tree) (p tag : ℕ) (d : Declaration) (a : ℕ) (v : Part) → isPresentation a ≡ true →
     sameBytes (v .bytes) inheritWord ≡ false →
     longhand t p tag d a v .entry ≡ some (record {
