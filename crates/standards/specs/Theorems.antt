@@ -5,7 +5,6 @@ pub mod Trimmings
 pub mod Shaved
 pub mod OneText
 pub mod WholeTexts
-pub mod TextElement
 pub mod Recursion
 pub mod SpaceStays
 pub mod EveryText
