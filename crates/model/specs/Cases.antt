@@ -144,6 +144,8 @@ cases =
     -- * One text " a " becomes "a"; with preserve it remains " a ".
     record { drawing = svg (el EId.Text (say " a " ∷ []) ∷ []); look = texts; wanted = ascii "a" ∷ [] } ∷
     record { drawing = svg (el EId.Text (attrIn 3 AId.Space "preserve" ∷ say " a " ∷ []) ∷ []); look = texts; wanted = ascii " a " ∷ [] } ∷
+    -- A newline becomes a space; it is not removed.
+    record { drawing = svg (el EId.Text (say "a\nb" ∷ []) ∷ []); look = texts; wanted = ascii "a b" ∷ [] } ∷
     -- * Two texts: both edges at one step, only the first is trimmed.
     record {
       drawing = svg (el EId.Text (say " a" ∷ el EId.Tspan (say "b " ∷ []) ∷ []) ∷ []);

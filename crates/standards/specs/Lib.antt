@@ -1,0 +1,5 @@
+pub mod SvgSpace
+pub mod SvgHref
+pub mod CssCascade
+pub mod SvgProperties
+pub mod Theorems

@@ -1,0 +1,24 @@
+-- What is proved of the definitions of `model` from the standards' sentences. Nothing here needs to be believed: it is checked.
+pub mod Spaces
+pub mod Sequences
+pub mod Trimmings
+pub mod Shaved
+pub mod OneText
+pub mod WholeTexts
+pub mod Recursion
+pub mod SpaceStays
+pub mod EveryText
+pub mod Met
+pub mod Edges
+pub mod Inheritance
+pub mod Cascade
+pub mod Attributes
+pub mod Stored
+pub mod HrefInTree
+pub mod AsWritten
+pub mod CascadeCases
+pub mod Properties
+pub mod InheritCases
+pub mod HrefCases
+pub mod Circles
+pub mod OtherCases
