@@ -16,7 +16,8 @@ use Rattle.model.specs.Tables.{Tree, Entry}
 use Rattle.model.specs.Element.{inheritWord, marker, resolveInherit, appendAttribute, isTaken, fontParts, isRead, entriesOf}
 use Rattle.model.specs.Theorems.Sim.{Every}
 use Rattle.standards.specs.CssCascade.{those, lastOf, winner}
-use Rattle.standards.specs.Theorems.Cascade.{entryOf, isImportant, Longhand, longhand, resetLonghand, partLonghands, writtenOut, allWrittenOut, applying, asList, attributeEntry, allApplying, value-wins}
+use Rattle.standards.specs.Theorems.Cascade.{entryOf, isImportant, Longhand, longhand, resetLonghand, partLonghands, writtenOut}
+use Rattle.standards.specs.Theorems.Cascade.{allWrittenOut, applying, asList, attributeEntry, allApplying, value-wins}
 use Rattle.standards.specs.Theorems.Attributes.{firstMade, attributes-first}
 use Rattle.standards.specs.Theorems.Stored.{not-name, no-such, declared-importance}
 

@@ -14,7 +14,9 @@ use Rattle.model.specs.EId
 use Rattle.model.specs.AId
 use Rattle.model.specs.Drawing.{Part, Declaration, Element, readingOf}
 use Rattle.model.specs.Tables.{Tree, ELEMENT, kindOf, fromOf, toOf, Entry, fixedEntry, entryWord, entryAt, findEntry, attributeId}
-use Rattle.model.specs.Element.{inheritWord, marker, inheritedFrom, copyFrom, defaultOf, resolveInherit, appendAttribute, hasEntry, onFirst, addAttribute, standing, insertEntry, fontParts, insertAttribute, resetTo, insertPart, isRead, writeDeclaration, entriesOf}
+use Rattle.model.specs.Element.{inheritWord, marker, inheritedFrom, copyFrom, defaultOf, resolveInherit, appendAttribute, hasEntry, onFirst}
+use Rattle.model.specs.Element.{addAttribute, standing, insertEntry, fontParts, insertAttribute, resetTo, insertPart, isRead}
+use Rattle.model.specs.Element.{writeDeclaration, entriesOf}
 use Rattle.standards.specs.CssCascade.{firstOf, lastOf, those, winner}
 
 -- THE TWO RULES

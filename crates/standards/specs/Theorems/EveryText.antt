@@ -13,11 +13,14 @@ use lib.Seq.{slice, getD-set-same, getD-set-other}
 use Rattle.model.specs.Base.{pick}
 use Rattle.model.specs.EId
 use Rattle.model.specs.Utf8.{isUtf8}
-use Rattle.model.specs.Drawing.{Command, opening, attribute, declaration, reading, closing, broken, Mark, past, Element, Source, Event, commands, eventsFrom, events, valuesIn}
+use Rattle.model.specs.Drawing.{Command, opening, attribute, declaration, reading, closing, broken, Mark, past, Element, Source, Event}
+use Rattle.model.specs.Drawing.{commands, eventsFrom, events, valuesIn}
 use Rattle.model.specs.Check.{State, starting, firstOf, stringTests, testsOf, stepped, checkFrom, check}
-use Rattle.model.specs.Tables.{Tree, Out, refused, done, ELEMENT, TEXT, word, kindOf, parentOf, toOf, textOf, Entry, nodeRoom, attributeRoom, textRoom, addElement, addText, cleared, rooted}
+use Rattle.model.specs.Tables.{Tree, Out, refused, done, ELEMENT, TEXT, word, kindOf, parentOf, toOf, textOf, Entry, nodeRoom}
+use Rattle.model.specs.Tables.{attributeRoom, textRoom, addElement, addText, cleared, rooted}
 use Rattle.model.specs.Element.{entriesOf, mostNodes, parseSvgElement}
-use Rattle.model.specs.Text.{XmlSpace, default, preserve, spaceOf, getXmlspace, trimText, totalSize, joined, appendText, Trimming, stop, look, cut, cutText, run, TextNode, depthBelow, textNodes, ownTextNodes, trimming, trimTextNodes}
+use Rattle.model.specs.Text.{XmlSpace, default, preserve, spaceOf, getXmlspace, trimText, totalSize, joined, appendText, Trimming, stop}
+use Rattle.model.specs.Text.{look, cut, cutText, run, TextNode, depthBelow, textNodes, ownTextNodes, trimming, trimTextNodes}
 use Rattle.model.specs.Parse.{inside, label, plain}
 use Rattle.model.specs.Noted.{Note, size, Noted, In, noteOf, noting, notedParsed, notedTree, notesOf, notes, stripped}
 use Rattle.model.specs.Build.{Result, build, answered, withRepairs, withRoot, parsed, tested, firstIsSvg}
@@ -30,13 +33,17 @@ use Rattle.model.specs.Theorems.Always.{Always, always-then}
 use Rattle.model.specs.Theorems.Whole.{build-checked, build-noted}
 use Rattle.standards.specs.SvgSpace.{NEWLINE, BLANK, RETURN, without, convert, asDefault, asPreserve}
 use Rattle.standards.specs.Theorems.Trimmings.{told, run-told}
-use Rattle.standards.specs.Theorems.Shaved.{Shaved, whole, shaved-then, trimming-kept, shaved-shorter, shaved-visible, shaved-no-two, shaved-utf8}
+use Rattle.standards.specs.Theorems.Shaved.{Shaved, whole, shaved-then, trimming-kept, shaved-shorter, shaved-visible, shaved-no-two}
+use Rattle.standards.specs.Theorems.Shaved.{shaved-utf8}
 use Rattle.standards.specs.Theorems.Spaces.{NoTwo, trim-no-two, trim-visible}
 use Rattle.standards.specs.Theorems.Sequences.{trim-text-utf8, joined-utf8}
 use Rattle.standards.specs.Theorems.OneText.{one-text-default, one-text-preserve}
-use Rattle.standards.specs.Theorems.WholeTexts.{Held, always-test, element-held, text-held, finish-held, root-held, Noticed, lies, places, run-keeps, kind-cut, element-text, element-old, old-text, text-old, new-word, new-text, made-fits, cuts-texts, own-rising}
+use Rattle.standards.specs.Theorems.WholeTexts.{Held, always-test, element-held, text-held, finish-held, root-held, Noticed, lies}
+use Rattle.standards.specs.Theorems.WholeTexts.{places, run-keeps, kind-cut, element-text, element-old, old-text, text-old, new-word}
+use Rattle.standards.specs.Theorems.WholeTexts.{new-text, made-fits, cuts-texts, own-rising}
 use Rattle.standards.specs.Theorems.Recursion.{TextsOf, AtLeast, inside-law, parsed-law}
-use Rattle.standards.specs.Theorems.SpaceStays.{Ranges, SameNodes, same-sees, space-seen, element-same, text-same, same-cut, repaired-space}
+use Rattle.standards.specs.Theorems.SpaceStays.{Ranges, SameNodes, same-sees, space-seen, element-same, text-same, same-cut}
+use Rattle.standards.specs.Theorems.SpaceStays.{repaired-space}
 
 -- SVG 1.1's text of a source by xml:space: for default of the source with its newlines made spaces (the difference of
 -- `default-is-standard`), carriage returns taken as newlines.

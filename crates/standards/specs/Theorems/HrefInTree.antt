@@ -17,7 +17,8 @@ use Rattle.model.specs.Theorems.Sim.{Every}
 use Rattle.standards.specs.CssCascade.{those, lastOf, firstOf}
 use Rattle.standards.specs.SvgHref.{NONE, hrefs, usedHref}
 use Rattle.standards.specs.Theorems.Inheritance.{ownEntry}
-use Rattle.standards.specs.Theorems.Cascade.{kept, isImportant, Longhand, longhand, resetLonghand, partLonghands, writtenOut, allWrittenOut, applying, asList, attributeEntry}
+use Rattle.standards.specs.Theorems.Cascade.{kept, isImportant, Longhand, longhand, resetLonghand, partLonghands, writtenOut}
+use Rattle.standards.specs.Theorems.Cascade.{allWrittenOut, applying, asList, attributeEntry}
 use Rattle.standards.specs.Theorems.Attributes.{hrefEntryOf, tree-href-used}
 use Rattle.standards.specs.Theorems.Stored.{not-name, no-such, tree-value-stands}
 

@@ -10,7 +10,8 @@ use lib.ListN.{length, take}
 use Rattle.model.specs.Base.{pick}
 use Rattle.model.specs.Drawing.{text}
 use Rattle.model.specs.Tables.{Tree, fromOf, toOf, textOf}
-use Rattle.model.specs.Text.{XmlSpace, default, preserve, SPACE, spaceOf, trimText, Trimming, stop, run, TextNode, ownTextNodes, beginsWithSpace, endsWithSpace, single, onlyIf, removeFirstSpace, removeLastSpace, trimming, trimTextNodes}
+use Rattle.model.specs.Text.{XmlSpace, default, preserve, SPACE, spaceOf, trimText, Trimming, stop, run, TextNode, ownTextNodes}
+use Rattle.model.specs.Text.{beginsWithSpace, endsWithSpace, single, onlyIf, removeFirstSpace, removeLastSpace, trimming, trimTextNodes}
 use Rattle.model.specs.Theorems.Reach.{Within, within-trimming}
 use Rattle.standards.specs.SvgSpace.{NEWLINE, BLANK, RETURN, convert, asDefault, asPreserve}
 use Rattle.standards.specs.Theorems.Spaces.{noFirst, noLast, preserve-is-standard, default-is-standard}

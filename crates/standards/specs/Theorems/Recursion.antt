@@ -8,7 +8,8 @@ use native.Mathlib.Omega.{arith}
 use lib.Dec.{eqb}
 use Rattle.model.specs.Base.{pick, and}
 use Rattle.model.specs.EId
-use Rattle.model.specs.Drawing.{Part, Element, Source, Event, begin, text, other, close, childrenFrom, hasId, firstWithId, linkedBy, useHref, hasTagName, quoted, mayCopy, copied, useTarget}
+use Rattle.model.specs.Drawing.{Part, Element, Source, Event, begin, text, other, close, childrenFrom, hasId, firstWithId, linkedBy}
+use Rattle.model.specs.Drawing.{useHref, hasTagName, quoted, mayCopy, copied, useTarget}
 use Rattle.model.specs.Tables.{Out, refused, done}
 use Rattle.model.specs.Text.{totalSize}
 use Rattle.model.specs.Parse.{Ops, Builder, each, refuse, tagOf, textTagOf, isTextContent, quote, inside, label, copy, level, node}

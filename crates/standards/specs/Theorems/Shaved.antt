@@ -11,7 +11,8 @@ use lib.ListN.{length, take, length-append}
 use lib.Seq.{slice, take-length, take-suc}
 use Rattle.model.specs.Base.{pick, and, given}
 use Rattle.model.specs.Utf8.{isBlank, isUtf8}
-use Rattle.model.specs.Text.{XmlSpace, SPACE, isDefault, Trimming, cutFrom, cutTo, TextNode, beginsWithSpace, endsWithSpace, isEmpty, single, outerSpaces, lastEdge, pair, standsFor, isNil, pairs, trimming}
+use Rattle.model.specs.Text.{XmlSpace, SPACE, isDefault, Trimming, cutFrom, cutTo, TextNode, beginsWithSpace, endsWithSpace, isEmpty}
+use Rattle.model.specs.Text.{single, outerSpaces, lastEdge, pair, standsFor, isNil, pairs, trimming}
 use Rattle.model.specs.Theorems.Sim.{and-left, and-right}
 use Rattle.standards.specs.SvgSpace.{without}
 use Rattle.standards.specs.Theorems.Spaces.{NoTwo}

@@ -12,7 +12,8 @@ use lib.ListN.{getD, set}
 use lib.Seq.{getD-set-other}
 use Rattle.model.specs.Base.{pick, sameBytes}
 use Rattle.model.specs.AId
-use Rattle.model.specs.Tables.{Tree, ELEMENT, TEXT, word, kindOf, parentOf, fromOf, toOf, Entry, entryWord, entryAt, valueOf, valueAtEntry, findEntry, attributeId, hasAttribute, holderFrom, setText, setNone, addElement, addText}
+use Rattle.model.specs.Tables.{Tree, ELEMENT, TEXT, word, kindOf, parentOf, fromOf, toOf, Entry, entryWord, entryAt, valueOf, valueAtEntry}
+use Rattle.model.specs.Tables.{findEntry, attributeId, hasAttribute, holderFrom, setText, setNone, addElement, addText}
 use Rattle.model.specs.Text.{default, preserve, preserveWord, getXmlspace, spaceOf, cutText, cutFrom, cutTo}
 use Rattle.model.specs.Repair.{Cut, cutName, cutEntry, applyCut, applied}
 use Rattle.model.specs.Theorems.Agree.{sets-out}

@@ -10,7 +10,9 @@ use lib.Dec.{eqb}
 use lib.ListN.{length}
 use Rattle.model.specs.Base.{pick, and, among}
 use Rattle.model.specs.Text.{XmlSpace, default, preserve, converted, trimTextAfter, trimText}
-use Rattle.standards.specs.SvgSpace.{NEWLINE, TAB, BLANK, RETURN, without, convert, noLeading, isNothing, noTrailing, isBlankNext, consolidated, asDefault, asPreserve, Free, Place, ahead, inWord, inGap, atBreak, newline, blank, visible, sortOf, seamsFrom, seams}
+use Rattle.standards.specs.SvgSpace.{NEWLINE, TAB, BLANK, RETURN, without, convert, noLeading, isNothing, noTrailing, isBlankNext}
+use Rattle.standards.specs.SvgSpace.{consolidated, asDefault, asPreserve, Free, Place, ahead, inWord, inGap, atBreak, newline, blank}
+use Rattle.standards.specs.SvgSpace.{visible, sortOf, seamsFrom, seams}
 
 -- THE STANDARD'S DEFAULT AS ONE PASS
 

@@ -13,7 +13,8 @@ use Rattle.model.specs.Names.{isPresentation, allowsInheritValue}
 use Rattle.model.specs.EId
 use Rattle.model.specs.AId
 use Rattle.model.specs.Drawing.{Part, Declaration, Element}
-use Rattle.model.specs.Tables.{Tree, Out, refused, done, ELEMENT, word, Entry, entriesWords, entryWord, entryAt, findEntry, attributeId, nodeRoom, attributeRoom, addElement}
+use Rattle.model.specs.Tables.{Tree, Out, refused, done, ELEMENT, word, Entry, entriesWords, entryWord, entryAt, findEntry, attributeId}
+use Rattle.model.specs.Tables.{nodeRoom, attributeRoom, addElement}
 use Rattle.model.specs.Element.{inheritWord, resolveInherit, appendAttribute, entriesOf, mostNodes, parseSvgElement}
 use Rattle.model.specs.Theorems.Laws.{appended-new, room-fits}
 use Rattle.model.specs.Theorems.Agree.{sets-in}

@@ -11,8 +11,11 @@ use lib.ListN.{length, getD, set, take, replicate, length-set, length-take, leng
 use lib.Seq.{sets, slice, getD-set-same, getD-set-other, length-sets, ext-getD, getD-take, getD-drop, length-slice}
 use Rattle.model.specs.Base.{pick, and}
 use Rattle.model.specs.Drawing.{Source}
-use Rattle.model.specs.Tables.{Tree, Out, ELEMENT, TEXT, word, kindOf, parentOf, fromOf, toOf, textOf, setText, Entry, nodeRoom, addElement, addText, cleared, rooted, setNone}
-use Rattle.model.specs.Text.{XmlSpace, isDefault, SPACE, converted, trimTextAfter, trimText, totalSize, joined, spaceOf, getXmlspace, Trimming, stop, look, cut, cutText, cutFrom, cutTo, run, depthBelow, textNodes, ownTextNodes, trimming, trimTextNodes}
+use Rattle.model.specs.Tables.{Tree, Out, ELEMENT, TEXT, word, kindOf, parentOf, fromOf, toOf, textOf, setText, Entry, nodeRoom, addElement}
+use Rattle.model.specs.Tables.{addText, cleared, rooted, setNone}
+use Rattle.model.specs.Text.{XmlSpace, isDefault, SPACE, converted, trimTextAfter, trimText, totalSize, joined, spaceOf, getXmlspace}
+use Rattle.model.specs.Text.{Trimming, stop, look, cut, cutText, cutFrom, cutTo, run, depthBelow, textNodes, ownTextNodes, trimming}
+use Rattle.model.specs.Text.{trimTextNodes}
 use Rattle.model.specs.Noted.{Note, size, Noted, In, noteOf, notes}
 use Rattle.model.specs.Repair.{Cut, cutEntry, applyCut, applied}
 use Rattle.model.specs.Theorems.Laws.{appended-old, appended-new, room-fits}
