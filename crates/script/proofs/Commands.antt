@@ -11,11 +11,13 @@ use lib.ListN.{length, getD, take, drop, length-take, length-drop, drop-of-lengt
 use lib.Seq.{drop-cons, drop-drop, getD-drop, length-take-le}
 use Rattle.model.specs.Base.{pick}
 use Rattle.model.specs.Check.{mostBytes}
-use Rattle.model.specs.Drawing.{Command, opening, attribute, declaration, reading, text, other, closing, broken, operands, wordAt, whole, command, follow, commands, commandsFrom, taken, counted}
+use Rattle.model.specs.Drawing.{Command, opening, attribute, declaration, reading, text, other, closing, broken, operands, wordAt, whole}
+use Rattle.model.specs.Drawing.{command, follow, commands, commandsFrom, taken, counted}
 use Rattle.script.specs.declared.cursor.Cursor.{Cursor}
 use Rattle.script.specs.declared.cursor.Step.{Step}
 use Rattle.script.specs.declared.cursor.Step.the-variants.{Open, Attribute, Declaration, Reading, Text, Other, Close, Broken, End}
-use Rattle.script.specs.Step.{Fit, commandsAt, bytesOf, moved, isBroken, placeFrom, placeOf, atStart, Here, toStep, stepOf, stepAt, Going}
+use Rattle.script.specs.Step.{Fit, commandsAt, bytesOf, moved, isBroken, placeFrom, placeOf, atStart, Here, toStep, stepOf, stepAt}
+use Rattle.script.specs.Step.{Going}
 
 -- THE OPERANDS
 
@@ -65,7 +67,8 @@ module _ (s : List ℕ) (c : Cursor) where
   ended h = rw (drop-of-length-le s h)
 
   module _ (h : c .at < length s) where
-    here : toStep (command (getD s (c .at) 0) (drop (suc (c .at)) s)) (moved c (command (getD s (c .at) 0) (drop (suc (c .at)) s))) ≡ stepAt s c
+    here : toStep (command (getD s (c .at) 0) (drop (suc (c .at)) s)) (moved c (command (getD s (c .at) 0) (drop (suc (c .at)) s)))
+        ≡ stepAt s c
     unfolding stepAt commandsAt commands commandsFrom
     here = rw (drop-cons s (c .at) 0 h) (sym (follow-step (command (getD s (c .at) 0) (drop (suc (c .at)) s)) _ c))
 
@@ -93,7 +96,8 @@ module _ (s : List ℕ) (c : Cursor) where
     unfolding whole
     nothing b e l h1 h2 h3 h4 h5 h6 h7 =
         stepped (broken b) (moved c (broken b))
-        (all-there b (broken b) (sym e) l (simp (ne-eqb b 1 h1, ne-eqb b 2 h2, ne-eqb b 3 h3, ne-eqb b 4 h4, ne-eqb b 5 h5, ne-eqb b 6 h6, ne-eqb b 7 h7))) refl
+        (all-there b (broken b) (sym e) l
+        (simp (ne-eqb b 1 h1, ne-eqb b 2 h2, ne-eqb b 3 h3, ne-eqb b 4 h4, ne-eqb b 5 h5, ne-eqb b 6 h6, ne-eqb b 7 h7))) refl
 
     first : getD (drop (suc (c .at)) s) 0 0 ≡ getD s (c .at + 1) 0
     first = byte s (c .at) 0 ∙ ap (λ n. getD s n 0) (let z : c .at + 1 + 0 ≡ c .at + 1 = omega arith in z)
@@ -109,13 +113,15 @@ module _ (s : List ℕ) (c : Cursor) where
     unfolding whole operands
     open-here e l n f = stepped (opening (getD s (c .at + 1) 0) (getD s (c .at + 2) 0)) n (all-there 1 _ e l (rw (first, second))) f
 
-    pub attribute-here : getD s (c .at) 0 ≡ 2 → 6 ≤ length s - c .at - 1 → (k : ℕ) → k ≡ wordAt s (c .at + 3) → (n : Cursor) → n ≡ moved c (attribute 0 0 k)
+    pub attribute-here : getD s (c .at) 0 ≡ 2 → 6 ≤ length s - c .at - 1 → (k : ℕ) → k ≡ wordAt s (c .at + 3) → (n : Cursor)
+        → n ≡ moved c (attribute 0 0 k)
         → Attribute (getD s (c .at + 1) 0) (getD s (c .at + 2) 0) k n ≡ stepAt s c
     unfolding whole operands
     attribute-here e l k g n f = stepped (attribute (getD s (c .at + 1) 0) (getD s (c .at + 2) 0) k) n
         (all-there 2 _ e l (rw (first, second, worded 2 k (g ∙ ap (wordAt s) (let z : c .at + 3 ≡ c .at + 1 + 2 = omega arith in z))))) f
 
-    pub declaration-here : getD s (c .at) 0 ≡ 3 → 6 ≤ length s - c .at - 1 → (k : ℕ) → k ≡ wordAt s (c .at + 3) → (n : Cursor) → n ≡ moved c (declaration 0 0 k)
+    pub declaration-here : getD s (c .at) 0 ≡ 3 → 6 ≤ length s - c .at - 1 → (k : ℕ) → k ≡ wordAt s (c .at + 3) → (n : Cursor)
+        → n ≡ moved c (declaration 0 0 k)
         → Declaration (getD s (c .at + 1) 0) (getD s (c .at + 2) 0) k n ≡ stepAt s c
     unfolding whole operands
     declaration-here e l k g n f = stepped (declaration (getD s (c .at + 1) 0) (getD s (c .at + 2) 0) k) n
@@ -131,9 +137,11 @@ module _ (s : List ℕ) (c : Cursor) where
           worded 5 k (g ∙ ap (wordAt s) (let z : c .at + 6 ≡ c .at + 1 + 5 = omega arith in z)),
         ))) f
 
-    pub text-here : getD s (c .at) 0 ≡ 5 → 4 ≤ length s - c .at - 1 → (k : ℕ) → k ≡ wordAt s (c .at + 1) → (n : Cursor) → n ≡ moved c (text k) → Text k n ≡ stepAt s c
+    pub text-here : getD s (c .at) 0 ≡ 5 → 4 ≤ length s - c .at - 1 → (k : ℕ) → k ≡ wordAt s (c .at + 1) → (n : Cursor)
+        → n ≡ moved c (text k) → Text k n ≡ stepAt s c
     unfolding whole operands
-    text-here e l k g n f = stepped (text k) n (all-there 5 _ e l (rw (worded 0 k (g ∙ ap (wordAt s) (let z : c .at + 1 ≡ c .at + 1 + 0 = omega arith in z))))) f
+    text-here e l k g n f = stepped (text k) n
+        (all-there 5 _ e l (rw (worded 0 k (g ∙ ap (wordAt s) (let z : c .at + 1 ≡ c .at + 1 + 0 = omega arith in z))))) f
 
     pub other-here : getD s (c .at) 0 ≡ 6 → (n : Cursor) → n ≡ moved c other → Other n ≡ stepAt s c
     unfolding whole operands
@@ -200,14 +208,26 @@ module _ (s : List ℕ) (c : Cursor) where
   behind : (b m : ℕ) → suc (operands b) ≡ m → commandsFrom (operands b) (drop (suc (c .at)) s) ≡ commands (drop (c .at + m) s)
   behind b m e =
       skipped (operands b) (drop (suc (c .at)) s)
-      ∙ ap commands (drop-drop (operands b) (suc (c .at)) s ∙ ap (λ k. drop k s) (let z : suc (c .at) + operands b ≡ c .at + m = omega (arith, e) in z))
+      ∙ ap commands (drop-drop (operands b) (suc (c .at)) s
+      ∙ ap (λ k. drop k s) (let z : suc (c .at) + operands b ≡ c .at + m = omega (arith, e) in z))
 
-  at-command : (b : ℕ) (x : Command) → Sized (operands b) x → commandsAt s c ≡ follow x (λ u. commandsFrom (operands b) (drop (suc (c .at)) s))
+  at-command : (b : ℕ) (x : Command) → Sized (operands b) x
+      → commandsAt s c ≡ follow x (λ u. commandsFrom (operands b) (drop (suc (c .at)) s))
       → Told s c (toStep x (moved c x))
   unfolding commandsAt
   at-command b (opening a k) z e = record { more = e ∙ ap (λ l. opening a k ∷ l) (behind b 3 z); next = refl; further = omega arith }
-  at-command b (attribute a k l) z e = record { more = e ∙ ap (λ r. attribute a k l ∷ r) (behind b 7 z); next = refl; further = omega arith }
-  at-command b (declaration a k l) z e = record { more = e ∙ ap (λ r. declaration a k l ∷ r) (behind b 7 z); next = refl; further = omega arith }
+  at-command b (attribute a k l) z e = record {
+    more = e
+        ∙ ap (λ r. attribute a k l ∷ r) (behind b 7 z);
+    next = refl;
+    further = omega arith;
+  }
+  at-command b (declaration a k l) z e = record {
+    more = e
+        ∙ ap (λ r. declaration a k l ∷ r) (behind b 7 z);
+    next = refl;
+    further = omega arith;
+  }
   at-command b (reading k o l) z e = record { more = e ∙ ap (λ r. reading k o l ∷ r) (behind b 10 z); next = refl; further = omega arith }
   at-command b (text l) z e = record { more = e ∙ ap (λ r. text l ∷ r) (behind b 5 z); next = refl; further = omega arith }
   at-command b other z e = record { more = e ∙ ap (λ r. other ∷ r) (behind b 1 z); next = refl; further = omega arith }
@@ -219,7 +239,8 @@ module _ (s : List ℕ) (c : Cursor) where
   told-of = go (leb (length s) (c .at)) refl
     where
       go : (t : Bool) → leb (length s) (c .at) ≡ t → Told s c (stepAt s c)
-      go true e = subst (Told s c) (ended s c (leb-true (length s) (c .at) e)) (ap commands (drop-of-length-le s (leb-true (length s) (c .at) e)))
+      go true e = subst (Told s c) (ended s c (leb-true (length s) (c .at) e))
+          (ap commands (drop-of-length-le s (leb-true (length s) (c .at) e)))
       go false e =
           let h : c .at < length s = leb-false (length s) (c .at) e in
           let b : ℕ = getD s (c .at) 0 in
@@ -265,7 +286,8 @@ unbroken (reading k o l) h = refl
 unbroken (text l) h = refl
 unbroken other h = refl
 unbroken closing h = refl
-unbroken {s} {c} (broken b) {n} h = absurd (let z : n .at ≡ c .at + 0 = ap (λ (k : Cursor). k .at) (h .next) in omega (arith, h .further, z))
+unbroken {s} {c} (broken b) {n} h = absurd
+    (let z : n .at ≡ c .at + 0 = ap (λ (k : Cursor). k .at) (h .next) in omega (arith, h .further, z))
 
 module _ (s : List ℕ) where
   -- The place j commands behind c, which stands k commands behind d.
@@ -276,7 +298,8 @@ module _ (s : List ℕ) where
   place-add (suc k) j d c e f = rw suc-add (go (what-stands s d) (λ m g z. place-add k j m c g z))
     where
       go : Stands s d
-          → ((m : Cursor) → placeFrom k m (commandsAt s m) ≡ c → c .number ≡ m .number + k → placeFrom (k + j) m (commandsAt s m) ≡ placeFrom j c (commandsAt s c))
+          → ((m : Cursor) → placeFrom k m (commandsAt s m) ≡ c → c .number ≡ m .number + k
+          → placeFrom (k + j) m (commandsAt s m) ≡ placeFrom j c (commandsAt s c))
           → placeFrom (suc (k + j)) d (commandsAt s d) ≡ placeFrom j c (commandsAt s c)
       go (nothing-there z) ih = absurd (let y : d ≡ c = rw z at e in omega (arith, ap (λ (w : Cursor). w .number) y, f))
       go (broken-there b z) ih = absurd (let y : d ≡ c = rw z at e in omega (arith, ap (λ (w : Cursor). w .number) y, f))
@@ -297,7 +320,8 @@ module _ (s : List ℕ) where
 
   pub placed-first : (c : Cursor) → c ≡ atStart → length s ≤ mostBytes → Fit s c
   unfolding placeOf placeFrom
-  placed-first c e h = subst (Fit s) (sym e) (record { size = h; at = omega arith; chars = omega arith; number = omega arith; texts = omega arith; placed = refl })
+  placed-first c e h = subst (Fit s) (sym e)
+      (record { size = h; at = omega arith; chars = omega arith; number = omega arith; texts = omega arith; placed = refl })
 
 -- THE CURSOR BEHIND A COMMAND
 
@@ -331,7 +355,8 @@ going-of s other n f = f
 going-of s closing n f = f
 going-of s (broken b) n f = tt
 
-fit-next : (s : List ℕ) (c : Cursor) (x : Command) (n : Cursor) → Fit s c → Here s c x n → c .at + bytesOf x ≤ length s → taken x < 2 ^ 32 → Fit s n
+fit-next : (s : List ℕ) (c : Cursor) (x : Command) (n : Cursor) → Fit s c → Here s c x n → c .at + bytesOf x ≤ length s
+    → taken x < 2 ^ 32 → Fit s n
 fit-next s c x n f h b l = record {
   size = f .size;
   at = omega (arith, at, b);
@@ -345,7 +370,8 @@ fit-next s c x n f h b l = record {
     at = ap (λ (v : Cursor). v .at) (h .next)
 
 -- A step to a whole command, with a cursor in range behind it.
-pub passing : (s : List ℕ) (c : Cursor) (x : Command) (n : Cursor) → Fit s c → toStep x n ≡ stepAt s c → isBroken x ≡ false → c .at + bytesOf x ≤ length s → taken x < 2 ^ 32
+pub passing : (s : List ℕ) (c : Cursor) (x : Command) (n : Cursor) → Fit s c → toStep x n ≡ stepAt s c → isBroken x ≡ false
+    → c .at + bytesOf x ≤ length s → taken x < 2 ^ 32
     → (toStep x n ≡ stepAt s c) × (Going s (toStep x n))
 passing s c x n f e w b l =
     (e, going-of s x n (fit-next s c x n f (here-of s c x n w (told s c (toStep x n) (toStep x n) refl e)) b l))

@@ -112,10 +112,19 @@ all-halves = refl
 pub half-is : (a n m : ℕ) (ks : List ℕ) → Kinds m ks → isHalfFont (value a n ks) ≡ and (leb 32 m) (ltb m 1536)
 unfolding isHalfFont halves
 half-is a n m ks s =
-    rw (← s .same 5 (lit≤ tt), ← s .same 6 (lit≤ tt), ← s .same 7 (lit≤ tt), ← s .same 8 (lit≤ tt), ← s .same 9 (lit≤ tt), ← s .same 10 (lit≤ tt))
+    rw (
+      ← s .same 5 (lit≤ tt),
+      ← s .same 6 (lit≤ tt),
+      ← s .same 7 (lit≤ tt),
+      ← s .same 8 (lit≤ tt),
+      ← s .same 9 (lit≤ tt),
+      ← s .same 10
+          (lit≤ tt),
+    )
     (alike-is _ _ (below 2048 halves all-halves m (s .small)))
 
-pub half-at : (last : Last) (a n m : ℕ) → last ≡ Value a n m → (ks : List ℕ) → Held last ks → isHalfFont (lastOf last ks) ≡ and (leb 32 m) (ltb m 1536)
+pub half-at : (last : Last) (a n m : ℕ) → last ≡ Value a n m → (ks : List ℕ) → Held last ks
+    → isHalfFont (lastOf last ks) ≡ and (leb 32 m) (ltb m 1536)
 half-at last a n m e ks h =
     ap (λ l. isHalfFont (lastOf l ks)) e ∙ half-is a n m ks (subst (λ l. Held l ks) e h)
 

@@ -30,7 +30,8 @@ part-is zero n l = ap (λ m. take m l) (sym (zero-add n))
 part-is (suc a) n [] = take-nil n ∙ sym (ap (drop (suc a)) (take-nil (suc a + n)))
 part-is (suc a) n (x ∷ l) = part-is a n l ∙ ap (λ m. drop (suc a) (take m (x ∷ l))) (sym (suc-add a n))
 
-pub utf8-part : (chars : List ℕ) (a n e : ℕ) (r t : Bool) → r ≡ isUtf8 (take (e - a) (drop a chars)) → e ≡ a + n → r ≡ t → not (isUtf8 (slice a (a + n) chars)) ≡ not t
+pub utf8-part : (chars : List ℕ) (a n e : ℕ) (r t : Bool) → r ≡ isUtf8 (take (e - a) (drop a chars)) → e ≡ a + n → r ≡ t
+    → not (isUtf8 (slice a (a + n) chars)) ≡ not t
 utf8-part chars a n e r t h g f =
     ap not (ap isUtf8 (sym (part-is a n chars) ∙ ap (λ m. take m (drop a chars)) (let z : n ≡ e - a = omega arith in z)) ∙ sym h ∙ f)
 

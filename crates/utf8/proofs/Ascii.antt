@@ -40,10 +40,13 @@ module _ (s : List ℕ) (i : ℕ) (h : i < length s) where
   some = omega (arith, length-drop i s)
 
   pub reach-on : (n : ℕ) → n ≡ sequenceOf wellFormed (drop i s) → (n ≡ 0 → ⊥) → Reach s i (i + n)
-  reach-on n e z = reach-more s i n (omega arith) (subst (λ m. Read (drop i s) m) (let q : 0 + n ≡ n = omega arith in q) (read-on (drop i s) 0 some (read-none (drop i s)) n e z))
+  reach-on n e z = reach-more s i n (omega arith)
+      (subst (λ m. Read (drop i s) m) (let q : 0 + n ≡ n = omega arith in q) (read-on (drop i s) 0 some (read-none (drop i s)) n e z))
 
   pub reach-ascii : getD s i 0 < 0x80 → Reach s i (i + 1)
-  reach-ascii a = reach-more s i 1 (omega arith) (read-ascii (drop i s) 0 some (read-none (drop i s)) (rw getD-drop (subst (λ m. getD s m 0 < 0x80) (let q : i ≡ i + 0 = omega arith in q) a)))
+  reach-ascii a = reach-more s i 1 (omega arith)
+      (read-ascii (drop i s) 0 some (read-none (drop i s))
+      (rw getD-drop (subst (λ m. getD s m 0 < 0x80) (let q : i ≡ i + 0 = omega arith in q) a)))
 
   pub reach-bad : (n : ℕ) → n ≡ sequenceOf wellFormed (drop i s) → n ≡ 0 → isUtf8From 0 (drop i s) ≡ false
   unfolding isUtf8
@@ -54,7 +57,8 @@ unfolding isUtf8
 reach-all s a i r h = read-all (drop i s) 0 (read-none (drop i s)) (omega (arith, length-drop i s)) ∙ r .same
 
 -- Where the reading stopped tells whether the string is UTF-8.
-pub reach-end : (s : List ℕ) (a i : ℕ) → Reach s a i → (i < length s → isUtf8From 0 (drop i s) ≡ false) → eqb i (length s) ≡ isUtf8From 0 (drop a s)
+pub reach-end : (s : List ℕ) (a i : ℕ) → Reach s a i → (i < length s → isUtf8From 0 (drop i s) ≡ false)
+    → eqb i (length s) ≡ isUtf8From 0 (drop a s)
 reach-end s a i r f = go (eqb i (length s)) refl
   where
     go : (t : Bool) → eqb i (length s) ≡ t → t ≡ isUtf8From 0 (drop a s)
@@ -69,7 +73,8 @@ pub reach-block : (s : List ℕ) (i n : ℕ) → i + n ≤ length s → Ascii s 
 reach-block s i zero h a = subst (λ j. Reach s i j) (let z : i ≡ i + 0 = omega arith in z) (reach-none s i (omega arith))
 reach-block s i (suc n) h a =
     subst (λ j. Reach s i j) (let z : i + n + 1 ≡ i + suc n = omega arith in z)
-    (reach-join s i (i + n) (i + n + 1) (reach-block s i n (omega arith) (λ k l. a k (omega arith))) (reach-ascii s (i + n) (omega arith) (a n (omega arith))))
+    (reach-join s i (i + n) (i + n + 1) (reach-block s i n (omega arith) (λ k l. a k (omega arith)))
+    (reach-ascii s (i + n) (omega arith) (a n (omega arith))))
 
 -- Near the end: at most m bytes are left.
 pub record Rest (s : List ℕ) (m a i : ℕ) : Type 0 where
@@ -91,7 +96,8 @@ rest-all s m a i r h b =
     reach-join s a i (length s) (r .reach)
     (subst (λ j. Reach s i j) (let z : i + (length s - i) ≡ length s = omega arith in z)
     (reach-block s i (length s - i) (omega arith)
-    (λ k q. subst (λ x. getD s x 0 < 0x80) (let z : length s - m + (i + k - (length s - m)) ≡ i + k = omega arith in z) (b (i + k - (length s - m)) (omega arith)))))
+    (λ k q. subst (λ x. getD s x 0 < 0x80) (let z : length s - m + (i + k - (length s - m)) ≡ i + k = omega arith in z)
+    (b (i + k - (length s - m)) (omega arith)))))
 
 -- COUNTING A BLOCK
 

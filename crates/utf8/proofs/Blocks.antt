@@ -12,7 +12,8 @@ use lib.Dec.{eqb, leb, ltb}
 use lib.ListN.{length, getD, drop}
 use Rattle.model.specs.Base.{pick, and, or}
 use Rattle.model.specs.Utf8.{Range, _to_, isWithin, wellFormed, sequenceOf}
-use Rattle.utf8.specs.Lead.{lengthOf, secondOf, never, leftOut, misplaced, misplacedOfTwo, begunBy, anyBelow, misplacedIn, misplacedOfTwoIn, begunAt}
+use Rattle.utf8.specs.Lead.{lengthOf, secondOf, never, leftOut, misplaced, misplacedOfTwo, begunBy, anyBelow, misplacedIn}
+use Rattle.utf8.specs.Lead.{misplacedOfTwoIn, begunAt}
 use Rattle.utf8.proofs.Parts.{and-left, and-right}
 use Rattle.utf8.proofs.Sequence.{allBelow, below, first-most, length-most, one, two, three, four}
 use Rattle.utf8.proofs.Ascii.{Reach, reach-none, reach-join, reach-on}
@@ -82,7 +83,8 @@ all-first = refl
 module _ (p b : ℕ) (h : b < 256) where
   wide : (p ≡ 0xE0 → ⊥) → (p ≡ 0xED → ⊥) → (p ≡ 0xF0 → ⊥) → (p ≡ 0xF4 → ⊥) → computed true p b ≡ not (isWithin b (secondOf p))
   unfolding secondOf further-rule rule
-  wide w x y z = rw (ne-eqb p 0xE0 w, ne-eqb p 0xED x, ne-eqb p 0xF0 y, ne-eqb p 0xF4 z) (beq-true _ _ (below 256 further-rule all-further b h))
+  wide w x y z = rw (ne-eqb p 0xE0 w, ne-eqb p 0xED x, ne-eqb p 0xF0 y, ne-eqb p 0xF4 z)
+      (beq-true _ _ (below 256 further-rule all-further b h))
 
   -- Behind a byte that more bytes follow.
   second-is : computed true p b ≡ not (isWithin b (secondOf p))
@@ -92,7 +94,8 @@ module _ (p b : ℕ) (h : b < 256) where
       at : (q : ℕ) → p ≡ q → allBelow 256 (second-rule q) ≡ true → computed true p b ≡ not (isWithin b (secondOf p))
       at q e a = subst (λ r. computed true r b ≡ not (isWithin b (secondOf r))) (sym e) (beq-true _ _ (below 256 (second-rule q) a b h))
 
-      go : (t u v w : Bool) → eqb p 0xE0 ≡ t → eqb p 0xED ≡ u → eqb p 0xF0 ≡ v → eqb p 0xF4 ≡ w → computed true p b ≡ not (isWithin b (secondOf p))
+      go : (t u v w : Bool) → eqb p 0xE0 ≡ t → eqb p 0xED ≡ u → eqb p 0xF0 ≡ v → eqb p 0xF4 ≡ w
+          → computed true p b ≡ not (isWithin b (secondOf p))
       go true u v w d e f g = at 0xE0 (eqb-true p 0xE0 d) all-e0
       go false true v w d e f g = at 0xED (eqb-true p 0xED e) all-ed
       go false false true w d e f g = at 0xF0 (eqb-true p 0xF0 f) all-f0
@@ -102,11 +105,23 @@ module _ (p b : ℕ) (h : b < 256) where
   -- Behind a byte that no other follows as a second.
   further-is : p < 0xC0 → computed true p b ≡ not (isWithin b (0x80 to 0xBF))
   unfolding further-rule rule
-  further-is l = rw (ne-eqb p 0xE0 (λ z. omega arith), ne-eqb p 0xED (λ z. omega arith), ne-eqb p 0xF0 (λ z. omega arith), ne-eqb p 0xF4 (λ z. omega arith)) (beq-true _ _ (below 256 further-rule all-further b h))
+  further-is l = rw (
+    ne-eqb p 0xE0 (λ z. omega arith),
+    ne-eqb p 0xED (λ z. omega arith),
+    ne-eqb p 0xF0 (λ z. omega arith),
+    ne-eqb p 0xF4
+        (λ z. omega arith),
+  ) (beq-true _ _ (below 256 further-rule all-further b h))
 
   first-is : p < 0xC0 → computed false p b ≡ eqb (lengthOf b) 0
   unfolding first-rule rule
-  first-is l = rw (ne-eqb p 0xE0 (λ z. omega arith), ne-eqb p 0xED (λ z. omega arith), ne-eqb p 0xF0 (λ z. omega arith), ne-eqb p 0xF4 (λ z. omega arith)) (beq-true _ _ (below 256 first-rule all-first b h))
+  first-is l = rw (
+    ne-eqb p 0xE0 (λ z. omega arith),
+    ne-eqb p 0xED (λ z. omega arith),
+    ne-eqb p 0xF0 (λ z. omega arith),
+    ne-eqb p 0xF4
+        (λ z. omega arith),
+  ) (beq-true _ _ (below 256 first-rule all-first b h))
 
 pub misplaced-is : (p3 p2 p1 b : ℕ) → b < 256 → computed (leb 0xC0 p1 || (leb 0xE0 p2 || leb 0xF0 p3)) p1 b ≡ misplaced p3 p2 p1 b
 unfolding misplaced
@@ -172,7 +187,8 @@ second-most p b e = go (eqb p 0xED) (eqb p 0xF4) (within-most b (secondOf p) e)
 
 -- The first bytes of the sequences of d bytes.
 firsts : ℕ → Range
-firsts d = pick (eqb d 1) (λ u. 0x00 to 0x7F) (λ u. pick (eqb d 2) (λ v. 0xC2 to 0xDF) (λ v. pick (eqb d 3) (λ w. 0xE0 to 0xEF) (λ w. 0xF0 to 0xF4)))
+firsts d = pick (eqb d 1) (λ u. 0x00 to 0x7F)
+    (λ u. pick (eqb d 2) (λ v. 0xC2 to 0xDF) (λ v. pick (eqb d 3) (λ w. 0xE0 to 0xEF) (λ w. 0xF0 to 0xF4)))
 
 firsts-rule : ℕ → Bool
 firsts-rule b = or (eqb (lengthOf b) 0) (isWithin b (firsts (lengthOf b)))
@@ -192,7 +208,8 @@ any-more p t u j e f = ap₂ (λ a b. a || b) e f ∙ ap (λ n. anyBelow n p) (s
 any-none : (n : ℕ) (p : ℕ → Bool) → anyBelow n p ≡ false → (k : ℕ) → k < n → p k ≡ false
 unfolding anyBelow
 any-none zero p e k h = absurd (omega arith)
-any-none (suc n) p e k h = below-more (λ j. p j ≡ false) n (any-none n p (or-left (anyBelow n p) (p n) e)) (or-right (anyBelow n p) (p n) e) k (omega arith)
+any-none (suc n) p e k h = below-more (λ j. p j ≡ false) n (any-none n p (or-left (anyBelow n p) (p n) e))
+    (or-right (anyBelow n p) (p n) e) k (omega arith)
 
 -- Is each of the n bytes behind the three from a on in place?
 abbrev Placed : List ℕ → ℕ → ℕ → Type 0
@@ -248,26 +265,32 @@ module _ (s : List ℕ) (a n : ℕ) (r : a + 3 + n ≤ length s) (q : Quiet s a)
 
   begins : lengthOf b0 ≡ 0 → ⊥
   unfolding b0
-  begins = first-fits _ _ _ _ (placed-at 0 a (a + 1) (a + 2) (a + 3) some (omega arith) (omega arith) (omega arith) (omega arith)) (q .first) (q .second) (q .third)
+  begins = first-fits _ _ _ _ (placed-at 0 a (a + 1) (a + 2) (a + 3) some (omega arith) (omega arith) (omega arith) (omega arith))
+      (q .first) (q .second) (q .third)
 
   at-second : 0xC0 ≤ b0 → 1 < n → isWithin (getD s (a + 3 + 1) 0) (secondOf b0) ≡ true
   unfolding b0
-  at-second l h = second-fits _ _ _ _ (placed-at 1 (a + 1) (a + 2) (a + 3) (a + 3 + 1) h (omega arith) (omega arith) (omega arith) (omega arith)) l
+  at-second l h = second-fits _ _ _ _
+      (placed-at 1 (a + 1) (a + 2) (a + 3) (a + 3 + 1) h (omega arith) (omega arith) (omega arith) (omega arith)) l
 
   second-less : 0xC0 ≤ b0 → 1 < n → getD s (a + 3 + 1) 0 < 0xC0
   second-less l h = second-most b0 _ (at-second l h)
 
   at-third : 0xE0 ≤ b0 → 2 < n → isWithin (getD s (a + 3 + 2) 0) (0x80 to 0xBF) ≡ true
   unfolding b0
-  at-third l h = third-fits _ _ _ _ (placed-at 2 (a + 2) (a + 3) (a + 3 + 1) (a + 3 + 2) h (omega arith) (omega arith) (omega arith) (omega arith)) (second-less (omega arith) (omega arith)) l
+  at-third l h = third-fits _ _ _ _
+      (placed-at 2 (a + 2) (a + 3) (a + 3 + 1) (a + 3 + 2) h (omega arith) (omega arith) (omega arith) (omega arith))
+      (second-less (omega arith) (omega arith)) l
 
   third-less : 0xE0 ≤ b0 → 2 < n → getD s (a + 3 + 2) 0 < 0xC0
   third-less l h = let m : getD s (a + 3 + 2) 0 ≤ 0xBF = within-most _ (0x80 to 0xBF) (at-third l h) in omega arith
 
   at-fourth : 0xF0 ≤ b0 → 3 < n → isWithin (getD s (a + 3 + 3) 0) (0x80 to 0xBF) ≡ true
   unfolding b0
-  at-fourth l h = fourth-fits _ _ _ _ (placed-at 3 (a + 3) (a + 3 + 1) (a + 3 + 2) (a + 3 + 3) h (omega arith) (omega arith) (omega arith) (omega arith))
-      (third-less (omega arith) (omega arith)) (let m : getD s (a + 3 + 1) 0 < 0xC0 = second-less (omega arith) (omega arith) in omega arith) l
+  at-fourth l h = fourth-fits _ _ _ _
+      (placed-at 3 (a + 3) (a + 3 + 1) (a + 3 + 2) (a + 3 + 3) h (omega arith) (omega arith) (omega arith) (omega arith))
+      (third-less (omega arith) (omega arith))
+      (let m : getD s (a + 3 + 1) 0 < 0xC0 = second-less (omega arith) (omega arith) in omega arith) l
 
   fourth-less : 0xF0 ≤ b0 → 3 < n → getD s (a + 3 + 3) 0 < 0xC0
   fourth-less l h = let m : getD s (a + 3 + 3) 0 ≤ 0xBF = within-most _ (0x80 to 0xBF) (at-fourth l h) in omega arith
@@ -300,7 +323,8 @@ module _ (s : List ℕ) (a n : ℕ) (r : a + 3 + n ≤ length s) (q : Quiet s a)
   whole2 e h =
       let l : 0xC0 ≤ b0 = omega (arith, low 1 e) in
       record {
-        is = two s (a + 3) 2 (omega arith) (first-most b0 1 e) (sym e) (record { room = omega arith; size = omega arith; fits = at-second l h }) (omega arith);
+        is = two s (a + 3) 2 (omega arith) (first-most b0 1 e) (sym e)
+            (record { room = omega arith; size = omega arith; fits = at-second l h }) (omega arith);
         quiet = record {
           third = less (a + 2) (a + 2) 0xC0 0xF0 refl (omega arith) (q .first);
           second = less (a + 3) (a + 2 + 1) 0xE0 0xE0 (omega arith) (omega arith) (omega (arith, high 1 e));
@@ -378,10 +402,12 @@ module _ (s : List ℕ) (a n : ℕ) (r : a + 3 + n ≤ length s) (q : Quiet s a)
       go (suc zero) h = begun-one _ _ _ (more (a + 3) (a + 1 + 2) 0xC0 (omega arith) (least d e .0 (omega arith)))
       go (suc (suc zero)) h =
           let k : 0xE0 ≤ getD s (a + 3) 0 = least d e .1 (omega arith) in
-          begun-two _ _ _ (less (a + 3 + 1) (a + 2 + 2) 0xC0 0xC0 (omega arith) (omega arith) (second-less (omega arith) (omega arith))) (more (a + 3) (a + 2 + 1) 0xE0 (omega arith) k)
+          begun-two _ _ _ (less (a + 3 + 1) (a + 2 + 2) 0xC0 0xC0 (omega arith) (omega arith) (second-less (omega arith) (omega arith)))
+          (more (a + 3) (a + 2 + 1) 0xE0 (omega arith) k)
       go (suc (suc (suc zero))) h =
           let k : 0xF0 ≤ getD s (a + 3) 0 = least d e .2 (omega arith) in
-          begun-three _ _ _ (third-less (omega arith) (omega arith)) (less (a + 3 + 1) (a + 3 + 1) 0xC0 0xE0 refl (omega arith) (second-less (omega arith) (omega arith))) k
+          begun-three _ _ _ (third-less (omega arith) (omega arith))
+          (less (a + 3 + 1) (a + 3 + 1) 0xC0 0xE0 refl (omega arith) (second-less (omega arith) (omega arith))) k
       go (suc (suc (suc (suc m)))) h = absurd (omega (arith, e, length-most b0 (first-most b0 (d - 1) (e ∙ omega arith))))
 
   -- The block is read if what is left of it behind the sequence is.
@@ -390,7 +416,8 @@ module _ (s : List ℕ) (a n : ℕ) (r : a + 3 + n ≤ length s) (q : Quiet s a)
   unfolding b0
   onward rest = go (lengthOf (getD s (a + 3) 0)) refl (leb (lengthOf (getD s (a + 3) 0)) n) refl
     where
-      go : (d : ℕ) → lengthOf (getD s (a + 3) 0) ≡ d → (t : Bool) → leb (lengthOf (getD s (a + 3) 0)) n ≡ t → Reach s (a + 3) (a + 3 + n - begunAt s (a + n))
+      go : (d : ℕ) → lengthOf (getD s (a + 3) 0) ≡ d → (t : Bool) → leb (lengthOf (getD s (a + 3) 0)) n ≡ t
+          → Reach s (a + 3) (a + 3 + n - begunAt s (a + n))
       go d e true f =
           let h : d ≤ n = omega (arith, e, leb-true _ n f) in
           let z : d ≡ 0 → ⊥ = λ y. begins (e ∙ y) in
@@ -404,7 +431,8 @@ module _ (s : List ℕ) (a n : ℕ) (r : a + 3 + n ≤ length s) (q : Quiet s a)
           (subst (λ j. Reach s (a + d + 3) (a + d + 3 + (n - d) - begunAt s j)) y (rest d z h (w .quiet)))))
       go d e false f =
           let c : begunAt s (a + n) ≡ n = cut-off d e (omega (arith, e, leb-false _ n f)) in
-          subst (λ j. Reach s (a + 3) j) (let y : a + 3 ≡ a + 3 + n - begunAt s (a + n) = omega (arith, c) in y) (reach-none s (a + 3) (omega arith))
+          subst (λ j. Reach s (a + 3) j) (let y : a + 3 ≡ a + 3 + n - begunAt s (a + n) = omega (arith, c) in y)
+          (reach-none s (a + 3) (omega arith))
 
 -- A BLOCK
 
@@ -415,8 +443,10 @@ placed-from s a n d m l p k h =
 
 none-left : (s : List ℕ) (a n : ℕ) → n ≡ 0 → a + 3 + n ≤ length s → Quiet s a → Reach s (a + 3) (a + 3 + n - begunAt s (a + n))
 none-left s a n e r q =
-    let z : begunAt s (a + n) ≡ 0 = ap (λ x. begunAt s x) (let y : a + n ≡ a = omega arith in y) ∙ begun-none _ _ _ (q .first) (q .second) (q .third) in
-    subst (λ j. Reach s (a + 3) j) (let y : a + 3 ≡ a + 3 + n - begunAt s (a + n) = omega (arith, z) in y) (reach-none s (a + 3) (omega arith))
+    let z : begunAt s (a + n) ≡ 0 = ap (λ x. begunAt s x) (let y : a + n ≡ a = omega arith in y)
+    ∙ begun-none _ _ _ (q .first) (q .second) (q .third) in
+    subst (λ j. Reach s (a + 3) j) (let y : a + 3 ≡ a + 3 + n - begunAt s (a + n) = omega (arith, z) in y)
+    (reach-none s (a + 3) (omega arith))
 
 some-left : (s : List ℕ) (a n : ℕ) → a + 3 + n ≤ length s → Quiet s a
     → (0 < n → Reach s (a + 3) (a + 3 + n - begunAt s (a + n))) → Reach s (a + 3) (a + 3 + n - begunAt s (a + n))
@@ -427,11 +457,13 @@ some-left s a n r q more = go (eqb n 0) refl
     go false e = let d : n ≡ 0 → ⊥ = eqb-false n 0 e in more (omega arith)
 
 -- At most f bytes.
-blocks-reach : (f : ℕ) (s : List ℕ) (a n : ℕ) → n ≤ f → a + 3 + n ≤ length s → Quiet s a → Placed s a n → Reach s (a + 3) (a + 3 + n - begunAt s (a + n))
+blocks-reach : (f : ℕ) (s : List ℕ) (a n : ℕ) → n ≤ f → a + 3 + n ≤ length s → Quiet s a → Placed s a n
+    → Reach s (a + 3) (a + 3 + n - begunAt s (a + n))
 blocks-reach zero s a n l r q p = none-left s a n (omega arith) r q
 blocks-reach (suc f) s a n l r q p =
     some-left s a n r q
-    (λ m. onward s a n r q p m (λ d z h w. blocks-reach f s (a + d) (n - d) (omega arith) (omega arith) w (placed-from s a n d (n - d) (omega arith) p)))
+    (λ m. onward s a n r q p m (λ d z h w. blocks-reach f s (a + d) (n - d) (omega arith) (omega arith) w
+    (placed-from s a n d (n - d) (omega arith) p)))
 
 -- SEQUENCES OF ONE BYTE AND OF TWO
 
@@ -471,7 +503,15 @@ module _ (p b : ℕ) (h : misplacedOfTwo p b ≡ false) where
   placed-of-two p3 p2 l m k = go (leb 0xC0 p) refl
     where
       go : (t : Bool) → leb 0xC0 p ≡ t → misplaced p3 p2 p b ≡ false
-      go true e = rw (e, ne-eqb p 0xE0 (λ z. omega arith), ne-eqb p 0xED (λ z. omega arith), ne-eqb p 0xF0 (λ z. omega arith), ne-eqb p 0xF4 (λ z. omega arith), behind-two (leb-true 0xC0 p e))
+      go true e = rw (
+        e,
+        ne-eqb p 0xE0 (λ z. omega arith),
+        ne-eqb p 0xED (λ z. omega arith),
+        ne-eqb p 0xF0
+            (λ z. omega arith),
+        ne-eqb p 0xF4 (λ z. omega arith),
+        behind-two (leb-true 0xC0 p e),
+      )
       go false e = rw (e, lt-leb 0xE0 p2 m, lt-leb 0xF0 p3 l) (first-of-two (leb-false 0xC0 p e))
 
 -- The n bytes behind the three from a on, in sequences of one byte and of two.
@@ -497,11 +537,13 @@ module _ (s : List ℕ) (a n : ℕ) (q : Quiet s a) (p : PlacedOfTwo s a n) wher
 -- READING A BLOCK
 
 -- The n bytes from i on, each of them in place.
-placed-reach : (s : List ℕ) (i n : ℕ) → 3 ≤ i → i + n ≤ length s → begunAt s (i - 3) ≡ 0 → Placed s (i - 3) n → Reach s i (i + n - begunAt s (i + n - 3))
+placed-reach : (s : List ℕ) (i n : ℕ) → 3 ≤ i → i + n ≤ length s → begunAt s (i - 3) ≡ 0 → Placed s (i - 3) n
+    → Reach s i (i + n - begunAt s (i + n - 3))
 placed-reach s i n h l e p =
     let x : i - 3 + 3 ≡ i = omega arith in
     let y : i - 3 + n ≡ i + n - 3 = omega arith in
-    rw (← y) (subst (λ j. Reach s j (j + n - begunAt s (i - 3 + n))) x (blocks-reach n s (i - 3) n (omega arith) (omega arith) (quiet-at s (i - 3) e) p))
+    rw (← y) (subst (λ j. Reach s j (j + n - begunAt s (i - 3 + n))) x
+    (blocks-reach n s (i - 3) n (omega arith) (omega arith) (quiet-at s (i - 3) e) p))
 
 module _ (s : List ℕ) (i n : ℕ) (h : 3 ≤ i) (l : i + n ≤ length s) (e : begunAt s (i - 3) ≡ 0) where
   pub block-reach : misplacedIn s (i - 3) n ≡ false → Reach s i (i + n - begunAt s (i + n - 3))
@@ -511,14 +553,16 @@ module _ (s : List ℕ) (i n : ℕ) (h : 3 ≤ i) (l : i + n ≤ length s) (e : 
   block-of-two-reach m = placed-reach s i n h l e (two-placed s (i - 3) n (quiet-at s (i - 3) e) (any-none n _ m))
 
 -- All that is left, where the last m bytes are in place.
-pub last-reach : (s : List ℕ) (i m : ℕ) → 3 ≤ i → i ≤ length s → m + 3 ≤ length s → length s ≤ i + m → begunAt s (i - 3) ≡ 0 → misplacedIn s (length s - (m + 3)) m ≡ false
+pub last-reach : (s : List ℕ) (i m : ℕ) → 3 ≤ i → i ≤ length s → m + 3 ≤ length s → length s ≤ i + m → begunAt s (i - 3) ≡ 0
+    → misplacedIn s (length s - (m + 3)) m ≡ false
     → Reach s i (length s - begunAt s (length s - 3))
 last-reach s i m h l o w e p =
     let x : i + (length s - i) ≡ length s = omega arith in
     let y : length s - (m + 3) + (i + m - length s) ≡ i - 3 = omega arith in
     subst (λ j. Reach s i (j - begunAt s (j - 3))) x
     (placed-reach s i (length s - i) h (omega arith) e
-    (subst (λ j. Placed s j (length s - i)) y (placed-from s (length s - (m + 3)) m (i + m - length s) (length s - i) (omega arith) (any-none m _ p))))
+    (subst (λ j. Placed s j (length s - i)) y
+    (placed-from s (length s - (m + 3)) m (i + m - length s) (length s - i) (omega arith) (any-none m _ p))))
 
 -- At most three bytes are begun.
 pub begun-most : (s : List ℕ) (a : ℕ) → begunAt s a ≤ 3

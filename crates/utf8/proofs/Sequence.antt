@@ -97,7 +97,8 @@ no e = absurd (let z : _≡_ {A = ℕ} 0 1 = cc in omega arith)
 
 range-is : (r q : Range) → sameRange r q ≡ true → r ≡ q
 unfolding sameRange
-range-is r q e = ap₂ (λ a b. a to b) (eqb-true _ _ (and-left (eqb (r .first) (q .first)) _ e)) (eqb-true _ _ (and-right (eqb (r .first) (q .first)) _ e))
+range-is r q e = ap₂ (λ a b. a to b) (eqb-true _ _ (and-left (eqb (r .first) (q .first)) _ e))
+    (eqb-true _ _ (and-right (eqb (r .first) (q .first)) _ e))
 
 row-is : (r q : List Range) → sameRow r q ≡ true → r ≡ q
 unfolding sameRow
@@ -167,7 +168,8 @@ unfolding restOf
 length-is n b h = length-take-le (suc n - 1) (secondOf b ∷ 0x80 to 0xBF ∷ 0x80 to 0xBF ∷ []) (omega arith) ∙ omega arith
 
 -- By the length that the first byte tells: the bytes behind it decide.
-sequence-is : (b : ℕ) (bs : List ℕ) → b < 256 → sequenceOf wellFormed (b ∷ bs) ≡ pick (begins (restOf (lengthOf b) b) bs) (λ u. lengthOf b) (λ u. 0)
+sequence-is : (b : ℕ) (bs : List ℕ) → b < 256
+    → sequenceOf wellFormed (b ∷ bs) ≡ pick (begins (restOf (lengthOf b) b) bs) (λ u. lengthOf b) (λ u. 0)
 unfolding wellFormed right sized restOf begins
 sequence-is b bs h =
     by-first b bs rows ∙ ap (λ l. further l bs) (rows-are (behind b rows) (following (lengthOf b) b) (below 256 right all-right b h))
@@ -207,16 +209,20 @@ module _ (b : ℕ) (h : b < 256) (l : 0x80 ≤ b) where
   unfolding byOnes
   ones-four-none e m = by-ones ∙ rw (e, lt-ltb 0xF4 b m)
 
-  pub ones-none : (leadingZeros 8 (255 - b) ≡ 2 → ⊥) → (leadingZeros 8 (255 - b) ≡ 3 → ⊥) → (leadingZeros 8 (255 - b) ≡ 4 → ⊥) → lengthOf b ≡ 0
+  pub ones-none : (leadingZeros 8 (255 - b) ≡ 2 → ⊥) → (leadingZeros 8 (255 - b) ≡ 3 → ⊥) → (leadingZeros 8 (255 - b) ≡ 4 → ⊥)
+      → lengthOf b ≡ 0
   unfolding byOnes
-  ones-none x y z = by-ones ∙ rw (ne-eqb (leadingZeros 8 (255 - b)) 2 x, ne-eqb (leadingZeros 8 (255 - b)) 3 y, ne-eqb (leadingZeros 8 (255 - b)) 4 z)
+  ones-none x y z = by-ones ∙ rw
+      (ne-eqb (leadingZeros 8 (255 - b)) 2 x, ne-eqb (leadingZeros 8 (255 - b)) 3 y, ne-eqb (leadingZeros 8 (255 - b)) 4 z)
 
   -- Not two: none, three or four.
   ones-others : (leadingZeros 8 (255 - b) ≡ 2 → ⊥) → lengthOf b ≡ 0 ⊎ 3 ≤ lengthOf b
   unfolding byOnes
-  ones-others x = go (eqb (leadingZeros 8 (255 - b)) 3) (eqb (leadingZeros 8 (255 - b)) 4) (ltb 0xF4 b) (by-ones ∙ rw (ne-eqb (leadingZeros 8 (255 - b)) 2 x))
+  ones-others x = go (eqb (leadingZeros 8 (255 - b)) 3) (eqb (leadingZeros 8 (255 - b)) 4) (ltb 0xF4 b)
+      (by-ones ∙ rw (ne-eqb (leadingZeros 8 (255 - b)) 2 x))
     where
-      go : (t u w : Bool) → lengthOf b ≡ pick t (λ a. 3) (λ a. pick u (λ c. pick w (λ d. 0) (λ d. 4)) (λ c. 0)) → lengthOf b ≡ 0 ⊎ 3 ≤ lengthOf b
+      go : (t u w : Bool) → lengthOf b ≡ pick t (λ a. 3) (λ a. pick u (λ c. pick w (λ d. 0) (λ d. 4)) (λ c. 0))
+          → lengthOf b ≡ 0 ⊎ 3 ≤ lengthOf b
       go true u w e = inr (omega (arith, e))
       go false true true e = inl e
       go false true false e = inr (omega (arith, e))
@@ -232,13 +238,15 @@ unfolding lengthOf
 first-most b n e = go (ltb 0xF4 b) refl
   where
     go : (t : Bool) → ltb 0xF4 b ≡ t → b < 256
-    go true f = absurd (let m : 0xF4 < b = ltb-true 0xF4 b f in let z : 0 ≡ suc n = sym (rw (le-ltb b 0x80 (omega arith), le-ltb b 0xC2 (omega arith), f)) ∙ e in omega arith)
+    go true f = absurd (let m : 0xF4 < b = ltb-true 0xF4 b f in let z : 0
+        ≡ suc n = sym (rw (le-ltb b 0x80 (omega arith), le-ltb b 0xC2 (omega arith), f)) ∙ e in omega arith)
     go false f = let m : b ≤ 0xF4 = ltb-false 0xF4 b f in omega arith
 
 -- The range of the second byte, by the length.
 second-is : (b n : ℕ) → lengthOf b ≡ suc n → secondOf b ≡ secondIn (suc n) b
 unfolding second-right
-second-is b n e = range-is (secondOf b) (secondIn (suc n) b) (sym (rw (e, ne-eqb (suc n) 0 (λ z. omega arith))) ∙ below 256 second-right all-seconds b (first-most b n e))
+second-is b n e = range-is (secondOf b) (secondIn (suc n) b)
+    (sym (rw (e, ne-eqb (suc n) 0 (λ z. omega arith))) ∙ below 256 second-right all-seconds b (first-most b n e))
 
 pub second-of-two : (b : ℕ) → lengthOf b ≡ 2 → secondOf b ≡ 0x80 to 0xBF
 unfolding secondIn
@@ -281,7 +289,8 @@ first-stage s i n h f e = rw (drop-cons s i 0 h, add-one, e) (sequence-is (getD 
 
 module _ (v n k : ℕ) (q : Range) (rs : List Range) (s : List ℕ) (j : ℕ) (st : Stage v n k (q ∷ rs) s j) (more : k < n) where
   opened : v ≡ pick (begins (q ∷ take (n - (k + 1)) rs) (drop j s)) (λ u. n) (λ u. 0)
-  opened = st ∙ ap (λ m. pick (begins (take m (q ∷ rs)) (drop j s)) (λ u. n) (λ u. 0)) (let z : n - k ≡ suc (n - (k + 1)) = omega arith in z)
+  opened = st ∙ ap (λ m. pick (begins (take m (q ∷ rs)) (drop j s)) (λ u. n) (λ u. 0))
+      (let z : n - k ≡ suc (n - (k + 1)) = omega arith in z)
 
   good : j < length s → isWithin (getD s j 0) q ≡ true → Stage v n (k + 1) rs s (j + 1)
   unfolding begins
@@ -293,7 +302,8 @@ module _ (v n k : ℕ) (q : Range) (rs : List Range) (s : List ℕ) (j : ℕ) (s
 
 last-stage : (v n k : ℕ) (rs : List Range) (s : List ℕ) (j : ℕ) → Stage v n k rs s j → n ≤ k → n ≡ v
 unfolding begins
-last-stage v n k rs s j st h = sym (st ∙ ap (λ m. pick (begins (take m rs) (drop j s)) (λ u. n) (λ u. 0)) (let z : n - k ≡ 0 = omega arith in z))
+last-stage v n k rs s j st h = sym
+    (st ∙ ap (λ m. pick (begins (take m rs) (drop j s)) (λ u. n) (λ u. 0)) (let z : n - k ≡ 0 = omega arith in z))
 
 begins-length : (rs : List Range) (bs : List ℕ) → begins rs bs ≡ true → length rs ≤ length bs
 unfolding begins
@@ -301,11 +311,13 @@ begins-length [] bs e = omega arith
 begins-length (r ∷ rs) [] e = no e
 begins-length (r ∷ rs) (b ∷ bs) e = go (isWithin b r) e (begins-length rs bs)
   where
-    go : (t : Bool) → pick t (λ u. begins rs bs) (λ u. false) ≡ true → (begins rs bs ≡ true → length rs ≤ length bs) → suc (length rs) ≤ suc (length bs)
+    go : (t : Bool) → pick t (λ u. begins rs bs) (λ u. false) ≡ true → (begins rs bs ≡ true → length rs ≤ length bs)
+        → suc (length rs) ≤ suc (length bs)
     go true e ih = omega (arith, ih e)
     go false e ih = no e
 
-cut-off : (v n : ℕ) (rs : List Range) (s : List ℕ) (j : ℕ) → Stage v n 1 rs s j → n - 1 ≤ length rs → length s < j + (n - 1) → j ≤ length s → 0 ≡ v
+cut-off : (v n : ℕ) (rs : List Range) (s : List ℕ) (j : ℕ) → Stage v n 1 rs s j → n - 1 ≤ length rs → length s < j + (n - 1)
+    → j ≤ length s → 0 ≡ v
 cut-off v n rs s j st h l m = sym (st ∙ go (begins (take (n - 1) rs) (drop j s)) refl)
   where
     go : (t : Bool) → begins (take (n - 1) rs) (drop j s) ≡ t → pick t (λ u. n) (λ u. 0) ≡ 0
@@ -350,7 +362,8 @@ module _ (s : List ℕ) (i n : ℕ) (h : i < length s) (f : getD s i 0 < 256) (e
 
   stage3 : Third → Stage v n 3 (tail ∷ []) s (i + 3)
   stage3 g = subst (λ j. Stage v n 3 (tail ∷ []) s j) (let z : i + 2 + 1 ≡ i + 3 = omega arith in z)
-      (good v n 2 tail (tail ∷ []) s (i + 2) (stage2 (g .second)) (omega (arith, g .size)) (omega (arith, g .second .room, g .size)) (g .fits))
+      (good v n 2 tail (tail ∷ []) s (i + 2) (stage2 (g .second)) (omega (arith, g .size)) (omega (arith, g .second .room, g .size))
+      (g .fits))
 
   stage4 : Fourth → Stage v n 4 [] s (i + 4)
   stage4 g = subst (λ j. Stage v n 4 [] s j) (let z : i + 3 + 1 ≡ i + 4 = omega arith in z)
@@ -380,7 +393,8 @@ module _ (s : List ℕ) (i n : ℕ) (h : i < length s) (f : getD s i 0 < 256) (e
   pub few : 0x80 ≤ getD s i 0 → (leadingZeros 8 (255 - getD s i 0) ≡ 2 → ⊥) → length s < i + 3 → 0 ≡ sequenceOf wellFormed (drop i s)
   few l x m = ⊎-elim (λ z. sym (e ∙ z) ∙ one (omega (arith, e, z))) (λ z. cut (omega (arith, e, z))) (ones-others (getD s i 0) f l x)
 
-  pub bad-second : i + n ≤ length s → 2 ≤ n → isWithin (getD s (i + 1) 0) (secondOf (getD s i 0)) ≡ false → 0 ≡ sequenceOf wellFormed (drop i s)
+  pub bad-second : i + n ≤ length s → 2 ≤ n → isWithin (getD s (i + 1) 0) (secondOf (getD s i 0)) ≡ false
+      → 0 ≡ sequenceOf wellFormed (drop i s)
   unfolding v q
   bad-second r m a = bad v n 1 q (tail ∷ tail ∷ []) s (i + 1) stage1 (omega arith) (omega arith) a
 
@@ -420,7 +434,8 @@ unfolding isUtf8
 read-none s = record { within = omega arith; same = refl }
 
 module _ (s : List ℕ) (i : ℕ) (h : i < length s) (r : Read s i) where
-  open-up : isUtf8 s ≡ pick (eqb (sequenceOf wellFormed (drop i s)) 0) (λ u. false) (λ u. isUtf8From (sequenceOf wellFormed (drop i s) - 1) (drop (suc i) s))
+  open-up : isUtf8 s ≡ pick (eqb (sequenceOf wellFormed (drop i s)) 0) (λ u. false)
+      (λ u. isUtf8From (sequenceOf wellFormed (drop i s) - 1) (drop (suc i) s))
   unfolding isUtf8From
   open-up = sym (r .same) ∙ rw (drop-cons s i 0 h)
 
@@ -438,7 +453,8 @@ module _ (s : List ℕ) (i : ℕ) (h : i < length s) (r : Read s i) where
   pub read-ascii : getD s i 0 < 0x80 → Read s (i + 1)
   unfolding lengthOf restOf begins
   read-ascii a =
-      let w : sequenceOf wellFormed (drop i s) ≡ 1 = rw (drop-cons s i 0 h) (sequence-is (getD s i 0) (drop (suc i) s) (omega arith) ∙ rw (lt-ltb (getD s i 0) 0x80 a)) in
+      let w : sequenceOf wellFormed (drop i s)
+      ≡ 1 = rw (drop-cons s i 0 h) (sequence-is (getD s i 0) (drop (suc i) s) (omega arith) ∙ rw (lt-ltb (getD s i 0) 0x80 a)) in
       read-on 1 (sym w) (λ e. omega arith)
 
 pub read-all : (s : List ℕ) (i : ℕ) → Read s i → length s ≤ i → true ≡ isUtf8 s
