@@ -9,7 +9,7 @@ use lib.ListN.{getD, set}
 use lib.Seq.{sets, set-getD}
 use Rattle.model.specs.AId
 use Rattle.model.specs.Drawing.{partAt}
-use Rattle.model.specs.Tables.{Entry, entryWords, entryAt, findEntry}
+use Rattle.model.specs.Tables.{Entry, entryAt, findEntry}
 use Rattle.model.specs.Theorems.Runs.{tableOf}
 use Rattle.model.specs.Element.{withValue, overwriteHref, withMore}
 use Rattle.tree.specs.Lent.{entryOf}

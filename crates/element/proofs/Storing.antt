@@ -19,7 +19,7 @@ use Rattle.element.specs.declared.Stored.{Stored}
 use Rattle.element.specs.declared.Stored.the-variants.{Next, Full}
 use Rattle.element.specs.Space.{Space, Leaves, soFar}
 
-first-count : (f : Entry → Entry) (a : ℕ) (es : List Entry) → length (onFirst f a es) ≡ length es
+pub first-count : (f : Entry → Entry) (a : ℕ) (es : List Entry) → length (onFirst f a es) ≡ length es
 unfolding onFirst
 first-count f a [] = refl
 first-count f a (e ∷ es) = go (eqb (e .name) a) (first-count f a es)

@@ -1,5 +1,5 @@
 -- The entries of one element, behind those that are taken: what the steps require and what they leave.
-use Prim.Native.Nat.{ℕ, _+_, _-_, _*_, _≤_}
+use Prim.Native.Nat.{ℕ, _+_, _-_, _*_, _≤_, _<_}
 use mathlib.Core.Path.{_≡_}
 use mathlib.Core.List.{List, []}
 use mathlib.Core.Option.{Option, none, some}
@@ -8,8 +8,9 @@ use lib.ListN.{length}
 use Rattle.model.specs.Base.{pick}
 use Rattle.model.specs.Drawing as model
 use Rattle.model.specs.Drawing.{Attribute, partAt}
-use Rattle.model.specs.Tables.{Entry}
-use Rattle.tree.specs.Lent.{entryOf}
+use Rattle.model.specs.Tables.{Entry, ELEMENT, word}
+use Rattle.model.specs.Element.{appendAttribute, insertEntry}
+use Rattle.tree.specs.Lent.{readOf, entryOf}
 use Rattle.model.specs.Theorems.Runs.{entriesFrom, withRun}
 use Rattle.element.specs.declared.Place.{Place}
 use Rattle.element.specs.declared.Value.{Value}
@@ -50,3 +51,19 @@ valueIn chars v = record { command = v .command; part = partAt chars (v .start) 
 
 abbrev pub attributeOf : List ℕ → ℕ → ℕ → Value → Attribute
 attributeOf chars name space v = record { name = name; namespace = space; value = valueIn chars v }
+
+-- The element's parent and all above it stand in the table, the way up falls, and their entries lie before the element's first.
+pub record Above (ns : List ℕ) (place : Place) : Type 0 where
+  pub small : place .parent < 4294967295
+  pub inside : 8 * place .parent + 7 < length ns
+  pub falls : (i : ℕ) → i ≤ place .parent → word ns i 1 ≤ i
+  pub range : (i : ℕ) → i ≤ place .parent → word ns i 0 ≡ ELEMENT → (word ns i 6 ≤ word ns i 7) × (word ns i 7 ≤ place .first)
+
+-- What becomes of a value under a name, where nodes and attributes are lent.
+abbrev pub becomes : List ℕ → List ℕ → List ℕ → Place → ℕ → ℕ → Value → Option Entry
+becomes ns ats chars place name important v =
+    appendAttribute (readOf ns ats) (place .parent) (place .tag) name important (partAt chars (v .start) (v .size)) (v .command)
+
+-- The entries with a value under that name inserted.
+abbrev pub inserted : List ℕ → List ℕ → List ℕ → Place → ℕ → Value → List Entry → ℕ → List Entry
+inserted ns ats chars place important v es name = insertEntry name es (becomes ns ats chars place name important v)

@@ -1,6 +1,7 @@
 // `parse_svg_element`: an element's attributes and declarations become entries of the lent table, and the element a node.
 
 pub mod attribute;
+pub mod declaration;
 pub mod entry;
 pub mod inherit;
 

@@ -320,7 +320,7 @@ module _ (t : Tree) (ats bs : List ℕ) (x y z p n : ℕ) (agree : (q : ℕ) →
       ap (λ (o : Option Entry). given o (λ e. some e) (λ u. defaultOf t p a (inheritDefault a)))
       (ap (λ w. copyFrom seen p a w) (from-same a) ∙ copy-same a (inheritedFrom t p a) (from-low a))
 
-  append-same : appendAttribute seen p ≡ appendAttribute t p
+  pub append-same : appendAttribute seen p ≡ appendAttribute t p
   unfolding appendAttribute
   append-same = fun-ext (λ tag. fun-ext (λ a. fun-ext (λ i. fun-ext (λ v. fun-ext (λ c. rw (resolve-same a) refl)))))
 

@@ -1,4 +1,3 @@
-use native.Mathlib.Omega.{arith}
 use Rattle.element.proofs.Adding.{href-over, href-skipped}
 use borrow.Author.Needs.{needs}
 use Rattle.element.proofs.attribute.overwrite_href.Statement.{statement}
