@@ -1,0 +1,228 @@
+// The elements of a drawing alone, each with its entries, below the one that it stands in: what tests/elements replays and bench/ measures.
+// Texts, uses, depth and repairs are left out; nothing else uses it.
+use element::Parsed;
+use element::parse::parse_svg_element;
+use names::eid;
+use names::is_element;
+use script::check::check;
+use script::cursor::Cursor;
+use tree::Counts;
+use tree::word;
+use tree::word::node_word;
+use tree::write::clear_words;
+use tree::write::put_root;
+use walk::node::Item;
+use walk::node::Opened;
+use walk::node::next_item;
+use walk::node::past_element;
+ghost use mathlib.Core.Path.{_≡_};
+ghost use Prim.Native.Nat.{_+_, _*_, _≤_, _<_};
+ghost use lib.ListN.{length};
+ghost use Rattle.model.specs.Tables.{word};
+ghost use Rattle.elements.specs.Turns.{isKept, Going, Opening, TurnFit};
+
+// A place in the drawing, the node that is open there, and how much of the tables is taken.
+pub struct State {
+    pub c: Cursor,
+    pub parent: u32,
+    pub counts: Counts,
+}
+
+// What a turn comes to.
+pub enum Turn {
+    On(State),
+    Refused(u32),
+    End,
+}
+
+// A number, 0 where nothing stands against the drawing, and how many nodes and entries there are.
+#[repr(C)]
+pub struct Built {
+    pub number: u32,
+    pub nodes: u32,
+    pub attributes: u32,
+}
+
+fn code_of(name: u8) -> u32
+    ensures { λ r. ⌜ r ≡ name ⌝ }
+{
+    name as u32
+}
+
+// Does an element with that code, in that namespace, become a node?
+fn is_kept(code: u32, space: u8) -> bool
+    ensures { λ r. ⌜ r ≡ isKept code space ⌝ }
+{
+    if space != 1 {
+        return false;
+    }
+    if code == eid::STYLE {
+        return false;
+    }
+    is_element(code)
+}
+
+// The parent of a node; the root's is the root.
+fn above(nodes: &[u32], parent: u32) -> u32
+    requires { ⌜ 8 * parent + 7 < length (now nodes) ⌝ }
+    requires { ⌜ word (now nodes) parent 1 ≤ parent ⌝ }
+    ensures { λ r. ⌜ r ≤ parent ⌝ }
+{
+    let w = node_word(nodes, parent, word::PARENT);
+    if w == 0 {
+        return 0;
+    }
+    w - 1
+}
+
+// An element: its node, and its inside comes next; one that becomes no node is passed over.
+fn begin(
+    script: &[u8],
+    characters: &[u8],
+    nodes: &mut [u32],
+    attributes: &mut [u32],
+    s: State,
+    e: Opened,
+) -> Turn
+    requires { ⌜ Going (now script) (now characters) (now nodes) (now attributes) s ⌝ }
+    requires { ⌜ Opening (now script) (now characters) s e ⌝ }
+    ensures { λ r. ⌜ TurnFit (now (script .entry)) (now (characters .entry)) (now (nodes .exit)) (now (attributes .exit)) s r ⌝ }
+{
+    let code = code_of(e.name);
+    let counts = s.counts;
+    let inside = e.inside;
+    if !is_kept(code, e.space) {
+        let behind = past_element(script, characters, inside);
+        return Turn::On(State {
+            c: behind,
+            parent: s.parent,
+            counts,
+        });
+    }
+    match parse_svg_element(
+        script,
+        characters,
+        nodes,
+        attributes,
+        counts,
+        s.parent,
+        code,
+        false,
+        e,
+    ) {
+        Parsed::Refused(k) => Turn::Refused(k),
+        Parsed::Done(taken, behind) => Turn::On(State {
+            c: behind,
+            parent: counts.nodes,
+            counts: taken,
+        }),
+    }
+}
+
+// What stands at the place of the state.
+fn advance(
+    script: &[u8],
+    characters: &[u8],
+    nodes: &mut [u32],
+    attributes: &mut [u32],
+    s: State,
+) -> Turn
+    requires { ⌜ Going (now script) (now characters) (now nodes) (now attributes) s ⌝ }
+    ensures { λ r. ⌜ TurnFit (now (script .entry)) (now (characters .entry)) (now (nodes .exit)) (now (attributes .exit)) s r ⌝ }
+{
+    let c = s.c;
+    let counts = s.counts;
+    match next_item(script, characters, c) {
+        Item::Begin(e) => begin(script, characters, nodes, attributes, s, e),
+        Item::Text(_, _, n) => Turn::On(State {
+            c: n,
+            parent: s.parent,
+            counts,
+        }),
+        Item::Other(n) => Turn::On(State {
+            c: n,
+            parent: s.parent,
+            counts,
+        }),
+        Item::Close(n) => Turn::On(State {
+            c: n,
+            parent: above(nodes, s.parent),
+            counts,
+        }),
+        Item::End => Turn::End,
+    }
+}
+
+// The elements from a state on.
+fn run(
+    script: &[u8],
+    characters: &[u8],
+    nodes: &mut [u32],
+    attributes: &mut [u32],
+    first: State,
+) -> Built
+    requires { ⌜ Going (now script) (now characters) (now nodes) (now attributes) first ⌝ }
+{
+    let mut s = first;
+    loop {
+        match advance(script, characters, nodes, attributes, s) {
+            Turn::On(n) => {
+                s = n;
+            }
+            Turn::Refused(k) => {
+                return Built {
+                    number: k,
+                    nodes: 0,
+                    attributes: 0,
+                };
+            }
+            Turn::End => {
+                let counts = s.counts;
+                return Built {
+                    number: 0,
+                    nodes: counts.nodes,
+                    attributes: counts.attributes,
+                };
+            }
+        }
+    }
+}
+
+// A refusal's number.
+fn refused(number: u32) -> Built {
+    Built {
+        number,
+        nodes: 0,
+        attributes: 0,
+    }
+}
+
+// All elements of a drawing.
+#[no_mangle]
+pub extern "C" fn elements_build(
+    script: &[u8],
+    characters: &[u8],
+    nodes: &mut [u32],
+    attributes: &mut [u32],
+) -> Built {
+    let number = check(script, characters);
+    if number != 0 {
+        return refused(number);
+    }
+    clear_words(nodes);
+    clear_words(attributes);
+    if nodes.len() < 8 {
+        return refused(22);
+    }
+    put_root(nodes);
+    let first = State {
+        c: Cursor::start(),
+        parent: 0,
+        counts: Counts {
+            nodes: 1,
+            attributes: 0,
+            text: 0,
+        },
+    };
+    run(script, characters, nodes, attributes, first)
+}
