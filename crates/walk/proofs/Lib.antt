@@ -2,7 +2,5 @@ pub mod Walks
 pub mod Along
 pub mod Finding
 pub mod Search
-pub mod Leading
-pub mod Linking
 pub mod Seeking
 pub mod Readings

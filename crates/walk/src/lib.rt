@@ -1,5 +1,4 @@
-// The walks over a drawing, and the searches in it. Each is lent the script and the characters side by side.
-pub mod link;
+// The walks over a drawing, and what stands in it by its number. Each is lent the script and the characters side by side.
 pub mod node;
 pub mod seek;
 pub mod value;
