@@ -3,8 +3,8 @@ use links::link::FoundElement;
 use links::link::use_target;
 use links::uses::NextUse;
 use links::uses::next_use;
+use places::seek::seek;
 use script::cursor::Cursor;
-use walk::seek::seek;
 
 // The commands before an element that was found; 0 where none was.
 fn number_in(found: FoundElement) -> usize {

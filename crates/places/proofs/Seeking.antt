@@ -3,21 +3,20 @@ use mathlib.Core.Path.{_≡_, refl, sym, ap, _∙_, subst}
 use mathlib.Core.List.{List, [], _∷_}
 use mathlib.Core.Bool.{Bool, true, false}
 use mathlib.Core.Option.{none}
-use Prim.Native.Nat.{ℕ, zero, suc, _+_, _-_, _<_, _≤_}
+use Prim.Native.Nat.{ℕ, zero, suc, _+_, _-_, _≤_}
 use native.Mathlib.Omega.{arith}
 use borrow.Author.Tests.{leb-true}
 use lib.Dec.{leb}
 use Rattle.model.specs.Base.{pick}
-use Rattle.model.specs.Drawing as model
-use Rattle.model.specs.Drawing.{Command, opening, attribute, declaration, reading, closing, broken, Reading, readingOf}
+use Rattle.model.specs.Drawing.{Command, broken, Reading, readingOf}
 use Rattle.model.specs.Repair.{anyReading}
 use Rattle.script.specs.declared.cursor.Cursor.{Cursor}
 use Rattle.script.specs.declared.cursor.Step.{Step}
 use Rattle.script.specs.declared.cursor.Step.the-variants as step
 use Rattle.script.specs.Step.{Fit, Here, commandsAt, markOf, atStart, placeFrom, placeOf, stepAt}
 use Rattle.script.proofs.Commands.{Told, told, place-behind, placed-first}
 use Rattle.walk.specs.Values.{readingsIn}
-use Rattle.walk.specs.Seeks.{readingsNext, readingsHere}
+use Rattle.places.specs.Seeks.{readingsNext, readingsHere}
 
 -- A COMMAND BY ITS NUMBER
 

@@ -3,12 +3,12 @@ use borrow.Author.Needs.{needs}
 use Prim.Native.Nat.{_-_}
 use lib.ListN.{length}
 use mathlib.Core.Path.{sym, _∙_}
 use Rattle.walk.proofs.Walks.{item-told}
 use Rattle.model.specs.Drawing.{events, textNumbered}
 use Rattle.walk.proofs.Along.{Along, along-start, at-item, over}
-use Rattle.walk.proofs.Search.{numbered-begin, numbered-miss, numbered-hit, numbered-other, numbered-close, numbered-none}
-use Rattle.walk.proofs.seek.text_numbered.Statement.{statement}
-use Rattle.walk.proofs.seek.text_numbered.Tie as tie
+use Rattle.places.proofs.Search.{numbered-begin, numbered-miss, numbered-hit, numbered-other, numbered-close, numbered-none}
+use Rattle.places.proofs.seek.text_numbered.Statement.{statement}
+use Rattle.places.proofs.seek.text_numbered.Tie as tie
 
 abbrev Inv-loop : tie.InvT-loop
 Inv-loop script characters number c₀ c =

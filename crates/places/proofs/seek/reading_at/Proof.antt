@@ -1,11 +1,11 @@
 use mathlib.Core.Path.{ap, _∙_}
 use Rattle.model.specs.Drawing.{readingOf}
 use Rattle.script.proofs.Commands.{goes}
 use Rattle.walk.proofs.Finding.{fit-chars}
-use Rattle.walk.proofs.Seeking.{reads, none-read}
+use Rattle.places.proofs.Seeking.{reads, none-read}
 use borrow.Author.Needs.{needs}
-use Rattle.walk.proofs.seek.reading_at.Statement.{statement}
-use Rattle.walk.proofs.seek.reading_at.Tie as tie
+use Rattle.places.proofs.seek.reading_at.Statement.{statement}
+use Rattle.places.proofs.seek.reading_at.Tie as tie
 
 next-requires : tie.Need-next-requires
 next-requires c κs = search needs

@@ -3,12 +3,12 @@ use borrow.Author.Needs.{needs}
 use Prim.Native.Nat.{_-_}
 use lib.ListN.{length}
 use mathlib.Core.Path.{sym, _∙_}
 use Rattle.walk.proofs.Walks.{item-told}
 use Rattle.model.specs.Drawing.{events, isInStyle}
 use Rattle.walk.proofs.Along.{Along, along-start, at-item, over}
-use Rattle.walk.proofs.Search.{style-begin, style-outside, style-miss, style-hit, style-other, style-close, style-none, style-low}
-use Rattle.walk.proofs.seek.is_in_style.Statement.{statement}
-use Rattle.walk.proofs.seek.is_in_style.Tie as tie
+use Rattle.places.proofs.Search.{style-begin, style-outside, style-miss, style-hit, style-other, style-close, style-none, style-low}
+use Rattle.places.proofs.seek.is_in_style.Statement.{statement}
+use Rattle.places.proofs.seek.is_in_style.Tie as tie
 
 abbrev Inv-loop : tie.InvT-loop
 Inv-loop script characters number c₀ level₀ c level =

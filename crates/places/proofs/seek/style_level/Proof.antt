@@ -1,7 +1,7 @@
 use borrow.Author.Tests.{eq-eqb, ne-eqb}
 use borrow.Author.Needs.{needs}
-use Rattle.walk.proofs.seek.style_level.Statement.{statement}
-use Rattle.walk.proofs.seek.style_level.Tie as tie
+use Rattle.places.proofs.seek.style_level.Statement.{statement}
+use Rattle.places.proofs.seek.style_level.Tie as tie
 
 add-result : tie.Need-add-result
 add-result c = search needs

@@ -1,12 +1,12 @@
 // Texts and commands by their numbers.
-use super::node::Item;
-use super::node::next_item;
-use super::value::FoundPart;
-use super::value::any_reading;
-use super::value::reading_of;
 use names::eid;
 use script::cursor::Cursor;
 use script::cursor::Step;
+use walk::node::Item;
+use walk::node::next_item;
+use walk::value::FoundPart;
+use walk::value::any_reading;
+use walk::value::reading_of;
 ghost use mathlib.Core.Path.{_≡_};
 ghost use Prim.Native.Nat.{_-_, _≤_};
 ghost use lib.Dec.{leb};
@@ -16,8 +16,8 @@ ghost use Rattle.model.specs.Check.{mostBytes};
 ghost use Rattle.model.specs.Drawing.{events, textNumbered, isInStyle, readingOf};
 ghost use Rattle.model.specs.Repair.{anyReading};
 ghost use Rattle.script.specs.Step.{Fit, atStart, placeOf};
 ghost use Rattle.walk.specs.Values.{partOf, PartFit};
-ghost use Rattle.walk.specs.Seeks.{sourceOf, styleLevel, readingsHere};
+ghost use Rattle.places.specs.Seeks.{sourceOf, styleLevel, readingsHere};
 
 // The code of the element style.
 const STYLE: u8 = eid::STYLE as u8;

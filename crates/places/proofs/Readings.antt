@@ -1,6 +1,6 @@
 -- The readings of a value by the number of its command: in a drawing that check takes, those that stand there are those of the document.
 -- Assumes nothing.
-use mathlib.Core.Path.{_≡_, refl, sym, ap, _∙_, subst}
+use mathlib.Core.Path.{_≡_, refl, sym, ap, _∙_}
 use mathlib.Core.List.{List, [], _∷_, _++_, map}
 use mathlib.Core.Bool.{Bool, true, false, not, false≢true}
 use Prim.Native.Nat.{ℕ, zero, suc, _+_, _<_, _≤_}
@@ -13,12 +13,12 @@ use Rattle.model.specs.Check as check
 use Rattle.model.specs.Check.{Test, _if_, State, Stage, mayAttribute, mayDeclare, firstOf, testsOf, stepped, checkFrom, starting, mostBytes}
 use Rattle.model.specs.Drawing as model
 use Rattle.model.specs.Drawing.{Command, opening, attribute, declaration, reading, closing, broken, Mark, past, Value, valueAt}
-use Rattle.model.specs.Drawing.{readingsAt, attributesAt}
+use Rattle.model.specs.Drawing.{attributesAt}
 use Rattle.model.specs.Drawing.{declarationsAt, elementAt, eventsFrom, events, commands, valuesIn, readingsOf}
 use Rattle.script.specs.declared.cursor.Cursor.{Cursor}
-use Rattle.script.specs.Step.{Here, commandsAt, markOf, isBroken, atStart, placeFrom, placeOf}
+use Rattle.script.specs.Step.{commandsAt, markOf, isBroken, atStart, placeFrom, placeOf}
 use Rattle.script.proofs.Commands.{Stands, nothing-there, broken-there, there, what-stands, unbroken}
-use Rattle.walk.specs.Seeks.{readingsNext, readingsHere}
+use Rattle.places.specs.Seeks.{readingsNext, readingsHere}
 
 -- CHECK
 

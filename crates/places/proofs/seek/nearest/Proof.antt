@@ -1,7 +1,7 @@
 use borrow.Author.Tests.{le-leb, lt-leb}
 use borrow.Author.Needs.{needs}
-use Rattle.walk.proofs.seek.nearest.Statement.{statement}
-use Rattle.walk.proofs.seek.nearest.Tie as tie
+use Rattle.places.proofs.seek.nearest.Statement.{statement}
+use Rattle.places.proofs.seek.nearest.Tie as tie
 
 returns : tie.Need-returns
 returns c = simp (le-leb _ _ (c .if1 .taken))

@@ -3,9 +3,9 @@ use borrow.Author.Needs.{needs}
 use Prim.Native.Nat.{_-_}
 use lib.ListN.{length}
 use Rattle.script.proofs.Commands.{told, goes}
-use Rattle.walk.proofs.Seeking.{Sought, sought-first, sought-here, sought-on, sought-end, sought-broken}
-use Rattle.walk.proofs.seek.seek.Statement.{statement}
-use Rattle.walk.proofs.seek.seek.Tie as tie
+use Rattle.places.proofs.Seeking.{Sought, sought-first, sought-here, sought-on, sought-end, sought-broken}
+use Rattle.places.proofs.seek.seek.Statement.{statement}
+use Rattle.places.proofs.seek.seek.Tie as tie
 
 abbrev Inv-loop : tie.InvT-loop
 Inv-loop script characters number c₀ c = Sought script number c

@@ -9,8 +9,8 @@ use Rattle.model.specs.Drawing.{Command, opening, attribute, declaration, readi
 use Rattle.model.specs.Drawing.{Reading, Source, sourceAt, readingsAt}
 use Rattle.script.specs.declared.cursor.Cursor.{Cursor}
 use Rattle.script.specs.Step.{commandsAt, markOf}
-use Rattle.walk.specs.declared.seek.FoundText.{FoundText}
-use Rattle.walk.specs.declared.seek.FoundText.the-variants as text
+use Rattle.places.specs.declared.seek.FoundText.{FoundText}
+use Rattle.places.specs.declared.seek.FoundText.the-variants as text
 
 -- A text that was looked for.
 abbrev pub sourceOf : List ℕ → FoundText → Option Source

@@ -12,7 +12,7 @@ use Rattle.model.specs.Base.{pick}
 use Rattle.model.specs.EId
 use Rattle.model.specs.Drawing as model
 use Rattle.model.specs.Drawing.{Event, begin, close, textNumbered, isInStyle}
-use Rattle.walk.specs.Seeks.{styleLevel}
+use Rattle.places.specs.Seeks.{styleLevel}
 
 -- A TEXT BY ITS NUMBER
 
