@@ -1,5 +1,5 @@
 -- One value after another: what was inserted before does not change what a value becomes. Assumes nothing.
-use Prim.Native.Nat.{ℕ, _*_, _≤_}
+use Prim.Native.Nat.{ℕ, _*_, _≤_, _<_}
 use mathlib.Core.Path.{_≡_, ap, _∙_}
 use mathlib.Core.Bool.{Bool, true, false}
 use mathlib.Core.List.{List, [], _∷_, _++_}
@@ -9,7 +9,7 @@ use lib.ListN.{length, getD, length-append}
 use Rattle.model.specs.Base.{pick}
 use Rattle.model.specs.Drawing.{partAt}
 use Rattle.model.specs.Tables.{Entry}
-use Rattle.model.specs.Element.{hasEntry, onFirst, standing, insertEntry}
+use Rattle.model.specs.Element.{appendAttribute, hasEntry, onFirst, standing, insertEntry}
 use Rattle.model.specs.Theorems.Runs.{run-outside, append-same}
 use Rattle.tree.specs.Lent.{readOf, entryOf, Climbable}
 use Rattle.tree.specs.declared.Entry as T
@@ -48,14 +48,22 @@ pub two-more : (a b : ℕ) (es : List Entry) (o p : Option Entry) → length es 
 two-more a b es o p = omega (arith, inserts-more a es o, inserts-more b (insertEntry a es o) p)
 
 module _ (ns ats chars : List ℕ) (place : Place) (above : Above ns place) where
+  -- The entries before the element's are as they were.
+  pub agree-on : (new : List Entry) (n : ℕ) (m : List ℕ) → On ats place new n m → (q : ℕ) → q < 5 * place .first →
+      getD m q 0 ≡ getD ats q 0
+  agree-on new n m o q l =
+      ap (λ (x : List ℕ). getD x q 0) (o .table) ∙ run-outside ats (place .first) new q (λ x y. omega arith)
+
   -- What a value becomes behind a step that left new entries.
+  pub append-on : (new : List Entry) (n : ℕ) (m : List ℕ) → On ats place new n m →
+      appendAttribute (readOf ns m) (place .parent) ≡ appendAttribute (readOf ns ats) (place .parent)
+  append-on new n m o =
+      append-same (readOf ns ats) m [] 0 0 0 (place .parent) (place .first) (agree-on new n m o) (above .falls) (above .range)
+
   becomes-same : (new : List Entry) (n : ℕ) (m : List ℕ) → On ats place new n m → (a i : ℕ) (v : Value) →
       becomes ns m chars place a i v ≡ becomes ns ats chars place a i v
   becomes-same new n m o a i v =
-      ap (λ f. f (place .tag) a i (partAt chars (v .start) (v .size)) (v .command))
-      (append-same (readOf ns ats) m [] 0 0 0 (place .parent) (place .first)
-      (λ q l. ap (λ (x : List ℕ). getD x q 0) (o .table) ∙ run-outside ats (place .first) new q (λ x y. omega arith))
-      (above .falls) (above .range))
+      ap (λ f. f (place .tag) a i (partAt chars (v .start) (v .size)) (v .command)) (append-on new n m o)
 
   -- The next value is inserted into the entries that the step before left.
   pub then-inserted : (room : 5 * place .room ≤ length ats) (new : List Entry) (n : ℕ) (m : List ℕ) → On ats place new n m →

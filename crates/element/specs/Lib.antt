@@ -1,1 +1,3 @@
 pub mod Space
+pub mod Font
+pub mod Runs

@@ -1,16 +1,21 @@
 // The attributes of an element: which are taken, and what they become.
 use crate::Place;
 use crate::Resolved;
+use crate::Run;
 use crate::Stored;
 use crate::Value;
 use crate::entry::add_entry;
 use crate::inherit::append_attribute;
+use crate::value_of;
 use names::aid;
 use names::is_attribute;
 use names::is_declared_only;
 use names::is_image_rendering_word;
+use script::cursor::Cursor;
 use tree::read::find_entry;
 use tree::write::put_value;
+use walk::value::NextValue;
+use walk::value::next_attribute;
 ghost use mathlib.Core.Path.{_≡_};
 ghost use mathlib.Core.Bool.{not};
 ghost use mathlib.Core.List.{[]};
@@ -18,7 +23,7 @@ ghost use Prim.Native.Nat.{_+_, _-_, _≤_};
 ghost use lib.Dec.{eqb, leb};
 ghost use lib.ListN.{length};
 ghost use lib.Seq.{slice};
-ghost use Rattle.model.specs.Base.{and, or, amongWords};
+ghost use Rattle.model.specs.Base.{and, or, amongWords, folded};
 ghost use Rattle.model.specs.AId;
 ghost use Rattle.model.specs.Names.{isAttribute, imageRenderingWords};
 ghost use Rattle.model.specs.Drawing.{partAt};
@@ -26,7 +31,9 @@ ghost use Rattle.model.specs.Tables.{findEntry};
 ghost use Rattle.model.specs.Theorems.Runs.{tableOf};
 ghost use Rattle.model.specs.Element.{appendAttribute, isTaken, overwriteHref, withMore, addAttribute};
 ghost use Rattle.tree.specs.Lent.{readOf, Climbable};
-ghost use Rattle.element.specs.Space.{Space, Leaves, soFar, attributeOf};
+ghost use Rattle.walk.specs.Values.{attributesIn};
+ghost use Rattle.element.specs.Space.{Space, Leaves, soFar, attributeOf, Above};
+ghost use Rattle.element.specs.Runs.{InAttributes, addedIn, storedOf, RunRest};
 
 // A name of the list, in no namespace, SVG, XLink or XML.
 fn is_known(name: u32, space: u32) -> bool
@@ -149,8 +156,8 @@ pub fn add_attribute(
     place: Place,
     next: u32,
     ignored: bool,
-    name: u32,
-    space: u32,
+    name: u8,
+    space: u8,
     value: Value,
 ) -> Stored
     requires { ⌜ Space (now attributes) place next ⌝ }
@@ -161,15 +168,66 @@ pub fn add_attribute(
         (soFar (now (attributes .entry)) place next) (attributeOf (now (characters .entry)) name space value)) r
         (now (attributes .exit)) ⌝ }
 {
-    if !is_taken(characters, ignored, name, space, value) {
+    let code = name as u32;
+    let prefix = space as u32;
+    if !is_taken(characters, ignored, code, prefix, value) {
         return Stored::Next(next);
     }
-    if name != aid::HREF {
-        return append_more(nodes, attributes, characters, place, next, name, value);
+    if code != aid::HREF {
+        return append_more(nodes, attributes, characters, place, next, code, value);
     }
     let w = find_entry(attributes, aid::HREF, place.first, next);
     if w == 0 {
-        return append_more(nodes, attributes, characters, place, next, name, value);
+        return append_more(nodes, attributes, characters, place, next, code, value);
     }
-    overwrite_href(attributes, place, next, w, space, value)
+    overwrite_href(attributes, place, next, w, prefix, value)
+}
+
+// The attributes of an element, from inside it, one after another.
+pub fn add_attributes(
+    script: &[u8],
+    characters: &[u8],
+    nodes: &[u32],
+    attributes: &mut [u32],
+    place: Place,
+    next: u32,
+    ignored: bool,
+    from: Cursor,
+) -> Run
+    requires { ⌜ Space (now attributes) place next ⌝ }
+    requires { ⌜ Above (now nodes) place ⌝ }
+    requires { ⌜ InAttributes (now script) (now characters) from ⌝ }
+    ensures stored { λ r. ⌜ Leaves (now (attributes .entry)) place
+        (folded (addedIn (now (nodes .entry)) place ignored (now (attributes .entry))) (soFar (now (attributes .entry)) place next)
+        (attributesIn (now (script .entry)) (now (characters .entry)) from)) (storedOf r) (now (attributes .exit)) ⌝ }
+    ensures behind { λ r. ⌜ RunRest (now (script .entry)) (now (characters .entry)) from r ⌝ }
+{
+    let mut c = from;
+    let mut n = next;
+    loop {
+        match next_attribute(script, characters, c) {
+            NextValue::At(name, space, v) => {
+                let value = value_of(v);
+                let step = add_attribute(
+                    nodes,
+                    attributes,
+                    characters,
+                    place,
+                    n,
+                    ignored,
+                    name,
+                    space,
+                    value,
+                );
+                let Stored::Next(k) = step else {
+                    return Run::Full;
+                };
+                n = k;
+                c = v.behind;
+            }
+            NextValue::End(behind) => {
+                return Run::Next(n, behind);
+            }
+        }
+    }
 }
