@@ -72,11 +72,11 @@ module _ (size : ℕ) (t : Tree) (g : Tidy size t) (tag : ℕ) (is : isElement t
   unfolding parseSvgElement
   element-grown u e =
       go (leb (t .attributeCount + length es) (attributeRoom t)) (leb (t .nodeCount) mostNodes) (ltb (t .nodeCount) (nodeRoom t)) refl
-          refl e
+      refl e
     where
       go : (a b c : Bool) → leb (t .attributeCount + length es) (attributeRoom t) ≡ a → ltb (t .nodeCount) (nodeRoom t) ≡ c →
           done u ≡ pick a (λ v. pick b (λ v. pick c (λ w. done (addElement tag es p t)) (λ w. refused 22)) (λ v. refused 20)) (λ v.
-              refused 23) →
+          refused 23) →
           Grown size t u
       go true true true q r h =
           let same : u ≡ addElement tag es p t = cc in
