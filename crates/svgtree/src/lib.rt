@@ -1,12 +1,13 @@
 // The operations for a host, by the C calling convention: a slice is a pointer and a length. include/svgtree.h declares them.
-use tree::Answer;
+use questions::Answer;
+use questions::Part;
+use questions::question;
 use tree::Counts;
-use tree::Part;
-use tree::question;
 ghost use mathlib.Core.Path.{_≡_};
 ghost use Rattle.model.specs.Check.{check};
 ghost use Rattle.model.specs.Questions.{attributeQuestion, findAttributeQuestion, elementByIdQuestion, textQuestion};
-ghost use Rattle.tree.specs.Lent.{treeOf, answered, parted};
+ghost use Rattle.tree.specs.Lent.{treeOf};
+ghost use Rattle.questions.specs.Answers.{answered, parted};
 
 // One number for a script and its characters, 0 if they are accepted.
 #[no_mangle]

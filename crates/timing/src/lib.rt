@@ -1,10 +1,10 @@
 // The walks as functions that bench/ measures. Nothing else uses them; what they answer only shows that the walk was made.
+use links::link::FoundElement;
+use links::link::use_target;
+use links::uses::NextUse;
+use links::uses::next_use;
+use places::seek::seek;
 use script::cursor::Cursor;
-use walk::link::FoundElement;
-use walk::link::use_target;
-use walk::node::NextUse;
-use walk::node::next_use;
-use walk::seek::seek;
 
 // The commands before an element that was found; 0 where none was.
 fn number_in(found: FoundElement) -> usize {

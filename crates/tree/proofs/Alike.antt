@@ -7,12 +7,11 @@ use native.Mathlib.Omega.{arith}
 use lib.ListN.{length}
 use lib.Dec.{eqb}
 use Rattle.model.specs.Base.{pick, and, sameBytes}
-use Rattle.model.specs.Names.{fixedBytes, isPossibleNone, isInheritable}
+use Rattle.model.specs.Names.{fixedBytes, isPossibleNone}
 use Rattle.model.specs.Tables.{Tree, ELEMENT, kindOf, parentOf, fromOf, toOf, entryAt, entryWord, findEntry, attributeId}
-use Rattle.model.specs.Tables.{hasAttribute, valueAtEntry, attributeOf, holderFrom, holderOf, hasIdBytes, lastWithId}
-use Rattle.model.specs.Questions.{elementFrom, selfOrParent, findAttributeImpl}
-use Rattle.tree.specs.Lent.{readOf, entriesOf, nodesRead, Valued, ReadableIn, HeldBy}
-use Rattle.tree.proofs.Climbs.{climb-same, holder-climbs, element-climbs}
+use Rattle.model.specs.Tables.{hasAttribute, valueAtEntry, attributeOf, holderFrom, hasIdBytes, lastWithId}
+use Rattle.tree.specs.Lent.{readOf, entriesOf, Valued, ReadableIn, HeldBy}
+use Rattle.tree.proofs.Climbs.{climb-same, holder-climbs}
 
 pub else-same : (b : Bool) (z : ℕ) {x y : ℕ} → x ≡ y → pick b (λ u. z) (λ u. x) ≡ pick b (λ u. z) (λ u. y)
 else-same true z e = refl
@@ -22,9 +21,6 @@ pub find-same : (t : Tree) (a j n : ℕ) → findEntry (entriesOf (t .attributes
 unfolding findEntry
 find-same t a j zero = refl
 find-same t a j (suc n) = else-same (eqb (entryWord t j 0) a) (j + 1) (find-same t a (j + 1) n)
-
-pub element-same : (t : Tree) (n w : ℕ) → elementFrom (nodesRead (t .nodes)) n w ≡ elementFrom t n w
-element-same t n w = element-climbs (nodesRead (t .nodes)) n w ∙ sym (element-climbs t n w)
 
 module _ (t : Tree) where
   -- t as a function sees it that is lent nodes and attributes.
@@ -52,26 +48,6 @@ module _ (t : Tree) where
       ∙ climb-same (λ i. hasAttribute seen i a) (λ i. hasAttribute t i a) (parentOf t)
       (λ k. ap (λ (j : ℕ). not (eqb j 0)) (id-same k a)) n w
       ∙ sym (holder-climbs t a n w)
-
-  pub self-same : (i a : ℕ) → selfOrParent seen i a ≡ selfOrParent t i a
-  self-same i a =
-      rw (id-same i a)
-      (else-same (hasAttribute t i a) (i + 1) (element (sym (element-same seen i (parentOf t i)) ∙ element-same t i (parentOf t i))))
-    where
-      owner : (u : Tree) → ℕ → ℕ
-      owner u w = pick (eqb w 0) (λ v. 0) (λ v. pick (hasAttribute u (w - 1) a) (λ x. w) (λ x. 0))
-
-      element : {v w : ℕ} → v ≡ w → owner seen v ≡ owner t w
-      element {v} {w} e = rw e (ap (λ (j : ℕ). pick (eqb w 0) (λ v. 0) (λ v. pick (not (eqb j 0)) (λ x. w) (λ x. 0))) (id-same (w - 1) a))
-
-  pub impl-same : (i a : ℕ) → findAttributeImpl seen i a ≡ findAttributeImpl t i a
-  unfolding findAttributeImpl
-  impl-same i a = go (isInheritable a)
-    where
-      go : (b : Bool) → pick b (λ u. holderOf seen a i) (λ u. selfOrParent seen i a) ≡
-          pick b (λ u. holderOf t a i) (λ u. selfOrParent t i a)
-      go true = holder-same a (i + 1) (i + 1)
-      go false = self-same i a
 
   pub has-id-same : (chars id : List ℕ) (i : ℕ) → hasIdBytes chars seen id i ≡ hasIdBytes chars t id i
   unfolding hasIdBytes entryAt

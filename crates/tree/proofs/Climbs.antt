@@ -1,4 +1,4 @@
--- Going up by the parents until a test holds: one law for the holder of an attribute and for the parent element. Assumes nothing.
+-- Going up by the parents until a test holds: one law for every such search. Assumes nothing.
 use mathlib.Core.Path.{_≡_, refl, sym, ap, _∙_}
 use mathlib.Core.Bool.{Bool, true, false}
 use Prim.Native.Nat.{ℕ, zero, suc, _-_, _<_, _≤_}
@@ -6,15 +6,15 @@ use native.Mathlib.Omega.{arith}
 use lib.Dec.{eqb}
 use borrow.Author.Tests.{eqb-false, ne-eqb}
 use Rattle.model.specs.Base.{pick}
-use Rattle.model.specs.Tables.{Tree, ELEMENT, kindOf, parentOf, hasAttribute, holderFrom}
-use Rattle.model.specs.Questions.{elementFrom}
+use Rattle.model.specs.Tables.{Tree, parentOf, hasAttribute, holderFrom}
 
 -- The nearest node that passes, from the one whose index plus 1 is w up, in n steps.
 unfoldable pub climb : (ℕ → Bool) → (ℕ → ℕ) → ℕ → ℕ → ℕ
 climb f p zero w = 0
 climb f p (suc n) w = pick (eqb w 0) (λ u. 0) (λ u. pick (f (w - 1)) (λ v. w) (λ v. climb f p n (p (w - 1))))
 
-turn : (b c d : Bool) (w x y : ℕ) → c ≡ d → (b ≡ false → x ≡ y)
+-- A turn, by the test and by what is found further up.
+pub turn : (b c d : Bool) (w x y : ℕ) → c ≡ d → (b ≡ false → x ≡ y)
     → pick b (λ u. 0) (λ u. pick c (λ v. w) (λ v. x)) ≡ pick b (λ u. 0) (λ u. pick d (λ v. w) (λ v. y))
 turn true c d w x y s e = refl
 turn false c d w x y s e = go c d s
@@ -31,13 +31,6 @@ unfolding holderFrom climb
 holder-climbs t a zero w = refl
 holder-climbs t a (suc n) w =
     turn (eqb w 0) (hasAttribute t (w - 1) a) (hasAttribute t (w - 1) a) w _ _ refl (λ e. holder-climbs t a n (parentOf t (w - 1)))
-
-pub element-climbs : (t : Tree) (n w : ℕ) → elementFrom t n w ≡ climb (λ i. eqb (kindOf t i) ELEMENT) (parentOf t) n w
-unfolding elementFrom climb
-element-climbs t zero w = refl
-element-climbs t (suc n) w =
-    turn (eqb w 0) (eqb (kindOf t (w - 1)) ELEMENT) (eqb (kindOf t (w - 1)) ELEMENT) w _ _ refl
-    (λ e. element-climbs t n (parentOf t (w - 1)))
 
 -- Another test with the same answers.
 pub climb-same : (f g : ℕ → Bool) (p : ℕ → ℕ) → ((k : ℕ) → f k ≡ g k) → (n w : ℕ) → climb f p n w ≡ climb g p n w
@@ -78,11 +71,3 @@ module _ (f : ℕ → Bool) (p : ℕ → ℕ) where
 
   pub climb-end : (w : ℕ) → w ≤ 0 → 0 ≡ climb f p w w
   climb-end w h = sym (none-left w w h)
-
--- The way up from the parent of node i.
-pub element-start : (t : Tree) (i : ℕ) → ((k : ℕ) → k ≤ i → parentOf t k ≤ k)
-    → climb (λ k. eqb (kindOf t k) ELEMENT) (parentOf t) (parentOf t i) (parentOf t i) ≡ elementFrom t i (parentOf t i)
-element-start t i q =
-    let h : parentOf t i ≤ i = q i (omega arith) in
-    enough (λ k. eqb (kindOf t k) ELEMENT) (parentOf t) (parentOf t i) i (parentOf t i) (omega arith) h (λ k l. q k (omega arith))
-    ∙ sym (element-climbs t i (parentOf t i))

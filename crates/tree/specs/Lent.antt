@@ -1,21 +1,14 @@
--- The lent tables as the model's Tree, and what its answers are in the structs of this crate.
+-- The lent tables as the model's Tree, and what reading them asks.
 use Prim.Native.Nat.{ℕ, _+_, _*_, _<_, _≤_}
 use mathlib.Core.Path.{_≡_}
-use mathlib.Core.Bool.{Bool}
 use mathlib.Core.List.{List, []}
 use lib.ListN.{length}
-use lib.Seq.{slice}
-use lib.Dec.{eqb, leb}
-use Rattle.model.specs.Base.{pick, and, or}
-use Rattle.model.specs.Tables.{Tree, Out, refused, done, ELEMENT, TEXT, word, kindOf, fromOf, toOf, entryAt}
+use Rattle.model.specs.Tables.{Tree, Out, refused, done, ELEMENT, word, kindOf, toOf, entryAt}
 use Rattle.model.specs.Tables as M
-use Rattle.model.specs.Questions as Q
 use Rattle.tree.specs.declared.Counts.{Counts}
 use Rattle.tree.specs.declared.Entry.{Entry}
 use Rattle.tree.specs.declared.Outcome.{Outcome}
 use Rattle.tree.specs.declared.Outcome.the-variants.{Refused, Done}
-use Rattle.tree.specs.declared.Answer.{Answer}
-use Rattle.tree.specs.declared.Part.{Part}
 
 -- The three tables at their full length, with the counts.
 abbrev pub treeOf : List ℕ → List ℕ → List ℕ → Counts → Tree
@@ -57,18 +50,6 @@ outOf ns es bs (Done c) = done (treeOf ns es bs c)
 abbrev pub entryOf : Entry → M.Entry
 entryOf e = record { name = e .name; important = e .important; start = e .start; size = e .size; command = e .command }
 
--- An answer of the model; `found` is 0 or 1.
-abbrev pub answered : Q.Answer → Answer
-answered a = record { number = a .number; found = pick (a .found) (λ u. 1) (λ u. 0); index = a .index }
-
--- A part of the text table.
-abbrev pub parted : Q.TextPart → Part
-parted p = record { start = p .start; size = p .size }
-
--- The bytes of that part.
-abbrev pub bytesOf : Q.TextPart → List ℕ → List ℕ
-bytesOf p bs = slice (p .start) (p .start + p .size) bs
-
 -- The value of an entry is fixed, or lies within that many characters.
 abbrev pub Valued : ℕ → M.Entry → Type 0
 Valued size e = (e .command ≡ 0 → ⊥) → e .start + e .size ≤ size
@@ -94,16 +75,7 @@ pub record ReadableIn (size : ℕ) (t : Tree) (i : ℕ) : Type 0 where
   pub readable : Readable t i
   pub values : kindOf t i ≡ ELEMENT → (j : ℕ) → j < toOf t i → Valued size (entryAt t j)
 
--- Node i stands in the table, and a text's range is in order.
-pub record TextReadable (t : Tree) (i : ℕ) : Type 0 where
-  pub inside : 8 * i + 7 < length (t .nodes)
-  pub order : kindOf t i ≡ TEXT → fromOf t i ≤ toOf t i
-
 -- An attribute of node i, an entry's number plus 1, or 0: the node is an element with the entry in its range.
 pub record HeldBy (t : Tree) (i w : ℕ) : Type 0 where
   pub element : (w ≡ 0 → ⊥) → kindOf t i ≡ ELEMENT
   pub last : w ≤ toOf t i
-
--- The test of a record behind the root: its kind, its parent and its index.
-abbrev pub isBelowRoot : ℕ → ℕ → ℕ → Bool
-isBelowRoot kind parent i = and (or (eqb kind ELEMENT) (eqb kind TEXT)) (and (leb 1 parent) (leb parent i))

@@ -27,7 +27,7 @@ pub fn run_check() {
 }
 
 // The number of an answer, whether something was found, and its index.
-fn say_answer(a: tree::Answer) {
+fn say_answer(a: questions::Answer) {
     say(a.number);
     space();
     say(a.found);
@@ -60,8 +60,16 @@ fn ask_attribute(
 ) {
     let node = input::number();
     let name = input::number();
-    say_answer(tree::question::attribute(nodes, attributes, text, characters, counts, node, name));
-    say_answer(tree::question::find_attribute(
+    say_answer(questions::question::attribute(
+        nodes,
+        attributes,
+        text,
+        characters,
+        counts,
+        node,
+        name,
+    ));
+    say_answer(questions::question::find_attribute(
         nodes,
         attributes,
         text,
@@ -77,7 +85,7 @@ fn ask_id(nodes: &[u32], attributes: &[u32], text: &[u8], characters: &[u8], cou
     let n = input::number();
     let mut id = [0u8; 64];
     let k = input::bytes(&mut id, n);
-    say_answer(tree::question::element_by_id(
+    say_answer(questions::question::element_by_id(
         nodes,
         attributes,
         text,
@@ -96,7 +104,7 @@ fn ask(nodes: &[u32], attributes: &[u32], text: &[u8], characters: &[u8], counts
         ask_id(nodes, attributes, text, characters, counts);
     } else {
         let node = input::number();
-        say_bytes(tree::question::text(nodes, attributes, text, characters, counts, node));
+        say_bytes(questions::question::text(nodes, attributes, text, characters, counts, node));
     }
 }
 

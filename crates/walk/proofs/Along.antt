@@ -1,14 +1,13 @@
 -- A walk from node to node: what g says of the nodes from a cursor on, with k elements open. Assumes nothing.
 use mathlib.Core.Path.{_≡_, refl, sym, ap, _∙_, subst}
 use mathlib.Core.List.{List, [], _∷_}
-use mathlib.Core.Bool.{Bool, true, false}
 use Prim.Native.Nat.{ℕ, zero, suc, _+_, _-_, _≤_}
 use native.Mathlib.Numerals.{add-one}
 use native.Mathlib.Omega.{arith}
 use lib.ListN.{length}
 use Rattle.model.specs.Check.{mostBytes}
 use Rattle.model.specs.Drawing as model
-use Rattle.model.specs.Drawing.{Event, begin, close, events, textsIn, isUse, usesIn, childrenFrom}
+use Rattle.model.specs.Drawing.{Event, begin, close, events, textsIn, childrenFrom}
 use Rattle.script.specs.declared.cursor.Cursor.{Cursor}
 use Rattle.script.specs.Step.{Fit, commandsAt, atStart}
 use Rattle.script.proofs.Commands.{placed-first}
@@ -52,7 +51,7 @@ module _ {A : Type 0} (g : ℕ → List Event → A) (v : A) (s chars : List ℕ
     }
 
 -- A walk that goes on behind a close with one open element fewer.
-behind-close : {A : Type 0} (f g : ℕ → A) → ((k : ℕ) → f (suc k) ≡ g k) → (k : ℕ) → (k ≡ 0 → ⊥) → f k ≡ g (k - 1)
+pub behind-close : {A : Type 0} (f g : ℕ → A) → ((k : ℕ) → f (suc k) ≡ g k) → (k : ℕ) → (k ≡ 0 → ⊥) → f k ≡ g (k - 1)
 behind-close f g e zero h = absurd (h refl)
 behind-close f g e (suc k) h = e k ∙ ap g (let z : k ≡ suc k - 1 = omega arith in z)
 
@@ -120,34 +119,3 @@ module _ (k : ℕ) (xs : List Event) where
 pub texts-end : (k : ℕ) → textsIn k [] ≡ []
 unfolding textsIn
 texts-end k = refl
-
--- USES
-
-module _ (k : ℕ) (xs : List Event) where
-  pub uses-hit : (e : model.Element) → isUse e ≡ true → usesIn k (begin e ∷ xs) ≡ e ∷ usesIn (k + 1) xs
-  unfolding usesIn
-  uses-hit e h = rw h (ap (λ m. e ∷ usesIn m xs) (sym (add-one k)))
-
-  pub uses-miss : (e : model.Element) → isUse e ≡ false → usesIn k (begin e ∷ xs) ≡ usesIn (k + 1) xs
-  unfolding usesIn
-  uses-miss e h = rw h (ap (λ m. usesIn m xs) (sym (add-one k)))
-
-  pub uses-text : (a : model.Source) → usesIn k (model.Event.text a ∷ xs) ≡ usesIn k xs
-  unfolding usesIn
-  uses-text a = refl
-
-  pub uses-other : usesIn k (model.Event.other ∷ xs) ≡ usesIn k xs
-  unfolding usesIn
-  uses-other = refl
-
-  pub uses-close : (k ≡ 0 → ⊥) → usesIn k (close ∷ xs) ≡ usesIn (k - 1) xs
-  unfolding usesIn
-  uses-close = behind-close (λ j. usesIn j (close ∷ xs)) (λ j. usesIn j xs) (λ j. refl) k
-
-  pub uses-out : k ≡ 0 → usesIn k (close ∷ xs) ≡ []
-  unfolding usesIn
-  uses-out e = rw e
-
-pub uses-end : (k : ℕ) → usesIn k [] ≡ []
-unfolding usesIn
-uses-end k = refl

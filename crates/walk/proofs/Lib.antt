@@ -1,8 +1,3 @@
 pub mod Walks
 pub mod Along
 pub mod Finding
-pub mod Search
-pub mod Leading
-pub mod Linking
-pub mod Seeking
-pub mod Readings

@@ -1,4 +1,2 @@
 pub mod Values
 pub mod Nodes
-pub mod Links
-pub mod Seeks

@@ -2,7 +2,7 @@
 use Prim.Native.Nat.{ℕ, zero, suc, _+_, _<_, _≤_}
 use mathlib.Core.List.{List, [], _∷_}
 use Rattle.model.specs.Drawing as model
-use Rattle.model.specs.Drawing.{opening, Event, begin, close, sourceAt, Source, Element, textsIn, usesIn}
+use Rattle.model.specs.Drawing.{opening, Event, begin, close, sourceAt, Source, Element, textsIn}
 use Rattle.script.specs.declared.cursor.Cursor.{Cursor}
 use Rattle.script.specs.Step.{Fit, Here, markOf}
 use Rattle.walk.specs.declared.node.Opened.{Opened}
@@ -11,8 +11,6 @@ use Rattle.walk.specs.declared.node.Item.the-variants.{Begin, Text, Othe
 use Rattle.walk.specs.declared.node.Item.the-variants as item
 use Rattle.walk.specs.declared.node.NextText.{NextText}
 use Rattle.walk.specs.declared.node.NextText.the-variants as nextText
-use Rattle.walk.specs.declared.node.NextUse.{NextUse}
-use Rattle.walk.specs.declared.node.NextUse.the-variants as nextUse
 use Rattle.walk.specs.Values.{attributesIn, declarationsIn, eventsAt}
 
 -- AN ELEMENT
@@ -84,20 +82,3 @@ pub record TextAt (script : List ℕ) (from c n : Cursor) (k : ℕ) : Type 0 whe
 abbrev pub TextFit : List ℕ → Cursor → NextText → Type 0
 TextFit script from (nextText.At c l n k) = TextAt script from c n k
 TextFit script from nextText.End = Unit {0}
-
--- USES
-
--- The `use`s inside an element from one on.
-abbrev pub usesOf : List ℕ → List ℕ → NextUse → List Element
-usesOf script chars (nextUse.At e k) = elementOf script chars e ∷ usesIn k (eventsAt script chars (e .inside))
-usesOf script chars nextUse.End = []
-
--- A `use`, with k elements open inside it.
-pub record UseAt (script : List ℕ) (from : Cursor) (e : Opened) (k : ℕ) : Type 0 where
-  pub stands : Standing script e
-  pub behind : Further script from (e .inside)
-  pub low : k ≤ e .inside .at
-
-abbrev pub UseFit : List ℕ → Cursor → NextUse → Type 0
-UseFit script from (nextUse.At e k) = UseAt script from e k
-UseFit script from nextUse.End = Unit {0}

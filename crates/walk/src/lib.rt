@@ -1,5 +1,3 @@
-// The walks over a drawing, and the searches in it. Each is lent the script and the characters side by side.
-pub mod link;
+// The walks over a drawing. Each is lent the script and the characters side by side.
 pub mod node;
-pub mod seek;
 pub mod value;

@@ -1,16 +1,16 @@
 // The nodes of a document, one after another.
-use names::eid;
+use names::is_element;
 use script::cursor::Cursor;
 use script::cursor::Step;
 ghost use mathlib.Core.Path.{_≡_};
 ghost use Prim.Native.Nat.{_≤_};
-ghost use lib.Dec.{eqb};
+ghost use lib.Dec.{leb};
 ghost use Rattle.model.specs.Base.{and};
-ghost use Rattle.model.specs.EId;
-ghost use Rattle.model.specs.Drawing.{textsIn, usesIn};
+ghost use Rattle.model.specs.Names.{isElement};
+ghost use Rattle.model.specs.Drawing.{textsIn};
 ghost use Rattle.script.specs.Step.{Fit};
 ghost use Rattle.walk.specs.Values.{eventsAt};
-ghost use Rattle.walk.specs.Nodes.{leave, eventsOf, ItemFit, sourcesOf, TextFit, usesOf, UseFit};
+ghost use Rattle.walk.specs.Nodes.{leave, eventsOf, ItemFit, sourcesOf, TextFit};
 
 // An element that was opened: its own place, its name and namespace, and the cursor inside it.
 pub struct Opened {
@@ -32,12 +32,6 @@ pub enum Item {
 // The next text inside an element, at any depth: its own place, its length, the cursor behind it, and how many elements are open there.
 pub enum NextText {
     At(Cursor, u32, Cursor, usize),
-    End,
-}
-
-// The next use in the SVG namespace inside an element, at any depth, and how many elements are open inside it, itself among them.
-pub enum NextUse {
-    At(Opened, usize),
     End,
 }
 
@@ -160,54 +154,12 @@ pub fn next_text(script: &[u8], characters: &[u8], from: Cursor, open_elements: 
     }
 }
 
-// The code of the element use.
-const USE: u8 = eid::USE as u8;
-
-// Is it the name of a use in the SVG namespace?
-fn is_use(name: u8, space: u8) -> bool
-    ensures { λ r. ⌜ r ≡ and (eqb name EId.Use) (eqb space 1) ⌝ }
+// Does the name give an element of the tree: no namespace or SVG, and a name of the list?
+pub fn has_tag_name(name: u8, space: u8) -> bool
+    ensures { λ r. ⌜ r ≡ and (leb space 1) (isElement name) ⌝ }
 {
-    if name != USE {
+    if 1 < space {
         return false;
     }
-    space == 1
-}
-
-// The next use from the cursor on, with that many elements open inside the element that is walked.
-pub fn next_use(script: &[u8], characters: &[u8], from: Cursor, open_elements: usize) -> NextUse
-    requires { ⌜ Fit (now script) from ⌝ }
-    requires { ⌜ open_elements ≤ from .at ⌝ }
-    ensures same { λ r. ⌜ usesOf (now (script .entry)) (now (characters .entry)) r
-        ≡ usesIn open_elements (eventsAt (now (script .entry)) (now (characters .entry)) from) ⌝ }
-    ensures fit { λ r. ⌜ UseFit (now (script .entry)) from r ⌝ }
-{
-    let mut c = from;
-    let mut level = open_elements;
-    loop {
-        match next_item(script, characters, c) {
-            Item::Begin(e) => {
-                level += 1;
-                if is_use(e.name, e.space) {
-                    return NextUse::At(e, level);
-                }
-                c = e.inside;
-            }
-            Item::Text(_, _, n) => {
-                c = n;
-            }
-            Item::Other(n) => {
-                c = n;
-            }
-            Item::Close(n) => {
-                if level == 0 {
-                    return NextUse::End;
-                }
-                level -= 1;
-                c = n;
-            }
-            Item::End => {
-                return NextUse::End;
-            }
-        }
-    }
+    is_element(name as u32)
 }

@@ -5,7 +5,7 @@ use lib.ListN.{length}
 use mathlib.Core.Path.{ap}
 use Rattle.script.specs.Step.{Fit}
 use Rattle.script.proofs.Commands.{placed-first}
-use Rattle.walk.proofs.Linking.{use-told}
+use Rattle.links.proofs.Linking.{use-told}
 use Rattle.timing.proofs.timing_every_use.Statement.{statement}
 use Rattle.timing.proofs.timing_every_use.Tie as tie
 

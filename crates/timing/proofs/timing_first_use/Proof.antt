@@ -1,6 +1,6 @@
 use native.Mathlib.Omega.{arith}
 use Rattle.script.proofs.Commands.{placed-first}
-use Rattle.walk.proofs.Linking.{use-told}
+use Rattle.links.proofs.Linking.{use-told}
 use borrow.Author.Needs.{needs}
 use Rattle.timing.proofs.timing_first_use.Statement.{statement}
 use Rattle.timing.proofs.timing_first_use.Tie as tie

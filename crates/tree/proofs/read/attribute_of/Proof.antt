@@ -1,8 +1,7 @@
-use mathlib.Core.Path.{refl, sym, _∙_}
+use mathlib.Core.Path.{refl, sym}
 use Prim.Native.Nat.{zero-le}
-use Rattle.model.specs.Base.{and, sameBytes}
-use Rattle.model.specs.Names.{isPossibleNone, fixedBytes, fixedValues}
-use Rattle.model.specs.Tables.{entryAt, attributeId, valueAtEntry, attributeOf}
+use Rattle.model.specs.Names.{fixedBytes, fixedValues}
+use Rattle.model.specs.Tables.{entryAt, attributeOf}
 use Rattle.tree.proofs.Bools.{fails, passes}
 use Rattle.tree.proofs.Entries.{some-there, none-there}
 use Rattle.tree.proofs.Alike.{held-value}

@@ -5,7 +5,7 @@ use Rattle.vectors.proofs.judged.ask_id.Statement.{statement}
 use Rattle.vectors.proofs.judged.ask_id.Tie as tie
 use Rattle.vectors.proofs.judged.ask_id.Reads as reads
 use Rattle.vectors.proofs.judged.ask_id.Lts as lts
-use Rattle.tree.proofs.question.element_by_id.Reads as element-by-id-reads
+use Rattle.questions.proofs.question.element_by_id.Reads as element-by-id-reads
 use Rattle.vectors.proofs.input.bytes.Reads as bytes-reads
 use Rattle.vectors.proofs.input.number.Reads as number-reads
 use Rattle.vectors.proofs.judged.say_answer.Reads as say-answer-reads

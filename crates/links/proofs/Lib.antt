@@ -1,0 +1,4 @@
+pub mod Ids
+pub mod Leading
+pub mod Linking
+pub mod Using

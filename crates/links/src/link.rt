@@ -1,0 +1,308 @@
+// Links: ids, the elements that use and tref lead to.
+use super::uses::NextUse;
+use super::uses::next_use;
+use names::aid;
+use names::same;
+use script::cursor::Cursor;
+use walk::node::Item;
+use walk::node::Opened;
+use walk::node::has_tag_name;
+use walk::node::next_item;
+use walk::value::FoundPart;
+use walk::value::FoundValue;
+use walk::value::attribute_in;
+use walk::value::part_at;
+use walk::value::reading_of;
+ghost use mathlib.Core.Path.{_≡_};
+ghost use Prim.Native.Nat.{_≤_};
+ghost use lib.ListN.{length};
+ghost use Rattle.model.specs.Base.{orElse};
+ghost use Rattle.model.specs.AId;
+ghost use Rattle.model.specs.Check.{mostBytes};
+ghost use Rattle.model.specs.Drawing.{events, attributeIn, iriOf, useHref, trefHref, firstWithId, linkedBy};
+ghost use Rattle.model.specs.Drawing.{leadsBack, usesIn, useTarget, quoted};
+ghost use Rattle.script.specs.Step.{Fit};
+ghost use Rattle.walk.specs.Values.{attributesIn, eventsAt, valueIn, ValueFit, Readable, partOf, PartFit};
+ghost use Rattle.walk.specs.Nodes.{elementOf, nodeAt, Standing};
+ghost use Rattle.links.specs.Links.{nodeOf, NodeFit, textsOf, Tested, sameParts, leadingId};
+
+// The codes of the names that links ask for.
+const HREF: u8 = aid::HREF as u8;
+
+const ID: u8 = aid::ID as u8;
+
+// An element that is looked for.
+pub enum FoundElement {
+    At(Opened),
+    Nothing,
+}
+
+// An element asked for its id: it has it, or not, with the cursor behind the attributes that were read.
+pub enum Asked {
+    Has,
+    HasNot(Cursor),
+}
+
+// The IRI that the host has read in a value.
+fn iri_of(script: &[u8], characters: &[u8], value: FoundValue) -> FoundPart
+    requires { ⌜ Readable (now script) value ⌝ }
+    ensures same { λ r. ⌜ partOf (now (characters .entry)) r
+        ≡ iriOf (valueIn (now (script .entry)) (now (characters .entry)) value) ⌝ }
+    ensures fit { λ r. ⌜ PartFit r ⌝ }
+{
+    match value {
+        FoundValue::At(v) => {
+            let start = v.own.chars;
+            reading_of(script, characters, v.behind, start, 1)
+        }
+        FoundValue::Nothing(_) => FoundPart::Nothing,
+    }
+}
+
+// The IRI of the first href in one namespace; where there is none, of the first in the other.
+fn href_of(script: &[u8], characters: &[u8], inside: Cursor, first: u8, second: u8) -> FoundPart
+    requires { ⌜ Fit (now script) inside ⌝ }
+    ensures same { λ r. ⌜ partOf (now (characters .entry)) r
+        ≡ iriOf (orElse (attributeIn first AId.Href (attributesIn (now (script .entry)) (now (characters .entry)) inside))
+        (attributeIn second AId.Href (attributesIn (now (script .entry)) (now (characters .entry)) inside))) ⌝ }
+    ensures fit { λ r. ⌜ PartFit r ⌝ }
+{
+    let value = attribute_in(script, characters, inside, first, HREF);
+    match value {
+        FoundValue::At(_) => iri_of(script, characters, value),
+        FoundValue::Nothing(_) => {
+            let other = attribute_in(script, characters, inside, second, HREF);
+            iri_of(script, characters, other)
+        }
+    }
+}
+
+// The link of a use.
+pub fn use_href(script: &[u8], characters: &[u8], e: Opened) -> FoundPart
+    requires { ⌜ Standing (now script) e ⌝ }
+    ensures same { λ r. ⌜ partOf (now (characters .entry)) r
+        ≡ useHref (elementOf (now (script .entry)) (now (characters .entry)) e) ⌝ }
+    ensures fit { λ r. ⌜ PartFit r ⌝ }
+{
+    href_of(script, characters, e.inside, 0, 2)
+}
+
+// The link of a tref.
+pub fn tref_href(script: &[u8], characters: &[u8], e: Opened) -> FoundPart
+    requires { ⌜ Standing (now script) e ⌝ }
+    ensures same { λ r. ⌜ partOf (now (characters .entry)) r
+        ≡ trefHref (elementOf (now (script .entry)) (now (characters .entry)) e) ⌝ }
+    ensures fit { λ r. ⌜ PartFit r ⌝ }
+{
+    href_of(script, characters, e.inside, 2, 0)
+}
+
+// The first unprefixed id of an element.
+fn first_id(script: &[u8], characters: &[u8], e: Opened) -> FoundValue
+    requires { ⌜ Standing (now script) e ⌝ }
+    ensures same { λ r. ⌜ valueIn (now (script .entry)) (now (characters .entry)) r
+        ≡ attributeIn 0 AId.Id (attributesIn (now (script .entry)) (now (characters .entry)) (e .inside)) ⌝ }
+    ensures fit { λ r. ⌜ ValueFit (now (script .entry)) (now (characters .entry)) (e .inside) r ⌝ }
+{
+    attribute_in(script, characters, e.inside, 0, ID)
+}
+
+// Has the element an unprefixed id, and the first one is this?
+fn has_id(script: &[u8], characters: &[u8], e: Opened, id: &[u8]) -> Asked
+    requires { ⌜ Standing (now script) e ⌝ }
+    ensures { λ r. ⌜ Tested (now (script .entry)) (now (characters .entry)) (now (id .entry)) e r ⌝ }
+{
+    match first_id(script, characters, e) {
+        FoundValue::At(v) => {
+            let start = v.own.chars;
+            let first = part_at(characters, start, v.len);
+            if same(first, id) {
+                return Asked::Has;
+            }
+            let n = v.behind;
+            Asked::HasNot(n)
+        }
+        FoundValue::Nothing(n) => Asked::HasNot(n),
+    }
+}
+
+// The first element with that unprefixed id. Each attribute is read once.
+pub fn first_with_id(script: &[u8], characters: &[u8], id: &[u8]) -> FoundElement
+    requires { ⌜ length (now script) ≤ mostBytes ⌝ }
+    ensures same { λ r. ⌜ nodeOf (now (script .entry)) (now (characters .entry)) r
+        ≡ firstWithId (now (id .entry)) (events (now (script .entry)) (now (characters .entry))) ⌝ }
+    ensures fit { λ r. ⌜ NodeFit (now (script .entry)) r ⌝ }
+{
+    let mut c = Cursor::start();
+    loop {
+        match next_item(script, characters, c) {
+            Item::Begin(e) => match has_id(script, characters, e, id) {
+                Asked::Has => {
+                    return FoundElement::At(e);
+                }
+                Asked::HasNot(n) => {
+                    c = n;
+                }
+            },
+            Item::Text(_, _, n) => {
+                c = n;
+            }
+            Item::Other(n) => {
+                c = n;
+            }
+            Item::Close(n) => {
+                c = n;
+            }
+            Item::End => {
+                return FoundElement::Nothing;
+            }
+        }
+    }
+}
+
+// The element that a link leads to: the first with that id.
+pub fn linked(script: &[u8], characters: &[u8], link: FoundPart) -> FoundElement
+    requires { ⌜ length (now script) ≤ mostBytes ⌝ }
+    requires { ⌜ PartFit link ⌝ }
+    ensures same { λ r. ⌜ nodeOf (now (script .entry)) (now (characters .entry)) r
+        ≡ linkedBy (events (now (script .entry)) (now (characters .entry))) (partOf (now (characters .entry)) link) ⌝ }
+    ensures fit { λ r. ⌜ NodeFit (now (script .entry)) r ⌝ }
+{
+    match link {
+        FoundPart::At(start, len) => first_with_id(
+            script,
+            characters,
+            part_at(characters, start, len),
+        ),
+        FoundPart::Nothing => FoundElement::Nothing,
+    }
+}
+
+// Are both parts there, with the same bytes?
+fn same_parts(characters: &[u8], a: FoundPart, b: FoundPart) -> bool
+    requires { ⌜ PartFit a ⌝ }
+    requires { ⌜ PartFit b ⌝ }
+    ensures { λ r. ⌜ r ≡ sameParts (partOf (now (characters .entry)) a) (partOf (now (characters .entry)) b) ⌝ }
+{
+    match a {
+        FoundPart::At(start, len) => match b {
+            FoundPart::At(other, size) => {
+                let p = part_at(characters, start, len);
+                let q = part_at(characters, other, size);
+                same(p, q)
+            }
+            FoundPart::Nothing => false,
+        },
+        FoundPart::Nothing => false,
+    }
+}
+
+// The id by which links lead to an element: its first unprefixed one, if it is the first element with it.
+pub fn leading_id(script: &[u8], characters: &[u8], e: Opened) -> FoundPart
+    requires { ⌜ Standing (now script) e ⌝ }
+    ensures same { λ r. ⌜ partOf (now (characters .entry)) r
+        ≡ leadingId (events (now (script .entry)) (now (characters .entry)))
+        (elementOf (now (script .entry)) (now (characters .entry)) e) ⌝ }
+    ensures fit { λ r. ⌜ PartFit r ⌝ }
+{
+    match first_id(script, characters, e) {
+        FoundValue::At(v) => {
+            let start = v.own.chars;
+            let len = v.len;
+            match first_with_id(script, characters, part_at(characters, start, len)) {
+                FoundElement::At(f) => {
+                    if f.own.number == e.own.number {
+                        return FoundPart::At(start, len);
+                    }
+                    FoundPart::Nothing
+                }
+                FoundElement::Nothing => FoundPart::Nothing,
+            }
+        }
+        FoundValue::Nothing(_) => FoundPart::Nothing,
+    }
+}
+
+// Does a use inside the element l, to which the link of the use e leads, lead to e or to l? Links are compared with the ids of these two.
+pub fn leads_back(script: &[u8], characters: &[u8], e: Opened, l: Opened, link: FoundPart) -> bool
+    requires { ⌜ Standing (now script) e ⌝ }
+    requires { ⌜ Standing (now script) l ⌝ }
+    requires { ⌜ PartFit link ⌝ }
+    requires { ⌜ nodeAt (now script) (now characters) l
+        ≡ linkedBy (events (now script) (now characters)) (partOf (now characters) link) ⌝ }
+    ensures { λ r. ⌜ r ≡ leadsBack (events (now (script .entry)) (now (characters .entry)))
+        (elementOf (now (script .entry)) (now (characters .entry)) e .number)
+        (elementOf (now (script .entry)) (now (characters .entry)) l .number)
+        (usesIn 0 (eventsAt (now (script .entry)) (now (characters .entry)) (l .inside))) ⌝ }
+{
+    let id = leading_id(script, characters, e);
+    let mut c = l.inside;
+    let mut level: usize = 0;
+    loop {
+        match next_use(script, characters, c, level) {
+            NextUse::At(u, open_elements) => {
+                let href = use_href(script, characters, u);
+                if same_parts(characters, href, id) {
+                    return true;
+                }
+                if same_parts(characters, href, link) {
+                    return true;
+                }
+                level = open_elements;
+                c = u.inside;
+            }
+            NextUse::End => {
+                return false;
+            }
+        }
+    }
+}
+
+// The element that a use, met with that origin, copies; nothing where it copies none.
+pub fn use_target(script: &[u8], characters: &[u8], e: Opened, origin: usize) -> FoundElement
+    requires { ⌜ Standing (now script) e ⌝ }
+    ensures same { λ r. ⌜ nodeOf (now (script .entry)) (now (characters .entry)) r
+        ≡ useTarget (events (now (script .entry)) (now (characters .entry)))
+        (elementOf (now (script .entry)) (now (characters .entry)) e) origin ⌝ }
+    ensures fit { λ r. ⌜ NodeFit (now (script .entry)) r ⌝ }
+{
+    let link = use_href(script, characters, e);
+    let node = linked(script, characters, link);
+    match node {
+        FoundElement::At(l) => {
+            if !has_tag_name(l.name, l.space) {
+                return FoundElement::Nothing;
+            }
+            let number = l.own.number + 1;
+            if number == e.own.number + 1 {
+                return FoundElement::Nothing;
+            }
+            if number == origin {
+                return FoundElement::Nothing;
+            }
+            if leads_back(script, characters, e, l, link) {
+                return FoundElement::Nothing;
+            }
+            FoundElement::At(l)
+        }
+        FoundElement::Nothing => FoundElement::Nothing,
+    }
+}
+
+// The element whose texts a tref quotes; nothing where it quotes none.
+pub fn quoted(script: &[u8], characters: &[u8], e: Opened) -> FoundElement
+    requires { ⌜ Standing (now script) e ⌝ }
+    ensures same { λ r. ⌜ textsOf (now (script .entry)) (now (characters .entry)) r
+        ≡ quoted (events (now (script .entry)) (now (characters .entry))) (elementOf (now (script .entry)) (now (characters .entry)) e) ⌝ }
+    ensures fit { λ r. ⌜ NodeFit (now (script .entry)) r ⌝ }
+{
+    match linked(script, characters, tref_href(script, characters, e)) {
+        FoundElement::At(l) => {
+            if has_tag_name(l.name, l.space) {
+                return FoundElement::At(l);
+            }
+            FoundElement::Nothing
+        }
+        FoundElement::Nothing => FoundElement::Nothing,
+    }
+}

@@ -1,0 +1,2 @@
+// Texts and commands of a drawing by their numbers. Each search is lent the script and the characters side by side.
+pub mod seek;
