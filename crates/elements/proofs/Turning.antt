@@ -5,7 +5,7 @@ use mathlib.Core.Bool.{Bool, true, false, not}
 use mathlib.Core.List.{List, [], _∷_}
 use native.Mathlib.Omega.{arith}
 use borrow.Author.Tests.{ltb-false}
-use lib.Dec.{eqb, ltb}
+use lib.Dec.{eqb, leb, ltb}
 use lib.ListN.{length, replicate, length-replicate}
 use Rattle.model.specs.Base.{pick, and, or}
 use Rattle.model.specs.EId
@@ -157,7 +157,7 @@ starting script chars n m h mid z l c e ns ats p q =
 
 -- A node's code is a code of the list.
 pub kept-code : (code space : ℕ) → isKept code space ≡ true → isElement code ≡ true
-kept-code code space h = go (eqb space 1) (not (eqb code EId.Style)) (isElement code) h
+kept-code code space h = go (leb space 1) (not (eqb code EId.Style)) (isElement code) h
   where
     go : (a b c : Bool) → and a (and b c) ≡ true → c ≡ true
     go true true c q = q

@@ -2,7 +2,7 @@
 use Prim.Native.Nat.{ℕ, _≤_, _<_}
 use mathlib.Core.Bool.{Bool, not}
 use mathlib.Core.List.{List, []}
-use lib.Dec.{eqb}
+use lib.Dec.{eqb, leb}
 use lib.ListN.{length}
 use Rattle.model.specs.Base.{and}
 use Rattle.model.specs.EId
@@ -23,9 +23,9 @@ use Rattle.elements.specs.declared.State.{State}
 use Rattle.elements.specs.declared.Turn.{Turn}
 use Rattle.elements.specs.declared.Turn.the-variants as turn
 
--- Does an element become a node: in the SVG namespace, with a code of the list, but `style`?
+-- Does an element become a node: in no namespace or SVG's, with a code of the list, but `style`?
 abbrev pub isKept : ℕ → ℕ → Bool
-isKept code space = and (eqb space 1) (and (not (eqb code EId.Style)) (isElement code))
+isKept code space = and (leb space 1) (and (not (eqb code EId.Style)) (isElement code))
 
 -- All that the drawing has from here on lies within the characters.
 abbrev pub Lies : List ℕ → List Event → Type 0

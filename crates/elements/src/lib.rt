@@ -18,6 +18,7 @@ use walk::node::past_element;
 ghost use mathlib.Core.Path.{_≡_};
 ghost use Prim.Native.Nat.{_+_, _*_, _≤_, _<_};
 ghost use lib.ListN.{length};
+ghost use Rattle.model.specs.Check.{check};
 ghost use Rattle.model.specs.Tables.{word};
 ghost use Rattle.elements.specs.Turns.{isKept, Going, Opening, TurnFit};
 
@@ -49,11 +50,11 @@ fn code_of(name: u8) -> u32
     name as u32
 }
 
-// Does an element with that code, in that namespace, become a node?
+// Does an element with that code, in no namespace or SVG's, become a node?
 fn is_kept(code: u32, space: u8) -> bool
     ensures { λ r. ⌜ r ≡ isKept code space ⌝ }
 {
-    if space != 1 {
+    if space > 1 {
         return false;
     }
     if code == eid::STYLE {
@@ -225,4 +226,12 @@ pub extern "C" fn elements_build(
         },
     };
     run(script, characters, nodes, attributes, first)
+}
+
+// Check alone, for what it takes of the time.
+#[no_mangle]
+pub extern "C" fn elements_check(script: &[u8], characters: &[u8]) -> u32
+    ensures { λ r. ⌜ r ≡ check (now (script .entry)) (now (characters .entry)) ⌝ }
+{
+    check(script, characters)
 }
