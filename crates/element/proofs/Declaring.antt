@@ -11,13 +11,13 @@ use Rattle.model.specs.Drawing.{valueAt}
 use Rattle.model.specs.Element.{fontParts, isRead, writeDeclaration, marker}
 use Rattle.walk.specs.declared.value.ValueAt.{ValueAt}
 use Rattle.tree.specs.Lent.{readOf}
-use Rattle.element.specs.declared.Place.{Place}
-use Rattle.element.specs.declared.Value.{Value}
-use Rattle.element.specs.declared.Stored.{Stored}
-use Rattle.element.specs.declared.Stored.the-variants.{Next}
-use Rattle.element.specs.Space.{Space, Leaves, soFar, inserted}
+use Rattle.entries.specs.declared.Place.{Place}
+use Rattle.entries.specs.declared.Value.{Value}
+use Rattle.entries.specs.declared.Stored.{Stored}
+use Rattle.entries.specs.declared.Stored.the-variants.{Next}
+use Rattle.entries.specs.Space.{Space, Leaves, soFar, inserted}
 use Rattle.element.specs.Font.{valueFrom, declarationOf, resetAs, partsOf, fontIn, declaredIn}
-use Rattle.element.proofs.Storing.{same-entries}
+use Rattle.entries.proofs.Storing.{same-entries}
 
 module _ (script chars ns ats : List ℕ) (place : Place) (n important : ℕ) (v : ValueAt) where
   -- Is a kind read?

@@ -21,14 +21,14 @@ use Rattle.tree.specs.Lent.{readOf}
 use Rattle.model.specs.Names.{fontResets}
 use Rattle.model.specs.Tables.{Entry}
 use Rattle.model.specs.Element.{fontParts, insertEntry, appendAttribute, isRead}
-use Rattle.element.specs.declared.Place.{Place}
-use Rattle.element.specs.declared.Value.{Value}
-use Rattle.element.specs.declared.Stored.{Stored}
-use Rattle.element.specs.declared.Stored.the-variants.{Next}
-use Rattle.element.specs.Space.{Space, Leaves, soFar, Above, inserted}
+use Rattle.entries.specs.declared.Place.{Place}
+use Rattle.entries.specs.declared.Value.{Value}
+use Rattle.entries.specs.declared.Stored.{Stored}
+use Rattle.entries.specs.declared.Stored.the-variants.{Next}
+use Rattle.entries.specs.Space.{Space, Leaves, soFar, Above, inserted}
 use Rattle.element.specs.Font.{valueFrom, Held, declarationOf, rowOf, resetAs, partsOf}
-use Rattle.element.proofs.Storing.{same-entries}
-use Rattle.element.proofs.Inserting.{inserts-more, append-on}
+use Rattle.entries.proofs.Storing.{same-entries}
+use Rattle.entries.proofs.Inserting.{inserts-more, append-on}
 use Rattle.element.proofs.Steps.{Steady}
 
 -- The keys of a table of pairs, and its values.

@@ -1,10 +1,6 @@
-pub mod Adding
 pub mod Declaring
 pub mod Fonts
-pub mod Inserting
 pub mod Keeping
-pub mod Resolving
 pub mod Running
 pub mod Steps
-pub mod Storing
 pub mod Whole

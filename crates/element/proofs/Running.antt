@@ -25,15 +25,15 @@ use Rattle.walk.specs.declared.value.NextValue.{NextValue}
 use Rattle.walk.specs.Values.{attributesIn, declarationsIn, SameNodes, SameRest, valueOf, Attributed, Declared}
 use Rattle.walk.proofs.Walks.{DeclarationIs}
 use Rattle.tree.specs.Lent.{readOf}
-use Rattle.element.specs.declared.Place.{Place}
-use Rattle.element.specs.declared.Value as E
-use Rattle.element.specs.declared.Stored.{Stored}
-use Rattle.element.specs.declared.Stored.the-variants.{Next, Full}
-use Rattle.element.specs.Space.{Space, Leaves, soFar, attributeOf, Above}
+use Rattle.entries.specs.declared.Place.{Place}
+use Rattle.entries.specs.declared.Value as E
+use Rattle.entries.specs.declared.Stored.{Stored}
+use Rattle.entries.specs.declared.Stored.the-variants.{Next, Full}
+use Rattle.entries.specs.Space.{Space, Leaves, soFar, attributeOf, Above}
 use Rattle.element.specs.Font.{valueFrom, Held, declaredIn}
 use Rattle.element.specs.Runs.{addedIn}
-use Rattle.element.proofs.Storing.{first-count}
-use Rattle.element.proofs.Inserting.{inserts-more, agree-on}
+use Rattle.entries.proofs.Storing.{first-count}
+use Rattle.entries.proofs.Inserting.{inserts-more, agree-on}
 use Rattle.element.proofs.Steps.{folded-more, Steady, Towards, at-first, step-on, step-full, at-end}
 
 -- What a loop walks over: the things from a cursor on, the value of each, and what of the script stays the same behind them.

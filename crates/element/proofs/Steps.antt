@@ -7,12 +7,12 @@ use lib.ListN.{length}
 use Rattle.model.specs.Base.{folded}
 use Rattle.model.specs.Tables.{Entry}
 use Rattle.model.specs.Theorems.Runs.{run-own, run-length}
-use Rattle.element.specs.declared.Place.{Place}
-use Rattle.element.specs.declared.Stored.{Stored}
-use Rattle.element.specs.declared.Stored.the-variants.{Next, Full}
-use Rattle.element.specs.Space.{Space, Leaves, soFar}
-use Rattle.element.proofs.Storing.{On, then-leaves, same-entries}
-use Rattle.element.proofs.Inserting.{on-told, full-told}
+use Rattle.entries.specs.declared.Place.{Place}
+use Rattle.entries.specs.declared.Stored.{Stored}
+use Rattle.entries.specs.declared.Stored.the-variants.{Next, Full}
+use Rattle.entries.specs.Space.{Space, Leaves, soFar}
+use Rattle.entries.proofs.Storing.{On, then-leaves, same-entries}
+use Rattle.entries.proofs.Inserting.{on-told, full-told}
 
 -- Steps of which none takes an entry away.
 pub folded-more : {A : Type 0} (g : List Entry → A → List Entry) → ((es : List Entry) (x : A) → length es ≤ length (g es x)) →

@@ -18,17 +18,17 @@ use Rattle.walk.specs.Nodes.{elementOf}
 use Rattle.walk.specs.Values.{attributesIn, declarationsIn, SameRest, SameNodes}
 use Rattle.tree.specs.declared.Counts.{Counts}
 use Rattle.tree.specs.Lent.{treeOf, readOf, nodesRead}
-use Rattle.element.specs.declared.Place.{Place}
-use Rattle.element.specs.declared.Stored.{Stored}
-use Rattle.element.specs.declared.Stored.the-variants as stored
+use Rattle.entries.specs.declared.Place.{Place}
+use Rattle.entries.specs.declared.Stored.{Stored}
+use Rattle.entries.specs.declared.Stored.the-variants as stored
 use Rattle.element.specs.declared.Run.{Run}
 use Rattle.element.specs.declared.Run.the-variants as run
-use Rattle.element.specs.Space.{Space, Leaves, soFar, Above}
+use Rattle.entries.specs.Space.{Space, Leaves, soFar, Above}
 use Rattle.element.specs.Font.{declaredIn}
 use Rattle.element.specs.Runs.{InDeclarations, addedIn, entriesIn, storedOf, RunRest, RunNodes, Ready}
 use Rattle.walk.proofs.Finding.{nodes-on}
-use Rattle.element.proofs.Storing.{On}
-use Rattle.element.proofs.Inserting.{on-told}
+use Rattle.entries.proofs.Storing.{On}
+use Rattle.entries.proofs.Inserting.{on-told}
 use Rattle.element.proofs.Steps.{run-on, run-full}
 use Rattle.element.proofs.Running.{writes-steady}
 

@@ -15,8 +15,8 @@ use Rattle.script.specs.Step.{Fit}
 use Rattle.walk.specs.declared.value.ValueAt.{ValueAt}
 use Rattle.walk.specs.Values.{valueOf}
 use Rattle.tree.specs.Lent.{readOf}
-use Rattle.element.specs.declared.Place.{Place}
-use Rattle.element.specs.declared.Value.{Value}
+use Rattle.entries.specs.declared.Place.{Place}
+use Rattle.entries.specs.declared.Value.{Value}
 
 -- The place, the length and the command of a value.
 abbrev pub valueFrom : ValueAt → Value

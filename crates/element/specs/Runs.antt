@@ -16,9 +16,9 @@ use Rattle.script.specs.Step.{Fit}
 use Rattle.walk.specs.Values.{attributesIn, declarationsIn, SameNodes, SameRest}
 use Rattle.tree.specs.declared.Counts.{Counts}
 use Rattle.tree.specs.Lent.{treeOf, readOf}
-use Rattle.element.specs.declared.Place.{Place}
-use Rattle.element.specs.declared.Stored.{Stored}
-use Rattle.element.specs.declared.Stored.the-variants as stored
+use Rattle.entries.specs.declared.Place.{Place}
+use Rattle.entries.specs.declared.Stored.{Stored}
+use Rattle.entries.specs.declared.Stored.the-variants as stored
 use Rattle.element.specs.Font.{declaredIn}
 use Rattle.element.specs.declared.Run.{Run}
 use Rattle.element.specs.declared.Run.the-variants as run

@@ -1,109 +1,22 @@
 // The declarations of an element: what they become.
-use crate::Place;
-use crate::Resolved;
 use crate::Run;
-use crate::Stored;
-use crate::Value;
-use crate::entry::insert_entry;
 use crate::font::insert_font;
-use crate::inherit::append_attribute;
 use crate::value_of;
+use entries::Place;
+use entries::Stored;
+use entries::insert::insert_attribute;
+use entries::insert::insert_marker;
 use names::aid;
 use names::is_presentation;
 use script::cursor::Cursor;
 use walk::value::NextValue;
 use walk::value::ValueAt;
 use walk::value::next_declaration;
-ghost use mathlib.Core.List.{[], _∷_};
-ghost use Prim.Native.Nat.{_+_, _≤_};
-ghost use lib.ListN.{length};
 ghost use Rattle.model.specs.Base.{folded};
-ghost use Rattle.model.specs.AId;
 ghost use Rattle.walk.specs.Values.{declarationsIn};
-ghost use Rattle.element.specs.Space.{Space, Leaves, soFar, Above, inserted};
+ghost use Rattle.entries.specs.Space.{Space, Leaves, soFar, Above};
 ghost use Rattle.element.specs.Font.{Held, declarationOf, declaredIn};
 ghost use Rattle.element.specs.Runs.{InDeclarations, storedOf, RunNodes};
-
-// `insert_attribute`: the value under that name replaces the first entry of that name or is one more, unless it is dropped.
-pub fn insert_attribute(
-    nodes: &[u32],
-    attributes: &mut [u32],
-    characters: &[u8],
-    place: Place,
-    next: u32,
-    name: u32,
-    important: u32,
-    value: Value,
-) -> Stored
-    requires { ⌜ Space (now attributes) place next ⌝ }
-    requires { ⌜ Above (now nodes) place ⌝ }
-    requires { ⌜ value .start + value .size ≤ length (now characters) ⌝ }
-    ensures { λ r. ⌜ Leaves (now (attributes .entry)) place
-        (inserted (now (nodes .entry)) (now (attributes .entry)) (now (characters .entry)) place important value
-        (soFar (now (attributes .entry)) place next) name) r (now (attributes .exit)) ⌝ }
-{
-    let kept = append_attribute(nodes, attributes, characters, place, name, important, value);
-    match kept {
-        Resolved::Kept(e) => insert_entry(attributes, place, next, name, e),
-        Resolved::Dropped => Stored::Next(next),
-    }
-}
-
-// A declaration of `marker`: the three names, one after another.
-pub fn insert_marker(
-    nodes: &[u32],
-    attributes: &mut [u32],
-    characters: &[u8],
-    place: Place,
-    next: u32,
-    important: u32,
-    value: Value,
-) -> Stored
-    requires { ⌜ Space (now attributes) place next ⌝ }
-    requires { ⌜ Above (now nodes) place ⌝ }
-    requires { ⌜ value .start + value .size ≤ length (now characters) ⌝ }
-    ensures { λ r. ⌜ Leaves (now (attributes .entry)) place
-        (folded (inserted (now (nodes .entry)) (now (attributes .entry)) (now (characters .entry)) place important value)
-        (soFar (now (attributes .entry)) place next) (AId.MarkerStart ∷ AId.MarkerMid ∷ AId.MarkerEnd ∷ [])) r
-        (now (attributes .exit)) ⌝ }
-{
-    let first = insert_attribute(
-        nodes,
-        attributes,
-        characters,
-        place,
-        next,
-        aid::MARKER_START,
-        important,
-        value,
-    );
-    let Stored::Next(second) = first else {
-        return Stored::Full;
-    };
-    let mid = insert_attribute(
-        nodes,
-        attributes,
-        characters,
-        place,
-        second,
-        aid::MARKER_MID,
-        important,
-        value,
-    );
-    let Stored::Next(third) = mid else {
-        return Stored::Full;
-    };
-    insert_attribute(
-        nodes,
-        attributes,
-        characters,
-        place,
-        third,
-        aid::MARKER_END,
-        important,
-        value,
-    )
-}
 
 // The number that stands for `marker` among declarations.
 const MARKER: u32 = 254;

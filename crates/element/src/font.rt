@@ -1,10 +1,10 @@
 // A declaration of `font`: what it resets, and its parts.
-use crate::Place;
-use crate::Stored;
-use crate::Value;
-use crate::declaration::insert_attribute;
-use crate::entry::insert_entry;
 use crate::value_of;
+use entries::Place;
+use entries::Stored;
+use entries::Value;
+use entries::entry::insert_entry;
+use entries::insert::insert_attribute;
 use names::aid;
 use tree::Entry;
 use walk::value::FoundPart;
@@ -19,7 +19,7 @@ ghost use Rattle.model.specs.Check.{mostBytes};
 ghost use Rattle.model.specs.Names.{fontResets};
 ghost use Rattle.model.specs.Element.{fontParts, isRead};
 ghost use Rattle.tree.specs.Lent.{readOf};
-ghost use Rattle.element.specs.Space.{Space, Leaves, soFar, Above};
+ghost use Rattle.entries.specs.Space.{Space, Leaves, soFar, Above};
 ghost use Rattle.element.specs.Font.{valueFrom, Held, declarationOf, rowOf, resetAs, partsOf, fontIn};
 
 // What a font declaration resets, in its order.

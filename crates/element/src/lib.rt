@@ -1,5 +1,6 @@
 // `parse_svg_element`: an element's attributes and declarations become entries of the lent table, and the element a node.
 
+use entries::Value;
 use script::cursor::Cursor;
 use walk::value::ValueAt;
 ghost use mathlib.Core.Path.{_≡_};
@@ -9,16 +10,8 @@ ghost use Rattle.element.specs.Font.{valueFrom};
 
 pub mod attribute;
 pub mod declaration;
-pub mod entry;
 pub mod font;
-pub mod inherit;
 pub mod parse;
-
-// Where a step left the entries of the element: behind the last one, or there is no room for one.
-pub enum Stored {
-    Next(u32),
-    Full,
-}
 
 // Where a run of steps left the entries, and the cursor behind what was read; or there is no room for an entry.
 pub enum Run {
@@ -31,27 +24,6 @@ pub enum Run {
 pub enum Parsed {
     Refused(u32),
     Done(tree::Counts, Cursor),
-}
-
-// What becomes of a value: the entry for it, or it is dropped.
-pub enum Resolved {
-    Kept(tree::Entry),
-    Dropped,
-}
-
-// A value: its place in the characters, and the number of its command.
-pub struct Value {
-    pub start: u32,
-    pub size: u32,
-    pub command: u32,
-}
-
-// Where an element's entries go: its parent's index, its name in the tree, its first entry, and how many entries there is room for.
-pub struct Place {
-    pub parent: u32,
-    pub tag: u32,
-    pub first: u32,
-    pub room: u32,
 }
 
 // A value of the drawing: its place, its length and the number of its command.

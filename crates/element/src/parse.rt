@@ -1,9 +1,9 @@
 // `parse_svg_element`: the entries of an element behind those that are taken, then its node.
 use crate::Parsed;
-use crate::Place;
 use crate::Run;
 use crate::attribute::add_attributes;
 use crate::declaration::write_declarations;
+use entries::Place;
 use script::cursor::Cursor;
 use tree::Counts;
 use tree::room::attribute_room;
@@ -18,7 +18,7 @@ ghost use lib.ListN.{length};
 ghost use Rattle.model.specs.Element.{parseSvgElement};
 ghost use Rattle.tree.specs.Lent.{treeOf};
 ghost use Rattle.walk.specs.Nodes.{elementOf};
-ghost use Rattle.element.specs.Space.{Leaves, Above};
+ghost use Rattle.entries.specs.Space.{Leaves, Above};
 ghost use Rattle.element.specs.Runs.{InAttributes, InDeclarations, entriesIn, storedOf, RunNodes, Ready, parsedOf, ParsedFit};
 
 // The entries of an element, from inside it: those of its attributes, then those of its declarations.

@@ -6,9 +6,9 @@ use Rattle.model.specs.Base.{folded}
 use Rattle.walk.specs.Values.{attributesIn}
 use Rattle.walk.proofs.Walks.{attribute-told}
 use Rattle.walk.proofs.Finding.{rest-on}
-use Rattle.element.specs.Space.{soFar}
+use Rattle.entries.specs.Space.{soFar}
 use Rattle.element.specs.Runs.{addedIn}
-use Rattle.element.proofs.Inserting.{climbs}
+use Rattle.entries.proofs.Inserting.{climbs}
 use Rattle.element.proofs.Fonts.{held-place, held-whole}
 use Rattle.element.proofs.Running.{Running, allAttributes, rest-none, run-first, run-lies, run-step, run-stop, run-end}
 use Rattle.element.proofs.Running.{adds-steady, held-attributed, added-whole}

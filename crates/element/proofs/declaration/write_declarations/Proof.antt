@@ -5,7 +5,7 @@ use lib.ListN.{length}
 use Rattle.model.specs.Base.{folded}
 use Rattle.walk.specs.Values.{declarationsIn}
 use Rattle.walk.proofs.Finding.{nodes-on}
-use Rattle.element.specs.Space.{soFar}
+use Rattle.entries.specs.Space.{soFar}
 use Rattle.element.specs.Font.{declaredIn, declarationOf}
 use Rattle.element.proofs.Running.{Running, allDeclarations, nodes-none, run-first, run-lies, run-step, run-stop, run-end}
 use Rattle.element.proofs.Running.{writes-steady, declaration-told, held-declared}

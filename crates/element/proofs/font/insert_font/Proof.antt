@@ -1,6 +1,6 @@
 use Rattle.model.specs.Element.{fontParts}
 use Rattle.tree.proofs.Bools.{fails, passes}
-use Rattle.element.proofs.Inserting.{on-told}
+use Rattle.entries.proofs.Inserting.{on-told}
 use Rattle.element.proofs.Fonts.{resets-steady, parts-steady}
 use Rattle.element.proofs.Steps.{run-on, run-full}
 use Rattle.element.proofs.Declaring.{no-size, no-family, font-written}

@@ -5,7 +5,7 @@ use borrow.Author.Needs.{needs}
 use Prim.Native.Nat.{ℕ, _-_, _≤_}
 use lib.ListN.{drop, drop-of-length-le}
 use Rattle.model.specs.Base.{folded}
-use Rattle.element.specs.Space.{soFar}
+use Rattle.entries.specs.Space.{soFar}
 use Rattle.element.proofs.Fonts.{rows-from, parts-steady, parts-long}
 use Rattle.element.proofs.Steps.{Towards, at-first, step-on, step-full, at-end}
 use Rattle.element.proofs.font.insert_parts.Statement.{statement}

@@ -4,7 +4,7 @@ use Prim.Native.Nat.{ℕ, _-_, _≤_}
 use lib.ListN.{drop, drop-of-length-le}
 use Rattle.model.specs.Base.{folded}
 use Rattle.model.specs.Names.{fontResets}
-use Rattle.element.specs.Space.{soFar}
+use Rattle.entries.specs.Space.{soFar}
 use Rattle.element.specs.Font.{resetAs}
 use Rattle.element.proofs.Fonts.{rows-from, resets-steady, resets-long}
 use Rattle.element.proofs.Steps.{Towards, at-first, step-on, step-full, at-end}
