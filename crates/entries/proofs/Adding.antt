@@ -16,11 +16,11 @@ use Rattle.tree.specs.Lent.{entryOf}
 use Rattle.tree.specs.declared.Entry as T
 use Rattle.entries.specs.declared.Place.{Place}
 use Rattle.entries.specs.declared.Value.{Value}
-use Rattle.entries.specs.declared.Resolved.{Resolved}
-use Rattle.entries.specs.declared.Resolved.the-variants.{Kept, Dropped}
+use Rattle.entries.specs.declared.Appended.{Appended}
+use Rattle.entries.specs.declared.Appended.the-variants.{Itself, Other, Nothing}
 use Rattle.entries.specs.declared.Stored.{Stored}
 use Rattle.entries.specs.declared.Stored.the-variants.{Next}
-use Rattle.entries.specs.Space.{Space, Leaves, soFar, resolvedOf, valueIn, attributeOf}
+use Rattle.entries.specs.Space.{Space, Leaves, soFar, ownEntry, appendedOf, valueIn, attributeOf}
 use Rattle.entries.proofs.Storing.{first-anew, same-entries}
 
 -- Two words that stand there already, and others behind them.
@@ -50,11 +50,15 @@ module _ (ats : List ℕ) (place : Place) (next : ℕ) (s : Space ats place next
     pub href-skipped : (space ≡ 0 → ⊥) → Leaves ats place over (Next next) ats
     href-skipped z = rw (ne-eqb space 0 z) (same-entries ats place next s)
 
-  module _ (r : Resolved) (o : Option Entry) (told : resolvedOf r ≡ o) where
-    pub more-kept : (e : T.Entry) → r ≡ Kept e → (x : Stored) (m : List ℕ) →
+  module _ (name important : ℕ) (v : Value) (r : Appended) (o : Option Entry) (told : appendedOf name important v r ≡ o) where
+    pub more-itself : r ≡ Itself → (e : T.Entry) → entryOf e ≡ ownEntry name important v → (x : Stored) (m : List ℕ) →
+        Leaves ats place (soFar ats place next ++ (entryOf e ∷ [])) x m → Leaves ats place (withMore (soFar ats place next) o) x m
+    more-itself h e q x m l = rw (← told, h, ← q) l
+
+    pub more-other : (e : T.Entry) → r ≡ Other e → (x : Stored) (m : List ℕ) →
         Leaves ats place (soFar ats place next ++ (entryOf e ∷ [])) x m →
         Leaves ats place (withMore (soFar ats place next) o) x m
-    more-kept e h x m l = rw (← told, h) l
+    more-other e h x m l = rw (← told, h) l
 
-    pub more-dropped : r ≡ Dropped → Leaves ats place (withMore (soFar ats place next) o) (Next next) ats
-    more-dropped h = rw (← told, h) (same-entries ats place next s)
+    pub more-nothing : r ≡ Nothing → Leaves ats place (withMore (soFar ats place next) o) (Next next) ats
+    more-nothing h = rw (← told, h) (same-entries ats place next s)

@@ -15,11 +15,11 @@ use Rattle.tree.specs.Lent.{readOf, entryOf, Climbable}
 use Rattle.tree.specs.declared.Entry as T
 use Rattle.entries.specs.declared.Place.{Place}
 use Rattle.entries.specs.declared.Value.{Value}
-use Rattle.entries.specs.declared.Resolved.{Resolved}
-use Rattle.entries.specs.declared.Resolved.the-variants.{Kept, Dropped}
+use Rattle.entries.specs.declared.Appended.{Appended}
+use Rattle.entries.specs.declared.Appended.the-variants.{Itself, Other, Nothing}
 use Rattle.entries.specs.declared.Stored.{Stored}
 use Rattle.entries.specs.declared.Stored.the-variants.{Next, Full}
-use Rattle.entries.specs.Space.{Space, Leaves, soFar, resolvedOf, Above, becomes, inserted}
+use Rattle.entries.specs.Space.{Space, Leaves, soFar, ownEntry, appendedOf, Above, becomes, inserted}
 use Rattle.entries.proofs.Storing.{first-count, same-entries, On, went-on, then-leaves, full-leaves}
 
 -- The way up from the parent can be read.
@@ -74,16 +74,21 @@ module _ (ns ats chars : List ℕ) (place : Place) (above : Above ns place) wher
       r l
       (rw (← o .entries, ← becomes-same new n m o a i v) h)
 
-module _ (ats : List ℕ) (place : Place) (next : ℕ) (s : Space ats place next) (a : ℕ) (r : Resolved) (o : Option Entry)
-    (told : resolvedOf r ≡ o) where
-  pub insert-kept : (e : T.Entry) → r ≡ Kept e → (x : Stored) (m : List ℕ) →
+module _ (ats : List ℕ) (place : Place) (next : ℕ) (s : Space ats place next) (a i : ℕ) (v : Value) (r : Appended) (o : Option Entry)
+    (told : appendedOf a i v r ≡ o) where
+  pub insert-itself : r ≡ Itself → (e : T.Entry) → entryOf e ≡ ownEntry a i v → (x : Stored) (m : List ℕ) →
       Leaves ats place (insertEntry a (soFar ats place next) (some (entryOf e))) x m →
       Leaves ats place (insertEntry a (soFar ats place next) o) x m
-  insert-kept e h x m l = rw (← told, h) l
+  insert-itself h e q x m l = rw (← told, h, ← q) l
 
-  pub insert-dropped : r ≡ Dropped → Leaves ats place (insertEntry a (soFar ats place next) o) (Next next) ats
+  pub insert-other : (e : T.Entry) → r ≡ Other e → (x : Stored) (m : List ℕ) →
+      Leaves ats place (insertEntry a (soFar ats place next) (some (entryOf e))) x m →
+      Leaves ats place (insertEntry a (soFar ats place next) o) x m
+  insert-other e h x m l = rw (← told, h) l
+
+  pub insert-nothing : r ≡ Nothing → Leaves ats place (insertEntry a (soFar ats place next) o) (Next next) ats
   unfolding insertEntry
-  insert-dropped h = rw (← told, h) (same-entries ats place next s)
+  insert-nothing h = rw (← told, h) (same-entries ats place next s)
 
 -- A step that was told to have gone on, or to have had no room.
 module _ (ats : List ℕ) (place : Place) (room : 5 * place .room ≤ length ats) (new : List Entry) (r : Stored) (m : List ℕ)

@@ -16,6 +16,8 @@ use Rattle.entries.specs.declared.Place.{Place}
 use Rattle.entries.specs.declared.Value.{Value}
 use Rattle.entries.specs.declared.Resolved.{Resolved}
 use Rattle.entries.specs.declared.Resolved.the-variants.{Kept, Dropped}
+use Rattle.entries.specs.declared.Appended.{Appended}
+use Rattle.entries.specs.declared.Appended.the-variants as appended
 use Rattle.entries.specs.declared.Stored.{Stored}
 use Rattle.entries.specs.declared.Stored.the-variants.{Next, Full}
 
@@ -44,6 +46,17 @@ soFar ats place next = entriesFrom ats (place .first) (next - place .first)
 abbrev pub resolvedOf : Resolved → Option Entry
 resolvedOf (Kept e) = some (entryOf e)
 resolvedOf Dropped = none
+
+-- The entry with a value itself.
+abbrev pub ownEntry : ℕ → ℕ → Value → Entry
+ownEntry name important v =
+    record { name = name; important = important; start = v .start; size = v .size; command = v .command }
+
+-- What `append_attribute` makes of a value, as the model has it.
+abbrev pub appendedOf : ℕ → ℕ → Value → Appended → Option Entry
+appendedOf name important v appended.Itself = some (ownEntry name important v)
+appendedOf name important v (appended.Other e) = some (entryOf e)
+appendedOf name important v appended.Nothing = none
 
 -- A value, an attribute with it. What is read in the value does not matter to an attribute.
 abbrev pub valueIn : List ℕ → Value → model.Value

@@ -1,10 +1,11 @@
 // One attribute of an element: whether it is taken, and what it becomes.
+use crate::Appended;
 use crate::Place;
-use crate::Resolved;
 use crate::Stored;
 use crate::Value;
 use crate::entry::add_entry;
 use crate::inherit::append_attribute;
+use crate::own_entry;
 use names::aid;
 use names::is_attribute;
 use names::is_declared_only;
@@ -134,10 +135,10 @@ fn append_more(
         (appendAttribute (readOf (now (nodes .entry)) (now (attributes .entry))) (place .parent) (place .tag) name 0
         (partAt (now (characters .entry)) (value .start) (value .size)) (value .command))) r (now (attributes .exit)) ⌝ }
 {
-    let kept = append_attribute(nodes, attributes, characters, place, name, 0, value);
-    match kept {
-        Resolved::Kept(e) => add_entry(attributes, place, next, e),
-        Resolved::Dropped => Stored::Next(next),
+    match append_attribute(nodes, attributes, characters, place, name, 0, value) {
+        Appended::Itself => add_entry(attributes, place, next, own_entry(name, 0, value)),
+        Appended::Other(e) => add_entry(attributes, place, next, e),
+        Appended::Nothing => Stored::Next(next),
     }
 }
 

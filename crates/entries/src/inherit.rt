@@ -1,4 +1,5 @@
 // `append_attribute` and `resolve_inherit`: what becomes of a value. Nothing is written here.
+use crate::Appended;
 use crate::Place;
 use crate::Resolved;
 use crate::Value;
@@ -25,7 +26,7 @@ ghost use Rattle.model.specs.Names.{inheritDefault, allowsInheritValue};
 ghost use Rattle.model.specs.Drawing.{partAt};
 ghost use Rattle.model.specs.Element.{inheritWord, inheritedFrom, copyFrom, defaultOf, resolveInherit, appendAttribute};
 ghost use Rattle.tree.specs.Lent.{readOf, Readable, Climbable};
-ghost use Rattle.entries.specs.Space.{resolvedOf};
+ghost use Rattle.entries.specs.Space.{resolvedOf, appendedOf};
 
 // The copy of an attribute of the node whose index plus 1 is w; none where w is 0.
 fn copy_from(nodes: &[u32], attributes: &[u32], name: u32, w: u32) -> Resolved
@@ -123,24 +124,21 @@ pub fn append_attribute(
     name: u32,
     important: u32,
     value: Value,
-) -> Resolved
+) -> Appended
     requires { ⌜ Climbable (readOf (now nodes) (now attributes)) (place .parent) ⌝ }
     requires { ⌜ value .start + value .size ≤ length (now characters) ⌝ }
-    ensures { λ r. ⌜ resolvedOf r
+    ensures { λ r. ⌜ appendedOf name important value r
         ≡ appendAttribute (readOf (now (nodes .entry)) (now (attributes .entry))) (place .parent) (place .tag) name important
         (partAt (now (characters .entry)) (value .start) (value .size)) (value .command) ⌝ }
 {
     if is_left_out(place.tag, name) {
-        return Resolved::Dropped;
+        return Appended::Nothing;
     }
-    if is_inherited(characters, name, value) {
-        return resolve_inherit(nodes, attributes, place.parent, name);
+    if !is_inherited(characters, name, value) {
+        return Appended::Itself;
     }
-    Resolved::Kept(Entry {
-        name,
-        important,
-        start: value.start,
-        size: value.size,
-        command: value.command,
-    })
+    match resolve_inherit(nodes, attributes, place.parent, name) {
+        Resolved::Kept(e) => Appended::Other(e),
+        Resolved::Dropped => Appended::Nothing,
+    }
 }

@@ -1,10 +1,11 @@
 // One value of a declaration: what it becomes under one name, and under the three of `marker`.
+use crate::Appended;
 use crate::Place;
-use crate::Resolved;
 use crate::Stored;
 use crate::Value;
 use crate::entry::insert_entry;
 use crate::inherit::append_attribute;
+use crate::own_entry;
 use names::aid;
 ghost use mathlib.Core.List.{[], _∷_};
 ghost use Prim.Native.Nat.{_+_, _≤_};
@@ -31,10 +32,16 @@ pub fn insert_attribute(
         (inserted (now (nodes .entry)) (now (attributes .entry)) (now (characters .entry)) place important value
         (soFar (now (attributes .entry)) place next) name) r (now (attributes .exit)) ⌝ }
 {
-    let kept = append_attribute(nodes, attributes, characters, place, name, important, value);
-    match kept {
-        Resolved::Kept(e) => insert_entry(attributes, place, next, name, e),
-        Resolved::Dropped => Stored::Next(next),
+    match append_attribute(nodes, attributes, characters, place, name, important, value) {
+        Appended::Itself => insert_entry(
+            attributes,
+            place,
+            next,
+            name,
+            own_entry(name, important, value),
+        ),
+        Appended::Other(e) => insert_entry(attributes, place, next, name, e),
+        Appended::Nothing => Stored::Next(next),
     }
 }
 

@@ -1,4 +1,4 @@
-use Rattle.entries.proofs.Adding.{more-kept, more-dropped}
+use Rattle.entries.proofs.Adding.{more-itself, more-other, more-nothing}
 use borrow.Author.Needs.{needs}
 use Rattle.entries.proofs.attribute.append_more.Statement.{statement}
 use Rattle.entries.proofs.attribute.append_more.Tie as tie
@@ -6,41 +6,71 @@ use Rattle.entries.proofs.attribute.append_more.Tie as tie
 append-attribute-requires : tie.Need-append-attribute-requires
 append-attribute-requires c κs = search needs
 
-enum-known-kept : tie.Need-enum-known-kept
-enum-known-kept c = search needs
+enum-told : tie.Need-enum-told
+enum-told c = search needs
+
+own-entry-requires : tie.Need-own-entry-requires
+own-entry-requires c κs = search needs
 
 add-entry-requires : tie.Need-add-entry-requires
 add-entry-requires c κs = search needs
 
-enum-told : tie.Need-enum-told
-enum-told c = search needs
+enum-known-e : tie.Need-enum-known-e
+enum-known-e c = search needs
+
+add-entry-requires-2 : tie.Need-add-entry-requires-2
+add-entry-requires-2 c κs = search needs
+
+enum-told-2 : tie.Need-enum-told-2
+enum-told-2 c = search needs
 
 same-length : tie.Need-same-length
 same-length c = search needs
 
 returns : tie.Need-returns
 returns c =
-    more-kept _ _ _ (c .before .before .before .before .before .before .before .before .before .before .before .before .pre .0) _
-    _ (c .before .before .before .before .before .before .before .append-attribute .ensures) _
-    (c .before .before .before .before .before .kept .given .1) _ _ (c .before .before .add-entry .ensures)
+    more-itself _ _ _ (c .before .before .before .before .before .before .before .before .before .before .before .before .pre .0)
+    (c .before .before .before .before .before .before .before .before .before .before .before .before .args .name) 0
+    (c .before .before .before .before .before .before .before .before .before .before .before .before .args .value) _ _
+    (c .before .before .before .before .before .before .before .append-attribute .ensures)
+    (c .before .before .before .before .before .enum-told .given .1) _ (c .before .before .before .own-entry .ensures) _ _
+    (c .before .before .add-entry .ensures)
 
 same-length-2 : tie.Need-same-length-2
 same-length-2 c = search needs
 
 returns-2 : tie.Need-returns-2
 returns-2 c =
-    more-dropped _ _ _ (c .before .before .before .before .before .before .before .pre .0) _ _
-    (c .before .before .append-attribute .ensures) (c .enum-told .given .1)
+    more-other _ _ _ (c .before .before .before .before .before .before .before .before .before .before .before .before .pre .0)
+    (c .before .before .before .before .before .before .before .before .before .before .before .before .args .name) 0
+    (c .before .before .before .before .before .before .before .before .before .before .before .before .args .value) _ _
+    (c .before .before .before .before .before .before .before .append-attribute .ensures) _
+    (c .before .before .before .before .before .e .given .1) _ _ (c .before .before .add-entry2 .ensures)
+
+same-length-3 : tie.Need-same-length-3
+same-length-3 c = search needs
+
+returns-3 : tie.Need-returns-3
+returns-3 c =
+    more-nothing _ _ _ (c .before .before .before .before .before .before .before .pre .0)
+    (c .before .before .before .before .before .before .before .args .name) 0
+    (c .before .before .before .before .before .before .before .args .value) _ _ (c .before .before .append-attribute .ensures)
+    (c .enum-told2 .given .1)
 
 pub append-more-spec : {M : Type 1} → statement M
 append-more-spec =
     tie.close
     (tie.spec
     append-attribute-requires
-    enum-known-kept
-    add-entry-requires
     enum-told
+    own-entry-requires
+    add-entry-requires
+    enum-known-e
+    add-entry-requires-2
+    enum-told-2
     same-length
     returns
     same-length-2
-    returns-2)
+    returns-2
+    same-length-3
+    returns-3)

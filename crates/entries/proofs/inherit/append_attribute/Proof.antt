@@ -1,6 +1,8 @@
 use mathlib.Core.Path.{refl, sym}
 use Rattle.model.specs.Drawing.{partAt}
 use Rattle.model.specs.Element.{appendAttribute}
+use Rattle.tree.proofs.Bools.{fails, passes}
+use Rattle.entries.proofs.Resolving.{inherits-other, inherits-nothing}
 use borrow.Author.Needs.{needs}
 use Rattle.entries.proofs.inherit.append_attribute.Statement.{statement}
 use Rattle.entries.proofs.inherit.append_attribute.Tie as tie
@@ -15,28 +17,49 @@ returns c = rw (sym (c .before .is-left-out .ensures), c .if1 .taken) refl
 is-inherited-requires : tie.Need-is-inherited-requires
 is-inherited-requires c κs = search needs
 
-resolve-inherit-requires : tie.Need-resolve-inherit-requires
-resolve-inherit-requires c κs = search needs
-
 returns-2 : tie.Need-returns-2
 unfolding appendAttribute partAt
 returns-2 c =
     rw (
-      sym (c .before .before .before .before .is-left-out .ensures),
-      c .before .before .before .if1 .left,
-      sym (c .before .before .is-inherited .ensures),
-      c .before .if2 .taken,
-    ) (c .resolve-inherit .ensures)
+      sym (c .before .before .before .is-left-out .ensures),
+      c .before .before .if1 .left,
+      fails (c .before .is-inherited .ensures) (c .if2 .taken),
+    ) refl
+
+resolve-inherit-requires : tie.Need-resolve-inherit-requires
+resolve-inherit-requires c κs = search needs
+
+enum-known-e : tie.Need-enum-known-e
+enum-known-e c = search needs
+
+enum-told : tie.Need-enum-told
+enum-told c = search needs
 
 returns-3 : tie.Need-returns-3
 unfolding appendAttribute partAt
 returns-3 c =
     rw (
-      sym (c .before .before .before .is-left-out .ensures),
-      c .before .before .if1 .left,
-      sym (c .before .is-inherited .ensures),
-      c .if2 .left,
-    ) refl
+      sym (c .before .before .before .before .before .before .before .is-left-out .ensures),
+      c .before .before .before .before .before .before .if1 .left,
+      passes (c .before .before .before .before .before .is-inherited .ensures) (c .before .before .before .before .if2 .left),
+    )
+    (inherits-other (c .before .before .before .before .before .before .before .before .before .before .before .args .name)
+    (c .before .before .before .before .before .before .before .before .before .before .before .args .important)
+    (c .before .before .before .before .before .before .before .before .before .before .before .args .value) _ _
+    (c .before .before .before .resolve-inherit .ensures) _ (c .before .e .given .1))
+
+returns-4 : tie.Need-returns-4
+unfolding appendAttribute partAt
+returns-4 c =
+    rw (
+      sym (c .before .before .before .before .before .before .is-left-out .ensures),
+      c .before .before .before .before .before .if1 .left,
+      passes (c .before .before .before .before .is-inherited .ensures) (c .before .before .before .if2 .left),
+    )
+    (inherits-nothing (c .before .before .before .before .before .before .before .before .before .before .args .name)
+    (c .before .before .before .before .before .before .before .before .before .before .args .important)
+    (c .before .before .before .before .before .before .before .before .before .before .args .value) _ _
+    (c .before .before .resolve-inherit .ensures) (c .enum-told .given .1))
 
 pub append-attribute-spec : {M : Type 1} → statement M
 append-attribute-spec =
@@ -45,6 +68,9 @@ append-attribute-spec =
     is-left-out-requires
     returns
     is-inherited-requires
-    resolve-inherit-requires
     returns-2
-    returns-3)
+    resolve-inherit-requires
+    enum-known-e
+    enum-told
+    returns-3
+    returns-4)
