@@ -1,7 +1,8 @@
 //! Times of elements with their entries, by the static library of the crate `elements`, beside plain Rust over `Vec`, which does it as the
-//! Rust does (an entry is appended, then swapped with the first of its name and taken off again). Both without check. See bench/run.
-//! No test: it only prints; but both must come to the same entries.
+//! Rust does: an entry is appended, then swapped with the first of its name and taken off again, and a declared value is owned (`Arc`). A
+//! leaner one only borrows the values. All without check. See bench/run. No test: it only prints; but all must come to the same entries.
 use std::collections::HashMap;
+use std::sync::Arc;
 use std::time::Instant;
 
 #[repr(C)]
@@ -73,13 +74,29 @@ impl Names {
 
 // PLAIN RUST
 
-#[derive(Clone, Copy)]
+#[derive(Clone)]
 enum Value<'a> {
     Text(&'a [u8]),
+    Owned(Arc<[u8]>),
     Fixed(u8),
 }
 
-#[derive(Clone, Copy)]
+impl<'a> Value<'a> {
+    fn bytes(&self) -> &[u8] {
+        match self {
+            Value::Text(v) => v,
+            Value::Owned(v) => v,
+            Value::Fixed(_) => b"",
+        }
+    }
+
+    /// A declared value.
+    fn declared(v: &'a [u8], owned: bool) -> Value<'a> {
+        if owned { Value::Owned(Arc::from(v)) } else { Value::Text(v) }
+    }
+}
+
+#[derive(Clone)]
 struct Attribute<'a> {
     name: u8,
     important: bool,
@@ -98,6 +115,7 @@ struct Node {
 }
 
 struct Plain<'a> {
+    owned: bool,
     names: &'a Names,
     codes: [u8; 12],
     nodes: Vec<Node>,
@@ -123,7 +141,7 @@ impl<'a> Plain<'a> {
             let mut node = parent;
             loop {
                 if let Some(a) = self.attribute(node, name) {
-                    break Some(*a);
+                    break Some(a.clone());
                 }
                 if node == 0 {
                     break None;
@@ -131,7 +149,7 @@ impl<'a> Plain<'a> {
                 node = self.nodes[node].parent;
             }
         } else {
-            self.attribute(parent, name).copied()
+            self.attribute(parent, name).cloned()
         };
         let default = self.names.defaults[name as usize];
         match found {
@@ -147,10 +165,8 @@ impl<'a> Plain<'a> {
         if left_out {
             return false;
         }
-        if let Value::Text(v) = a.value {
-            if self.names.inherit[a.name as usize] && v == b"inherit" {
-                return self.resolve_inherit(parent, a.name);
-            }
+        if self.names.inherit[a.name as usize] && a.value.bytes() == b"inherit" {
+            return self.resolve_inherit(parent, a.name);
         }
         self.attributes.push(a);
         true
@@ -175,7 +191,7 @@ impl<'a> Plain<'a> {
             return;
         }
         if a.name == self.codes[IMAGE_RENDERING] {
-            if let Value::Text(b"smooth" | b"high-quality" | b"crisp-edges" | b"pixelated") = a.value {
+            if let b"smooth" | b"high-quality" | b"crisp-edges" | b"pixelated" = a.value.bytes() {
                 return;
             }
         }
@@ -194,28 +210,31 @@ impl<'a> Plain<'a> {
         self.append_attribute(parent, tag, a);
     }
 
-    fn declare(&mut self, start: usize, parent: usize, tag: u8, a: Attribute<'a>, readings: &[(u8, &'a [u8])]) {
-        if a.name == 254 {
+    #[rustfmt::skip]
+    fn declare(&mut self, start: usize, parent: usize, tag: u8, name: u8, important: bool, whole: &'a [u8], command: u32,
+        readings: &[(u8, &'a [u8])]) {
+        let owned = self.owned;
+        let with = |name: u8, v: &'a [u8]| Attribute { name, important, value: Value::declared(v, owned), command };
+        if name == 254 {
             for n in 0..3 {
-                self.insert_attribute(start, parent, tag, Attribute { name: self.codes[6 + n], ..a });
+                self.insert_attribute(start, parent, tag, with(self.codes[6 + n], whole));
             }
-        } else if a.name == self.codes[FONT] {
+        } else if name == self.codes[FONT] {
             let read = |kind: u8| readings.iter().find(|r| r.0 == kind).map(|r| r.1);
             if read(9).is_none() || read(10).is_none() {
                 return;
             }
             let names = self.names;
             for (name, value) in &names.resets {
-                self.insert_attribute(start, parent, tag, Attribute { name: *name, value: Value::Fixed(*value), command: 0, ..a });
+                self.insert_attribute(start, parent, tag, Attribute { name: *name, important, value: Value::Fixed(*value), command: 0 });
             }
             for (kind, name) in (5..=10).zip(PARTS) {
                 if let Some(v) = read(kind) {
-                    let name = names.a(name);
-                    self.insert_attribute(start, parent, tag, Attribute { name, value: Value::Text(v), ..a });
+                    self.insert_attribute(start, parent, tag, with(names.a(name), v));
                 }
             }
-        } else if self.names.presentation[a.name as usize] {
-            self.insert_attribute(start, parent, tag, a);
+        } else if self.names.presentation[name as usize] {
+            self.insert_attribute(start, parent, tag, with(name, whole));
         }
     }
 
@@ -233,13 +252,13 @@ impl<'a> Plain<'a> {
         i
     }
 
-    fn build(names: &'a Names, script: &[u8], characters: &'a [u8]) -> Plain<'a> {
+    fn build(names: &'a Names, script: &[u8], characters: &'a [u8], owned: bool) -> Plain<'a> {
         let code = |n: &str| names.a(n);
         let codes = [
             code("Font"), code("Style"), code("Class"), code("Href"), code("Id"), code("ImageRendering"),
             code(MARKERS[0]), code(MARKERS[1]), code(MARKERS[2]), names.element["Style"], 0, names.element["Tspan"],
         ];
-        let mut t = Plain { names, codes, nodes: vec![], attributes: vec![] };
+        let mut t = Plain { owned, names, codes, nodes: vec![], attributes: vec![] };
         t.nodes.push(Node { parent: 0, tag: 255, from: 0, to: 0, first: 0, last: 0, next: 0 });
         let word = |at: usize| u32::from_le_bytes(script[at..at + 4].try_into().unwrap()) as usize;
         let (mut at, mut chars, mut command, mut node) = (0, 0, 0u32, 0);
@@ -260,8 +279,8 @@ impl<'a> Plain<'a> {
                         let (kind, name, second, len) = (script[at], script[at + 1], script[at + 2], word(at + 3));
                         let whole = &characters[chars..chars + len];
                         at += 7;
-                        let a = Attribute { name, important: kind == 3 && second == 1, value: Value::Text(whole), command };
                         if kind == 2 {
+                            let a = Attribute { name, important: false, value: Value::Text(whole), command };
                             t.add(start, parent, tag, second, a);
                         } else {
                             readings.clear();
@@ -271,7 +290,7 @@ impl<'a> Plain<'a> {
                                 readings.push((script[r + 1], &whole[from..from + size]));
                                 r += 10;
                             }
-                            t.declare(start, parent, tag, a, &readings);
+                            t.declare(start, parent, tag, name, second == 1, whole, command, &readings);
                         }
                         chars += len;
                     }
@@ -342,11 +361,11 @@ fn drawing<'n>(names: &'n Names, depth: usize, element: &dyn Fn(&mut Drawing)) -
     d
 }
 
-/// The least time of each of three calls, in microseconds, in turns.
-fn times(calls: [&mut dyn FnMut(); 3]) -> [f64; 3] {
-    let mut least = [f64::MAX; 3];
-    for _ in 0..60 {
-        for k in 0..3 {
+/// The least time of each of four calls, in microseconds, in turns.
+fn times(calls: [&mut dyn FnMut(); 4]) -> [f64; 4] {
+    let mut least = [f64::MAX; 4];
+    for _ in 0..200 {
+        for k in 0..4 {
             let start = Instant::now();
             calls[k]();
             least[k] = least[k].min(start.elapsed().as_secs_f64() * 1e6);
@@ -362,7 +381,7 @@ fn measure(name: &str, d: &Drawing) {
     let mut check = || unsafe {
         assert_eq!(elements_check(script.as_ptr(), script.len(), characters.as_ptr(), characters.len()), 0);
     };
-    let plain = Plain::build(d.names, script, characters);
+    let plain = Plain::build(d.names, script, characters, true);
     let (records, entries) = (plain.nodes.len(), plain.attributes.len());
     let (node_words, attribute_words) = (8 * records, 5 * entries);
     // SAFETY: the slices are those of the vectors.
@@ -371,15 +390,14 @@ fn measure(name: &str, d: &Drawing) {
             attributes.as_mut_ptr(), attribute_words);
         assert_eq!((b.number, b.nodes as usize, b.attributes as usize), (0, records, entries));
     };
-    let mut rust = || {
-        assert_eq!(Plain::build(d.names, script, characters).attributes.len(), entries);
-    };
-    let [checked, built, plainly] = times([&mut check, &mut library, &mut rust]);
+    let mut rust = || assert_eq!(Plain::build(d.names, script, characters, true).attributes.len(), entries);
+    let mut lean = || assert_eq!(Plain::build(d.names, script, characters, false).attributes.len(), entries);
+    let [checked, built, plainly, leanly] = times([&mut check, &mut library, &mut rust, &mut lean]);
     for (i, a) in plain.attributes.iter().enumerate() {
         let e = &attributes[5 * i..5 * i + 5];
         let value = match a.value {
-            Value::Text(v) => v == &characters[e[2] as usize..][..e[3] as usize],
             Value::Fixed(v) => e[2] == v as u32,
+            _ => a.value.bytes() == &characters[e[2] as usize..][..e[3] as usize],
         };
         assert!(value && (e[0], e[1], e[4]) == (a.name as u32, a.important as u32, a.command), "{name}: entry {i}");
     }
@@ -388,7 +406,7 @@ fn measure(name: &str, d: &Drawing) {
         assert_eq!((r[1] as usize, r[5], r[6] as usize, r[7] as usize), (n.parent + 1, n.tag as u32, n.from, n.to), "{name}: node {i}");
     }
     let own = built - checked;
-    println!("{name:<58}{own:>10.1}{plainly:>10.1}{:>8.2}", own / plainly);
+    println!("{name:<58}{own:>10.1}{plainly:>10.1}{:>8.2}{leanly:>10.1}{:>8.2}", own / plainly, own / leanly);
 }
 
 fn main() {
@@ -399,7 +417,8 @@ fn main() {
     many.retain(|n| !["Style", "Class", "Href", "MixBlendMode", "Isolation", "FontKerning"].contains(n));
     many.truncate(60);
     let ten: Vec<&str> = "Fill Stroke StrokeWidth Opacity FillOpacity Display Color Visibility Overflow ClipRule".split(' ').collect();
-    println!("{:<58}{:>10}{:>10}{:>8}", "elements: microseconds for a drawing of 300 KB, less check", "library", "Rust", "ratio");
+    let title = "elements: microseconds for a drawing of 300 KB, less check";
+    println!("{title:<58}{:>10}{:>10}{:>8}{:>10}{:>8}", "library", "Rust", "ratio", "lean", "ratio");
     measure("6 attributes", &drawing(&names, 1, &|d| common.iter().for_each(|n| d.a(n, "12"))));
     measure("60 attributes", &drawing(&names, 1, &|d| many.iter().for_each(|n| d.a(n, "12"))));
     measure("20 declarations, half of them replace", &drawing(&names, 1, &|d| {

@@ -135,7 +135,15 @@ fn append_more(
         (appendAttribute (readOf (now (nodes .entry)) (now (attributes .entry))) (place .parent) (place .tag) name 0
         (partAt (now (characters .entry)) (value .start) (value .size)) (value .command))) r (now (attributes .exit)) ⌝ }
 {
-    match append_attribute(nodes, attributes, characters, place, name, 0, value) {
+    match append_attribute(
+        nodes,
+        attributes,
+        characters,
+        place,
+        name,
+        value.start,
+        value.size,
+    ) {
         Appended::Itself => add_entry(attributes, place, next, own_entry(name, 0, value)),
         Appended::Other(e) => add_entry(attributes, place, next, e),
         Appended::Nothing => Stored::Next(next),

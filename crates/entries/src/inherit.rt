@@ -2,7 +2,6 @@
 use crate::Appended;
 use crate::Place;
 use crate::Resolved;
-use crate::Value;
 use names::aid;
 use names::allows_inherit_value;
 use names::eid;
@@ -15,7 +14,7 @@ use tree::read::entry_at;
 use tree::read::holder_of;
 ghost use mathlib.Core.Path.{_≡_};
 ghost use mathlib.Core.List.{[]};
-ghost use Prim.Native.Nat.{_+_, _-_, _≤_};
+ghost use Prim.Native.Nat.{ℕ, _+_, _-_, _≤_};
 ghost use lib.Dec.{eqb};
 ghost use lib.ListN.{length};
 ghost use lib.Seq.{slice};
@@ -101,40 +100,39 @@ fn is_left_out(tag: u32, name: u32) -> bool
     name == aid::HREF
 }
 
-// Is the value exactly `inherit`, and the name one that may be inherited?
-fn is_inherited(characters: &[u8], name: u32, value: Value) -> bool
-    requires { ⌜ value .start + value .size ≤ length (now characters) ⌝ }
-    ensures { λ r. ⌜ r ≡ and (allowsInheritValue name)
-        (sameBytes (slice (value .start) (value .start + value .size) (now (characters .entry))) inheritWord) ⌝ }
+// Is the value exactly `inherit`, and the name one that may be inherited? The value decides most often.
+fn is_inherited(characters: &[u8], name: u32, start: u32, size: u32) -> bool
+    requires { ⌜ start + size ≤ length (now characters) ⌝ }
+    ensures { λ r. ⌜ r ≡ and (allowsInheritValue name) (sameBytes (slice start (start + size) (now (characters .entry))) inheritWord) ⌝ }
 {
-    if !allows_inherit_value(name) {
+    let from = start as usize;
+    let to = from + size as usize;
+    if !is_inherit(&characters[from..to]) {
         return false;
     }
-    let from = value.start as usize;
-    let to = from + value.size as usize;
-    is_inherit(&characters[from..to])
+    allows_inherit_value(name)
 }
 
-// `append_attribute`: the entry for a value, if there is to be one.
+// `append_attribute`: the entry for a value, if there is to be one. Importance and command of the value itself do not matter here.
 pub fn append_attribute(
     nodes: &[u32],
     attributes: &[u32],
     characters: &[u8],
     place: Place,
     name: u32,
-    important: u32,
-    value: Value,
+    start: u32,
+    size: u32,
 ) -> Appended
     requires { ⌜ Climbable (readOf (now nodes) (now attributes)) (place .parent) ⌝ }
-    requires { ⌜ value .start + value .size ≤ length (now characters) ⌝ }
-    ensures { λ r. ⌜ appendedOf name important value r
+    requires { ⌜ start + size ≤ length (now characters) ⌝ }
+    ensures { λ r. ⌜ ((important command : ℕ) → appendedOf name important (record { start = start; size = size; command = command }) r
         ≡ appendAttribute (readOf (now (nodes .entry)) (now (attributes .entry))) (place .parent) (place .tag) name important
-        (partAt (now (characters .entry)) (value .start) (value .size)) (value .command) ⌝ }
+        (partAt (now (characters .entry)) start size) command) ⌝ }
 {
     if is_left_out(place.tag, name) {
         return Appended::Nothing;
     }
-    if !is_inherited(characters, name, value) {
+    if !is_inherited(characters, name, start, size) {
         return Appended::Itself;
     }
     match resolve_inherit(nodes, attributes, place.parent, name) {

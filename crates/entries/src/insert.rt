@@ -32,7 +32,15 @@ pub fn insert_attribute(
         (inserted (now (nodes .entry)) (now (attributes .entry)) (now (characters .entry)) place important value
         (soFar (now (attributes .entry)) place next) name) r (now (attributes .exit)) ⌝ }
 {
-    match append_attribute(nodes, attributes, characters, place, name, important, value) {
+    match append_attribute(
+        nodes,
+        attributes,
+        characters,
+        place,
+        name,
+        value.start,
+        value.size,
+    ) {
         Appended::Itself => insert_entry(
             attributes,
             place,

@@ -32,7 +32,7 @@ returns c =
     more-itself _ _ _ (c .before .before .before .before .before .before .before .before .before .before .before .before .pre .0)
     (c .before .before .before .before .before .before .before .before .before .before .before .before .args .name) 0
     (c .before .before .before .before .before .before .before .before .before .before .before .before .args .value) _ _
-    (c .before .before .before .before .before .before .before .append-attribute .ensures)
+    (c .before .before .before .before .before .before .before .append-attribute .ensures _ _)
     (c .before .before .before .before .before .enum-told .given .1) _ (c .before .before .before .own-entry .ensures) _ _
     (c .before .before .add-entry .ensures)
 
@@ -44,7 +44,7 @@ returns-2 c =
     more-other _ _ _ (c .before .before .before .before .before .before .before .before .before .before .before .before .pre .0)
     (c .before .before .before .before .before .before .before .before .before .before .before .before .args .name) 0
     (c .before .before .before .before .before .before .before .before .before .before .before .before .args .value) _ _
-    (c .before .before .before .before .before .before .before .append-attribute .ensures) _
+    (c .before .before .before .before .before .before .before .append-attribute .ensures _ _) _
     (c .before .before .before .before .before .e .given .1) _ _ (c .before .before .add-entry2 .ensures)
 
 same-length-3 : tie.Need-same-length-3
@@ -54,8 +54,8 @@ returns-3 : tie.Need-returns-3
 returns-3 c =
     more-nothing _ _ _ (c .before .before .before .before .before .before .before .pre .0)
     (c .before .before .before .before .before .before .before .args .name) 0
-    (c .before .before .before .before .before .before .before .args .value) _ _ (c .before .before .append-attribute .ensures)
-    (c .enum-told2 .given .1)
+    (c .before .before .before .before .before .before .before .args .value) _ _
+    (c .before .before .append-attribute .ensures _ _) (c .enum-told2 .given .1)
 
 pub append-more-spec : {M : Type 1} → statement M
 append-more-spec =

@@ -12,7 +12,7 @@ is-left-out-requires c κs = search needs
 
 returns : tie.Need-returns
 unfolding appendAttribute
-returns c = rw (sym (c .before .is-left-out .ensures), c .if1 .taken) refl
+returns c = λ i k. rw (sym (c .before .is-left-out .ensures), c .if1 .taken) refl
 
 is-inherited-requires : tie.Need-is-inherited-requires
 is-inherited-requires c κs = search needs
@@ -20,7 +20,7 @@ is-inherited-requires c κs = search needs
 returns-2 : tie.Need-returns-2
 unfolding appendAttribute partAt
 returns-2 c =
-    rw (
+    λ i k. rw (
       sym (c .before .before .before .is-left-out .ensures),
       c .before .before .if1 .left,
       fails (c .before .is-inherited .ensures) (c .if2 .taken),
@@ -38,27 +38,33 @@ enum-told c = search needs
 returns-3 : tie.Need-returns-3
 unfolding appendAttribute partAt
 returns-3 c =
-    rw (
+    λ i k. rw (
       sym (c .before .before .before .before .before .before .before .is-left-out .ensures),
       c .before .before .before .before .before .before .if1 .left,
       passes (c .before .before .before .before .before .is-inherited .ensures) (c .before .before .before .before .if2 .left),
     )
-    (inherits-other (c .before .before .before .before .before .before .before .before .before .before .before .args .name)
-    (c .before .before .before .before .before .before .before .before .before .before .before .args .important)
-    (c .before .before .before .before .before .before .before .before .before .before .before .args .value) _ _
-    (c .before .before .before .resolve-inherit .ensures) _ (c .before .e .given .1))
+    (inherits-other (c .before .before .before .before .before .before .before .before .before .before .before .args .name) i
+    (record {
+      start = c .before .before .before .before .before .before .before .before .before .before .before .args .start;
+      size = c .before .before .before .before .before .before .before .before .before .before .before .args .size;
+      command = k;
+    }) _
+    _ (c .before .before .before .resolve-inherit .ensures) _ (c .before .e .given .1))
 
 returns-4 : tie.Need-returns-4
 unfolding appendAttribute partAt
 returns-4 c =
-    rw (
+    λ i k. rw (
       sym (c .before .before .before .before .before .before .is-left-out .ensures),
       c .before .before .before .before .before .if1 .left,
       passes (c .before .before .before .before .is-inherited .ensures) (c .before .before .before .if2 .left),
     )
-    (inherits-nothing (c .before .before .before .before .before .before .before .before .before .before .args .name)
-    (c .before .before .before .before .before .before .before .before .before .before .args .important)
-    (c .before .before .before .before .before .before .before .before .before .before .args .value) _ _
+    (inherits-nothing (c .before .before .before .before .before .before .before .before .before .before .args .name) i
+    (record {
+      start = c .before .before .before .before .before .before .before .before .before .before .args .start;
+      size = c .before .before .before .before .before .before .before .before .before .before .args .size;
+      command = k;
+    }) _ _
     (c .before .before .resolve-inherit .ensures) (c .enum-told .given .1))
 
 pub append-attribute-spec : {M : Type 1} → statement M

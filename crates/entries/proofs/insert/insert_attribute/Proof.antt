@@ -35,7 +35,7 @@ returns c =
     insert-itself _ _ _
     (c .before .before .before .before .before .before .before .before .before .before .before .before .pre .0) _ _
     (c .before .before .before .before .before .before .before .before .before .before .before .before .args .value) _ _
-    (c .before .before .before .before .before .before .before .append-attribute .ensures)
+    (c .before .before .before .before .before .before .before .append-attribute .ensures _ _)
     (c .before .before .before .before .before .enum-told .given .1) _ (c .before .before .before .own-entry .ensures) _ _
     (c .before .before .insert-entry .ensures)
 
@@ -47,7 +47,7 @@ returns-2 c =
     insert-other _ _ _ (c .before .before .before .before .before .before .before .before .before .before .before .before .pre .0)
     (c .before .before .before .before .before .before .before .before .before .before .before .before .args .name) _
     (c .before .before .before .before .before .before .before .before .before .before .before .before .args .value) _ _
-    (c .before .before .before .before .before .before .before .append-attribute .ensures) _
+    (c .before .before .before .before .before .before .before .append-attribute .ensures _ _) _
     (c .before .before .before .before .before .e .given .1) _ _ (c .before .before .insert-entry2 .ensures)
 
 same-length-3 : tie.Need-same-length-3
@@ -57,8 +57,8 @@ returns-3 : tie.Need-returns-3
 returns-3 c =
     insert-nothing _ _ _ (c .before .before .before .before .before .before .before .pre .0)
     (c .before .before .before .before .before .before .before .args .name) _
-    (c .before .before .before .before .before .before .before .args .value) _ _ (c .before .before .append-attribute .ensures)
-    (c .enum-told2 .given .1)
+    (c .before .before .before .before .before .before .before .args .value) _ _
+    (c .before .before .append-attribute .ensures _ _) (c .enum-told2 .given .1)
 
 pub insert-attribute-spec : {M : Type 1} → statement M
 insert-attribute-spec =
