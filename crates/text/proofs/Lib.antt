@@ -1,1 +1,2 @@
 pub mod Collapse
+pub mod Blankness

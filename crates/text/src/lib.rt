@@ -1,5 +1,6 @@
 // The texts of a text element: their spaces, over the lent tables.
 
+pub mod blank;
 pub mod trim;
 
 // `XmlSpace`
