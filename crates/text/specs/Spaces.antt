@@ -1,5 +1,5 @@
 -- The spaces of a text: what trim_text answers, and sources one after another.
-use Prim.Native.Nat.{ℕ, _+_}
+use Prim.Native.Nat.{ℕ, _+_, _-_}
 use mathlib.Core.Bool.{Bool}
 use mathlib.Core.List.{List, [], _∷_, _++_}
 use lib.Dec.{eqb}
@@ -7,8 +7,9 @@ use lib.ListN.{length}
 use lib.Seq.{slice}
 use Rattle.model.specs.Base.{and}
 use Rattle.model.specs.Drawing.{Source}
+use Rattle.model.specs.Tables.{Tree, parentOf}
 use Rattle.model.specs.Text as M
-use Rattle.model.specs.Text.{SPACE, converted, trimTextAfter}
+use Rattle.model.specs.Text.{SPACE, getXmlspace, converted, trimTextAfter}
 use Rattle.text.specs.declared.XmlSpace.{XmlSpace}
 use Rattle.text.specs.declared.XmlSpace.the-variants.{Default, Preserve}
 use Rattle.text.specs.declared.Trimmed.{Trimmed}
@@ -17,6 +18,10 @@ use Rattle.text.specs.declared.Trimmed.{Trimmed}
 abbrev pub spaceIn : XmlSpace → M.XmlSpace
 spaceIn Default = M.default
 spaceIn Preserve = M.preserve
+
+-- The space that the parent of node i says, else w.
+abbrev pub spaceAt : List ℕ → Tree → M.XmlSpace → ℕ → M.XmlSpace
+spaceAt chars t w i = getXmlspace chars t (parentOf t i - 1) w
 
 -- Is a converted byte dropped behind the byte prev?
 abbrev pub isDropped : Bool → ℕ → ℕ → Bool

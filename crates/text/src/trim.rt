@@ -1,24 +1,13 @@
 // `trim_text`: the spaces of one text node, which is made from one source or, by a tref, from several.
 use crate::Trimmed;
 use crate::XmlSpace;
+use crate::space::is_default;
 ghost use mathlib.Core.Path.{_≡_};
 ghost use Prim.Native.Nat.{_+_, _≤_};
 ghost use lib.ListN.{length};
 ghost use lib.Seq.{sets};
-ghost use lib.Dec.{eqb};
-ghost use Rattle.model.specs.Base.{and};
-ghost use Rattle.model.specs.Text.{isDefault, converted, trimTextAfter};
+ghost use Rattle.model.specs.Text.{converted, trimTextAfter};
 ghost use Rattle.text.specs.Spaces.{spaceIn, trimmed, isDropped};
-
-// Is it Default?
-pub fn is_default(space: XmlSpace) -> bool
-    ensures { λ r. ⌜ r ≡ isDefault (spaceIn space) ⌝ }
-{
-    match space {
-        XmlSpace::Default => true,
-        XmlSpace::Preserve => false,
-    }
-}
 
 // Carriage return, newline and tab become a space.
 fn converted(b: u8) -> u8
