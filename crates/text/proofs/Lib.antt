@@ -1,2 +1,3 @@
 pub mod Collapse
 pub mod Blankness
+pub mod Edges

@@ -1,6 +1,7 @@
 // The texts of a text element: their spaces, over the lent tables.
 
 pub mod blank;
+pub mod edge;
 pub mod space;
 pub mod trim;
 
