@@ -1,3 +1,4 @@
 pub mod Collapse
 pub mod Blankness
-pub mod Edges
+pub mod Looking
+pub mod Steps

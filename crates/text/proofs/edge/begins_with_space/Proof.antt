@@ -1,4 +1,4 @@
-use Rattle.text.proofs.Edges.{text-begins-not, text-begins}
+use Rattle.text.proofs.Looking.{text-begins-not, text-begins}
 use borrow.Author.Needs.{needs}
 use Rattle.text.proofs.edge.begins_with_space.Statement.{statement}
 use Rattle.text.proofs.edge.begins_with_space.Tie as tie

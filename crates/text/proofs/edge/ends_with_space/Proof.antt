@@ -1,4 +1,4 @@
-use Rattle.text.proofs.Edges.{text-ends-not, text-ends}
+use Rattle.text.proofs.Looking.{text-ends-not, text-ends}
 use borrow.Author.Needs.{needs}
 use Rattle.text.proofs.edge.ends_with_space.Statement.{statement}
 use Rattle.text.proofs.edge.ends_with_space.Tie as tie

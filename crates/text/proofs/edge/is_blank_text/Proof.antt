@@ -1,6 +1,6 @@
 use mathlib.Core.Path.{_∙_, ap}
 use Rattle.model.specs.Utf8.{isBlank}
-use Rattle.text.proofs.Edges.{text-part}
+use Rattle.text.proofs.Looking.{text-part}
 use borrow.Author.Needs.{needs}
 use Rattle.text.proofs.edge.is_blank_text.Statement.{statement}
 use Rattle.text.proofs.edge.is_blank_text.Tie as tie

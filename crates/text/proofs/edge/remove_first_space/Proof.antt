@@ -1,5 +1,5 @@
 use native.Mathlib.Omega.{arith}
-use Rattle.text.proofs.Edges.{first-cut}
+use Rattle.text.proofs.Looking.{first-cut}
 use borrow.Author.Needs.{needs}
 use Rattle.text.proofs.edge.remove_first_space.Statement.{statement}
 use Rattle.text.proofs.edge.remove_first_space.Tie as tie

@@ -1,5 +1,5 @@
 use native.Mathlib.Omega.{arith}
-use Rattle.text.proofs.Edges.{last-cut}
+use Rattle.text.proofs.Looking.{last-cut}
 use borrow.Author.Needs.{needs}
 use Rattle.text.proofs.edge.remove_last_space.Statement.{statement}
 use Rattle.text.proofs.edge.remove_last_space.Tie as tie
