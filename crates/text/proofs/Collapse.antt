@@ -13,7 +13,7 @@ use Rattle.model.specs.Base.{pick, and}
 use Rattle.model.specs.Drawing.{Source}
 use Rattle.model.specs.Text.{XmlSpace, default, preserve, SPACE, isDefault, converted, trimTextAfter, trimText, joined}
 use Rattle.text.specs.declared.Trimmed.{Trimmed}
-use Rattle.text.specs.Spaces.{isDropped, lastAfter, trimmed, trimEach}
+use Rattle.text.specs.Spaces.{spaceBy, isDropped, lastAfter, trimmed, trimEach}
 
 -- ONE PART AFTER ANOTHER
 
@@ -80,16 +80,11 @@ sets-more (x ∷ xs) l n c =
     let e : suc n + length xs ≡ n + suc (length xs) = omega arith in
     sets-more xs (set l n x) (suc n) c ∙ ap (λ k. set (sets (set l n x) (suc n) xs) k c) e
 
--- The space by whether it is Default.
-abbrev pub spaceBy : Bool → XmlSpace
-spaceBy true = default
-spaceBy false = preserve
-
 default-by : (b : Bool) → isDefault (spaceBy b) ≡ b
 default-by true = refl
 default-by false = refl
 
-by-default : (w : XmlSpace) → spaceBy (isDefault w) ≡ w
+pub by-default : (w : XmlSpace) → spaceBy (isDefault w) ≡ w
 by-default default = refl
 by-default preserve = refl
 

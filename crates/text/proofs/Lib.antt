@@ -2,3 +2,4 @@ pub mod Collapse
 pub mod Blankness
 pub mod Looking
 pub mod Steps
+pub mod Depths

@@ -1,2 +1,3 @@
 pub mod Spaces
 pub mod Pairs
+pub mod Nodes

@@ -1,6 +1,6 @@
 -- The spaces of a text: what trim_text answers, and sources one after another.
 use Prim.Native.Nat.{ℕ, _+_, _-_}
-use mathlib.Core.Bool.{Bool}
+use mathlib.Core.Bool.{Bool, true, false}
 use mathlib.Core.List.{List, [], _∷_, _++_}
 use lib.Dec.{eqb}
 use lib.ListN.{length}
@@ -18,6 +18,11 @@ use Rattle.text.specs.declared.Trimmed.{Trimmed}
 abbrev pub spaceIn : XmlSpace → M.XmlSpace
 spaceIn Default = M.default
 spaceIn Preserve = M.preserve
+
+-- The space by whether it is Default.
+abbrev pub spaceBy : Bool → M.XmlSpace
+spaceBy true = M.default
+spaceBy false = M.preserve
 
 -- The space that the parent of node i says, else w.
 abbrev pub spaceAt : List ℕ → Tree → M.XmlSpace → ℕ → M.XmlSpace

@@ -1,6 +1,7 @@
 // The texts of a text element: their spaces, over the lent tables.
 
 pub mod blank;
+pub mod depth;
 pub mod edge;
 pub mod space;
 pub mod step;
@@ -37,4 +38,14 @@ pub struct Edges {
     pub c2: bool,
     pub c3: bool,
     pub c4: bool,
+}
+
+// A turn of `trim_text_nodes`: two text nodes, one behind the other; the last text before that was not blank, its index plus 1, 0 for none;
+// and whether it is the first turn and the last one.
+pub struct Turn {
+    pub a: u32,
+    pub b: u32,
+    pub kept: u32,
+    pub first: bool,
+    pub last: bool,
 }

@@ -12,7 +12,7 @@ ghost use lib.ListN.{length};
 ghost use Rattle.model.specs.Tables.{parentOf};
 ghost use Rattle.model.specs.Text.{getXmlspace, spaceOf, isDefault};
 ghost use Rattle.tree.specs.Lent.{readOf, ReadableIn, Climbable};
-ghost use Rattle.text.specs.Spaces.{spaceIn, spaceAt};
+ghost use Rattle.text.specs.Spaces.{spaceIn, spaceBy, spaceAt};
 
 // Is it Default?
 pub fn is_default(space: XmlSpace) -> bool
@@ -59,21 +59,31 @@ pub fn space_of(nodes: &[u32], attributes: &[u32], characters: &[u8], i: u32) ->
     get_xmlspace(nodes, attributes, characters, w - 1, XmlSpace::Default)
 }
 
-// Is the space Default that the parent of node i says, or `space` where it says none?
+// The space by whether it is Default.
+fn space_by(default: bool) -> XmlSpace
+    ensures { λ r. ⌜ spaceIn r ≡ spaceBy default ⌝ }
+{
+    if default {
+        return XmlSpace::Default;
+    }
+    XmlSpace::Preserve
+}
+
+// Is the space Default that the parent of node i says? Where it says none, the text element's is asked.
 pub fn is_default_at(
     nodes: &[u32],
     attributes: &[u32],
     characters: &[u8],
     i: u32,
-    space: XmlSpace,
+    default: bool,
 ) -> bool
     requires { ⌜ 8 * i + 7 < length (now nodes) ⌝ }
     requires { ⌜ 0 < parentOf (readOf (now nodes) (now attributes)) i ⌝ }
     requires { ⌜ ReadableIn (length (now characters)) (readOf (now nodes) (now attributes))
         (parentOf (readOf (now nodes) (now attributes)) i - 1) ⌝ }
     ensures { λ r. ⌜ r
-        ≡ isDefault (spaceAt (now (characters .entry)) (readOf (now (nodes .entry)) (now (attributes .entry))) (spaceIn space) i) ⌝ }
+        ≡ isDefault (spaceAt (now (characters .entry)) (readOf (now (nodes .entry)) (now (attributes .entry))) (spaceBy default) i) ⌝ }
 {
     let parent = node_word(nodes, i, word::PARENT);
-    is_default(get_xmlspace(nodes, attributes, characters, parent - 1, space))
+    is_default(get_xmlspace(nodes, attributes, characters, parent - 1, space_by(default)))
 }
