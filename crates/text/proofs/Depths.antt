@@ -133,7 +133,8 @@ module _ (ns : List ℕ) (e n : ℕ) (b : Below ns e n) where
       where
         go : Dec (u < v) → ltb u v ≡ ltb (under ns e x₀) (under ns e y₀)
         go (yes h) = lt-ltb u v h ∙ sym (lt-ltb (under ns e x₀) (under ns e y₀) (omega (arith, z .up1, z .up2, ap (under ns e) q)))
-        go (no h) = le-ltb u v (omega arith) ∙ sym (le-ltb (under ns e x₀) (under ns e y₀) (omega (arith, z .up1, z .up2, ap (under ns e) q)))
+        go (no h) = le-ltb u v (omega arith) ∙ sym (le-ltb (under ns e x₀) (under ns e y₀)
+            (omega (arith, z .up1, z .up2, ap (under ns e) q)))
 
 pub deeper-met : (ns : List ℕ) (e n : ℕ) (b : Below ns e n) (i j : ℕ) → e < i → i < n → e < j → j < n → (x₀ y₀ x y u v : ℕ) →
     x₀ ≡ word ns i 1 → y₀ ≡ word ns j 1 → Level ns e n x₀ y₀ x y u v → x ≡ y →

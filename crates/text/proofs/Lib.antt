@@ -3,3 +3,8 @@ pub mod Blankness
 pub mod Looking
 pub mod Steps
 pub mod Depths
+pub mod Programs
+pub mod Collected
+pub mod Turning
+pub mod Pairing
+pub mod Entire

@@ -14,7 +14,8 @@ use Rattle.model.specs.Tables.{Tree, word, setWord, fromOf, toOf, textOf, setTe
 use Rattle.model.specs.Text.{beginsWithSpace, endsWithSpace, isEmpty, cutFrom, cutTo, cutText}
 use Rattle.text.specs.declared.Pair.{Pair}
 use Rattle.text.specs.declared.Edges.{Edges}
-use Rattle.text.specs.Pairs.{Ordered, Ranged, Filled, sizeOf, cutIf, afterSingle, edgesOf, afterBetween, afterOuter, afterLast, afterPair}
+use Rattle.text.specs.Pairs.{Ordered, Ranged, Filled, sizeOf, cutIf, afterSingle, edgesOf, afterBetween}
+use Rattle.text.specs.Pairs.{afterOuter, afterLast, afterPair}
 use Rattle.text.proofs.Looking.{begins-filled, ends-filled, empty-is, size-is}
 
 -- ONE CUT
@@ -130,6 +131,9 @@ both-between p c t h = keep-between (Both p) p (both-first p 1 0) (both-first p 
 pub both-outer : (p : Pair) (c : Edges) (t : Tree) → Both p t → Both p (afterOuter p c t)
 both-outer p c t h = keep-outer (Both p) p (both-first p 1 0) (both-first p 0 1) (both-second p 1 0) (both-second p 0 1) c t h
 
+pub both-pair : (p : Pair) (t : Tree) → Both p t → Both p (afterPair p t)
+both-pair p t h = keep-pair (Both p) p (both-first p 1 0) (both-first p 0 1) (both-second p 1 0) (both-second p 0 1) t h
+
 -- A SINGLE TEXT
 
 pub size-filled : (t : Tree) (i : ℕ) → Ranged t i → (sizeOf (t .nodes) i ≡ 0 → ⊥) → Filled t i
@@ -191,7 +195,7 @@ module _ (t : Tree) (p : Pair) (c : Edges) (h : Both p t) where
   unfolding afterOuter
   outer-is = rw (empty-is t (p .node1) (h .0), empty-is t (p .node2) (h .1)) refl
 
-  pub last-is : afterLast p c t ≡
-      cutIf (and (and (p .last) (c .c2)) (and (eqb (sizeOf (t .nodes) (p .node2)) 0) (endsWithSpace (textOf t (p .node1))))) (p .node1) 0 1 t
+  pub last-is : afterLast p c t ≡ cutIf
+      (and (and (p .last) (c .c2)) (and (eqb (sizeOf (t .nodes) (p .node2)) 0) (endsWithSpace (textOf t (p .node1))))) (p .node1) 0 1 t
   unfolding afterLast
   last-is = rw (empty-is t (p .node2) (h .1)) refl

@@ -33,6 +33,10 @@ pub record Fair (size : ℕ) (ns es bs : List ℕ) (e n : ℕ) : Type 0 where
 abbrev pub IsTextOf : List ℕ → ℕ → ℕ → ℕ → Type 0
 IsTextOf ns e n i = (e < i) × ((i < n) × (word ns i 0 ≡ TEXT))
 
+-- Text node i, as `collect_text_nodes` has it.
+abbrev pub nodeAt : List ℕ → Tree → M.XmlSpace → ℕ → ℕ → TextNode
+nodeAt chars t w e i = record { node = i; depth = depthBelow t e i i; space = spaceAt chars t w i }
+
 -- The first text node among the n nodes from i on; i + n where there is none.
 unfoldable pub nextText : List ℕ → ℕ → ℕ → ℕ
 nextText ns i zero = i

@@ -3,6 +3,7 @@
 pub mod blank;
 pub mod depth;
 pub mod edge;
+pub mod nodes;
 pub mod space;
 pub mod step;
 pub mod trim;
