@@ -160,7 +160,8 @@ module _ (chars ns es bs : List ℕ) (c : Counts) (e : ℕ) (h : Trimmable chars
               let here = texts-here chars (readOf ns es) (spaceBy d) e second (c .nodes) l (two .text l) in
               left ns′ bs′ _
               (paired ∙ ap (λ (m : List TextNode). nodeAt chars (readOf ns es) (spaceBy d) e first ∷ m) here)
-              (q ∙ ap (λ (m : List TextNode). run (pairs true none (nodeAt chars (readOf ns es) (spaceBy d) e first) m) (textsOf ns bs)) here)
+              (q ∙ ap
+              (λ (m : List TextNode). run (pairs true none (nodeAt chars (readOf ns es) (spaceBy d) e first) m) (textsOf ns bs)) here)
 
           -- There is a single one.
           alone : c .nodes ≤ second → list (e + 1) ≡ nodeAt chars (readOf ns es) (spaceBy d) e first ∷ []

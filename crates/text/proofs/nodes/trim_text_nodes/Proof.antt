@@ -3,8 +3,8 @@ use native.Mathlib.Omega.{arith}
 use borrow.Author.Tests.{not-true, not-false}
 use Rattle.model.specs.Text.{isDefault}
 use Rattle.text.proofs.Collected.{fair-ranged}
-use Rattle.text.proofs.Entire.{element-climbs, element-reads, all-fair, none-left, first-most, first-text, second-behind, second-text}
-use Rattle.text.proofs.Entire.{pairs-left, single-preserved, single-left}
+use Rattle.text.proofs.Entire.{element-climbs, element-reads, all-fair, none-left, first-most, first-text}
+use Rattle.text.proofs.Entire.{second-behind, second-text, pairs-left, single-preserved, single-left}
 use borrow.Author.Needs.{needs}
 use Rattle.text.proofs.nodes.trim_text_nodes.Statement.{statement}
 use Rattle.text.proofs.nodes.trim_text_nodes.Tie as tie
