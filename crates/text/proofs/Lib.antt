@@ -8,3 +8,4 @@ pub mod Collected
 pub mod Turning
 pub mod Pairing
 pub mod Entire
+pub mod Appending

@@ -1,5 +1,6 @@
 // The texts of a text element: their spaces, over the lent tables.
 
+pub mod append;
 pub mod blank;
 pub mod depth;
 pub mod edge;
@@ -49,4 +50,11 @@ pub struct Turn {
     pub kept: u32,
     pub first: bool,
     pub last: bool,
+}
+
+// A text of the script: its number, and its place in the characters.
+pub struct Source {
+    pub number: u32,
+    pub start: u32,
+    pub size: u32,
 }
