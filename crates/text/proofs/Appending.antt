@@ -5,10 +5,9 @@ use mathlib.Core.Bool.{true}
 use mathlib.Core.List.{List, [], _∷_, _++_, append-nil, append-assoc}
 use native.Mathlib.Omega.{arith}
 use borrow.Author.Tests.{le-leb, lt-leb, lt-ltb, le-ltb}
-use lib.Dec.{leb, ltb}
+use lib.Dec.{leb}
 use lib.ListN.{length, take, drop, length-take, length-drop, take-append-drop}
 use lib.Seq.{sets, slice, sets-eq, drop-append-le, drop-drop}
-use Rattle.model.specs.Base.{pick}
 use Rattle.model.specs.Drawing as model
 use Rattle.model.specs.Tables.{Tree, Out, refused, done, most, nodeRoom, textRoom, word, appended, addText}
 use Rattle.model.specs.Text.{XmlSpace, spaceOf, trimText, trimTextAfter, totalSize, joined, appendText}

@@ -1,27 +1,27 @@
 -- The text nodes of an element, found one after another, and what trimming leaves of the nodes. Assumes nothing.
-use Prim.Native.Nat.{ℕ, zero, suc, _+_, _-_, _*_, _≤_, _<_}
+use Prim.Native.Nat.{ℕ, zero, suc, _+_, _-_, _≤_, _<_}
 use mathlib.Core.Path.{_≡_, refl, sym, ap, _∙_}
 use mathlib.Core.Bool.{Bool, true, false}
 use mathlib.Core.List.{List, [], _∷_}
 use native.Mathlib.Omega.{arith}
 use native.Mathlib.Decide.{ℕ-discrete}
-use borrow.Author.Tests.{eq-eqb, ne-eqb, eqb-true, eqb-false}
+use borrow.Author.Tests.{eq-eqb, ne-eqb, eqb-true}
 use lib.Dec.{eqb}
 use lib.ListN.{length}
 use Rattle.model.specs.Base.{pick}
 use Rattle.model.specs.AId
 use Rattle.model.specs.Utf8.{isBlank}
 use Rattle.model.specs.Tables.{Tree, ELEMENT, TEXT, word, kindOf, entryAt, findEntry, attributeId, valueAtEntry, textOf}
-use Rattle.model.specs.Text.{XmlSpace, default, preserve, preserveWord, TextNode, isDefault, isNil, getXmlspace, depthBelow, textNodes}
+use Rattle.model.specs.Text.{XmlSpace, default, preserve, preserveWord, isNil, getXmlspace, textNodes}
 use Rattle.model.specs.Text.{cutText}
 use Rattle.model.specs.Base.{sameBytes}
-use Rattle.tree.specs.Lent.{readOf, textsOf, ReadableIn, Readable}
+use Rattle.tree.specs.Lent.{readOf, textsOf}
 use Rattle.tree.proofs.Alike.{find-same}
 use Rattle.text.specs.declared.Pair.{Pair}
 use Rattle.text.specs.declared.Turn.{Turn}
 use Rattle.text.specs.Spaces.{spaceAt}
-use Rattle.text.specs.Pairs.{Ordered, Ranged, afterPair}
-use Rattle.text.specs.Nodes.{Below, Fair, IsTextOf, nodeAt, nextText, standsBy, pairOf, keptBehind}
+use Rattle.text.specs.Pairs.{Ranged, afterPair}
+use Rattle.text.specs.Nodes.{Fair, nodeAt, nextText, standsBy, pairOf, keptBehind}
 use Rattle.text.proofs.Depths.{depth-same}
 use Rattle.text.proofs.Steps.{cut-words, cut-long, cut-text-long, ranged-cut, keep-pair}
 use Rattle.text.proofs.Programs.{pairAt}

@@ -5,7 +5,7 @@ use mathlib.Core.Bool.{Bool, true, false}
 use mathlib.Core.List.{List}
 use native.Mathlib.Omega.{arith}
 use native.Mathlib.Decide.{decLt}
-use borrow.Author.Tests.{eq-eqb, ne-eqb, eqb-true, eqb-false, lt-ltb, le-ltb}
+use borrow.Author.Tests.{ne-eqb, eqb-false, lt-ltb, le-ltb}
 use lib.Dec.{eqb, ltb}
 use Rattle.model.specs.Base.{pick}
 use Rattle.model.specs.Tables.{Tree, word, parentOf}

@@ -1,5 +1,5 @@
 -- `trim_text_nodes` whole: which program it is, and what it leaves. Assumes nothing.
-use Prim.Native.Nat.{ℕ, zero, suc, _+_, _-_, _*_, _≤_, _<_}
+use Prim.Native.Nat.{ℕ, zero, suc, _+_, _-_, _≤_, _<_}
 use mathlib.Core.Path.{_≡_, refl, sym, ap, _∙_}
 use mathlib.Core.Bool.{Bool, true, false}
 use mathlib.Core.List.{List, [], _∷_}
@@ -9,16 +9,16 @@ use lib.Dec.{eqb}
 use lib.ListN.{length}
 use Rattle.model.specs.Base.{pick, sameBytes}
 use Rattle.model.specs.AId
-use Rattle.model.specs.Tables.{Tree, TEXT, word, kindOf, parentOf, entryAt, valueAtEntry, holderOf}
-use Rattle.model.specs.Text.{XmlSpace, default, preserve, preserveWord, TextNode, isDefault, getXmlspace, spaceOf, depthBelow, textNodes}
-use Rattle.model.specs.Text.{ownTextNodes, single, pairs, trimming, run, trimTextNodes}
+use Rattle.model.specs.Tables.{Tree, TEXT, kindOf, parentOf, entryAt, valueAtEntry, holderOf}
+use Rattle.model.specs.Text.{XmlSpace, default, preserve, preserveWord, TextNode, isDefault, getXmlspace, spaceOf, textNodes}
+use Rattle.model.specs.Text.{ownTextNodes, pairs, trimming, run, trimTextNodes}
 use Rattle.tree.specs.Lent.{readOf, treeOf, textsOf, ReadableIn, Climbable}
 use Rattle.tree.specs.declared.Counts.{Counts}
 use Rattle.tree.proofs.Alike.{id-same, holder-same}
 use Rattle.tree.proofs.Facts.{readable-in, climbable}
 use Rattle.text.specs.Spaces.{spaceBy}
 use Rattle.text.specs.Pairs.{afterSingle}
-use Rattle.text.specs.Nodes.{Below, Fair, IsTextOf, nodeAt, nextText, Trimmable}
+use Rattle.text.specs.Nodes.{Fair, IsTextOf, nodeAt, nextText, Trimmable}
 use Rattle.text.proofs.Collapse.{by-default}
 use Rattle.text.proofs.Depths.{depth-same}
 use Rattle.text.proofs.Programs.{run-lent, run-single}

@@ -1,20 +1,18 @@
 -- The edges of a text, and what is left of it when a byte is given up. Assumes nothing.
-use Prim.Native.Nat.{ℕ, zero, suc, _+_, _-_, _*_, _≤_, _<_, min, max}
+use Prim.Native.Nat.{ℕ, _+_, _-_, _≤_, _<_, min, max}
 use mathlib.Core.Path.{_≡_, refl, sym, ap, _∙_}
-use mathlib.Core.Logic.{_⊎_, inl, inr}
-use mathlib.Core.Bool.{Bool, true, false}
+use mathlib.Core.Bool.{true, false}
 use mathlib.Core.List.{List, [], _∷_}
 use native.Mathlib.Omega.{arith}
-use native.Mathlib.Decide.{ℕ-discrete}
 use borrow.Author.Tests.{eq-eqb, ne-eqb}
 use lib.Dec.{eqb}
-use lib.ListN.{length, getD, set, take, drop, replicate, length-set}
-use lib.Seq.{slice, sets, slice-cons, length-slice, length-sets, getD-take, getD-drop, getD-set-same, getD-set-other}
-use Rattle.model.specs.Tables.{Tree, word, setWord, fromOf, toOf, textOf, setText}
+use lib.ListN.{length, getD, take, drop}
+use lib.Seq.{slice, slice-cons, length-slice, getD-take, getD-drop}
+use Rattle.model.specs.Tables.{Tree, word, fromOf, toOf, textOf, setText}
 use Rattle.model.specs.Text.{SPACE, beginsWithSpace, endsWithSpace, isEmpty, cutText}
 use Rattle.tree.specs.Lent.{textsOf}
 use Rattle.tree.proofs.Entries.{part-slice}
-use Rattle.text.specs.Pairs.{Ordered, Ranged, Filled, sizeOf}
+use Rattle.text.specs.Pairs.{Ranged, Filled, sizeOf}
 
 -- LOOKING
 

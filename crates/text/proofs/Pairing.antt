@@ -1,8 +1,8 @@
 -- The loop over the pairs. Assumes nothing.
-use Prim.Native.Nat.{ℕ, zero, suc, _+_, _-_, _*_, _≤_, _<_}
+use Prim.Native.Nat.{ℕ, zero, suc, _+_, _-_, _≤_, _<_}
 use mathlib.Core.Path.{_≡_, refl, sym, ap, _∙_}
 use mathlib.Core.Bool.{Bool, true, false}
-use mathlib.Core.List.{List, [], _∷_}
+use mathlib.Core.List.{List, _∷_}
 use mathlib.Core.Option.{none}
 use native.Mathlib.Omega.{arith}
 use borrow.Author.Tests.{eq-eqb, ne-eqb}
@@ -18,7 +18,7 @@ use Rattle.text.specs.declared.Turn.{Turn}
 use Rattle.text.specs.Pairs.{afterPair}
 use Rattle.text.specs.Nodes.{Fair, IsTextOf, nodeAt, nextText, standsBy, pairOf, keptBehind}
 use Rattle.text.proofs.Programs.{keptNode, pairAt, pairs-turn}
-use Rattle.text.proofs.Collected.{Steady, steady-none, Held, held-pair, NextIn, next-in, texts-next, texts-here, texts-none}
+use Rattle.text.proofs.Collected.{steady-none, Held, held-pair, NextIn, next-in, texts-next, texts-here, texts-none}
 use Rattle.text.proofs.Collected.{texts-nil, pair-steady, fair-ranged, long-pair}
 use Rattle.text.proofs.Turning.{stands-text}
 

@@ -1,22 +1,21 @@
 -- The steps of a trimming: what each asks of the bounds, and what it leaves. Assumes nothing.
-use Prim.Native.Nat.{ℕ, _+_, _-_, _*_, _≤_, _<_, min, max}
+use Prim.Native.Nat.{ℕ, _+_, _-_, _*_, _<_}
 use mathlib.Core.Path.{_≡_, refl, sym, ap, _∙_}
 use mathlib.Core.Bool.{Bool, true, false, not}
-use mathlib.Core.List.{List}
 use native.Mathlib.Omega.{arith}
 use native.Mathlib.Decide.{ℕ-discrete}
-use borrow.Author.Tests.{eq-eqb, ne-eqb, eqb-false}
+use borrow.Author.Tests.{eq-eqb}
 use lib.Dec.{eqb}
-use lib.ListN.{length, set, replicate, length-set}
-use lib.Seq.{sets, length-sets, getD-set-same, getD-set-other}
+use lib.ListN.{length, set, length-set}
+use lib.Seq.{length-sets, getD-set-same, getD-set-other}
 use Rattle.model.specs.Base.{pick, and}
-use Rattle.model.specs.Tables.{Tree, word, setWord, fromOf, toOf, textOf, setText}
+use Rattle.model.specs.Tables.{Tree, word, fromOf, toOf, textOf, setText}
 use Rattle.model.specs.Text.{beginsWithSpace, endsWithSpace, isEmpty, cutFrom, cutTo, cutText}
 use Rattle.text.specs.declared.Pair.{Pair}
 use Rattle.text.specs.declared.Edges.{Edges}
-use Rattle.text.specs.Pairs.{Ordered, Ranged, Filled, sizeOf, cutIf, afterSingle, edgesOf, afterBetween}
+use Rattle.text.specs.Pairs.{Ranged, Filled, sizeOf, cutIf, afterSingle, edgesOf, afterBetween}
 use Rattle.text.specs.Pairs.{afterOuter, afterLast, afterPair}
-use Rattle.text.proofs.Looking.{begins-filled, ends-filled, empty-is, size-is}
+use Rattle.text.proofs.Looking.{begins-filled, ends-filled, empty-is}
 
 -- ONE CUT
 

@@ -1,6 +1,6 @@
 -- One turn: what its calls ask, and what it leaves. Assumes nothing.
-use Prim.Native.Nat.{ℕ, _+_, _-_, _*_, _≤_, _<_}
-use mathlib.Core.Path.{_≡_, refl, sym, ap, _∙_}
+use Prim.Native.Nat.{ℕ, _+_, _-_, _*_, _<_}
+use mathlib.Core.Path.{_≡_, refl, ap, _∙_}
 use mathlib.Core.Bool.{Bool, true, false}
 use mathlib.Core.List.{List}
 use native.Mathlib.Omega.{arith}
@@ -14,7 +14,7 @@ use Rattle.tree.specs.Lent.{readOf, nodesRead, textsOf, ReadableIn}
 use Rattle.text.specs.declared.Pair.{Pair}
 use Rattle.text.specs.declared.Turn.{Turn}
 use Rattle.text.specs.Spaces.{spaceAt}
-use Rattle.text.specs.Pairs.{Ordered, Ranged, sizeOf, afterPair}
+use Rattle.text.specs.Pairs.{Ranged, sizeOf, afterPair}
 use Rattle.text.specs.Nodes.{Fair, IsTextOf, standsBy, pairOf, keptBehind}
 use Rattle.text.proofs.Depths.{depth-same}
 use Rattle.text.proofs.Steps.{both-pair}

@@ -1,6 +1,5 @@
 -- The text nodes of a text element in the lent tables.
 use Prim.Native.Nat.{ℕ, zero, suc, _+_, _-_, _*_, _≤_, _<_}
-use mathlib.Core.Bool.{Bool}
 use mathlib.Core.List.{List}
 use mathlib.Core.Path.{_≡_}
 use lib.Dec.{eqb, ltb}
@@ -11,7 +10,7 @@ use Rattle.model.specs.Tables.{Tree, TEXT, word, textOf, parentOf}
 use Rattle.model.specs.Text as M
 use Rattle.model.specs.Text.{TextNode, isDefault, depthBelow}
 use Rattle.model.specs.Theorems.Kept.{Kept}
-use Rattle.tree.specs.Lent.{readOf, textsOf, ReadableIn}
+use Rattle.tree.specs.Lent.{readOf, ReadableIn}
 use Rattle.text.specs.declared.Pair.{Pair}
 use Rattle.text.specs.declared.Turn.{Turn}
 use Rattle.text.specs.Spaces.{spaceAt}

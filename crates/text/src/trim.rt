@@ -38,7 +38,8 @@ fn is_dropped(default: bool, prev: u8, c: u8) -> bool
     c == prev
 }
 
-// Places before the one that `begun` says stay as they are, and the source is written from there on.
+// `trim_text` of one source, written into the node's place from the byte on that `begun` names. The bytes before it, and those behind what
+// is written, stay as they are.
 pub fn trim_text(source: &[u8], place: &mut [u8], space: XmlSpace, begun: Trimmed) -> Trimmed
     requires { ⌜ begun .size + length (now source) ≤ length (now place) ⌝ }
     ensures answer { λ r. ⌜ r ≡ trimmed (spaceIn space) begun (now (source .entry)) ⌝ }

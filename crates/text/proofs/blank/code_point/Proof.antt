@@ -1,4 +1,3 @@
-use native.Mathlib.Omega.{arith}
 use Rattle.text.proofs.Blankness.{code-one, code-two, code-three, code-four}
 use borrow.Author.Needs.{needs}
 use Rattle.text.proofs.blank.code_point.Statement.{statement}

@@ -1,6 +1,5 @@
 use native.Mathlib.Omega.{arith}
 use Prim.Native.Nat.{_+_}
-use borrow.Author.Needs.{needs}
 use Rattle.text.proofs.Depths.{Level, level-none, parent-inside, level-first, level-second, deeper-met}
 use Rattle.text.proofs.depth.is_deeper.Statement.{statement}
 use Rattle.text.proofs.depth.is_deeper.Tie as tie

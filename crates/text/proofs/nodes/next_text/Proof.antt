@@ -2,7 +2,6 @@ use native.Mathlib.Omega.{arith}
 use Prim.Native.Nat.{_≤_, _-_}
 use mathlib.Core.Path.{_≡_, refl, sym, _∙_}
 use borrow.Author.Tests.{eq-eqb, ne-eqb}
-use borrow.Author.Needs.{needs}
 use Rattle.text.specs.Nodes.{nextText}
 use Rattle.text.proofs.Collected.{next-step, next-end}
 use Rattle.text.proofs.nodes.next_text.Statement.{statement}

@@ -1,4 +1,3 @@
-use mathlib.Core.Path.{refl, sym, ap, _∙_}
 use native.Mathlib.Omega.{arith}
 use Rattle.text.proofs.Turning.{stands-text, parent-ready, text-ranged, pair-told, turn-tables, turn-ranged, turn-kept}
 use borrow.Author.Needs.{needs}

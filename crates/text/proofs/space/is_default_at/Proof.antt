@@ -1,4 +1,4 @@
-use mathlib.Core.Path.{refl, sym, ap, _∙_}
+use mathlib.Core.Path.{refl, ap, _∙_}
 use Rattle.model.specs.Text.{isDefault}
 use borrow.Author.Needs.{needs}
 use Rattle.text.proofs.space.is_default_at.Statement.{statement}

@@ -1,4 +1,4 @@
-use mathlib.Core.Path.{refl, sym, _∙_}
+use mathlib.Core.Path.{refl, sym}
 use native.Mathlib.Omega.{arith}
 use Rattle.model.specs.Text.{spaceOf}
 use Rattle.tree.proofs.Entries.{some-there, none-there}

@@ -1,7 +1,5 @@
-use mathlib.Core.Path.{refl, sym, ap, _∙_}
-use Rattle.model.specs.Tables.{Tree}
-use Rattle.text.specs.declared.Edges.{Edges}
-use Rattle.text.specs.Pairs.{afterBetween, afterOuter, afterLast, afterPair}
+use mathlib.Core.Path.{ap, _∙_}
+use Rattle.text.specs.Pairs.{afterOuter, afterLast, afterPair}
 use Rattle.text.proofs.Steps.{both-between, both-outer}
 use borrow.Author.Needs.{needs}
 use Rattle.text.proofs.step.trim_pair.Statement.{statement}
