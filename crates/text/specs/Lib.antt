@@ -1,0 +1,4 @@
+pub mod Spaces
+pub mod Pairs
+pub mod Nodes
+pub mod Append
