@@ -14,10 +14,22 @@ fn codes(lists: &str) -> String {
         format!("#[cfg(feature = \"rust\")]\npub static {name}: [{kind}; {}] = [{}];\n", list.len(), all.join(", "))
     };
     let (elements, attributes) = (list("EId"), list("AId"));
+    let module = |name: &str, list: &[String]| {
+        let all: String = list.iter().enumerate().map(|(k, v)| format!("pub const {v}: u8 = {k};\n")).collect();
+        format!("#[allow(dead_code, non_upper_case_globals)]\npub mod {name} {{\n{all}}}\n")
+    };
+    let class = |name: &str, kind: &str| {
+        let all: Vec<String> = list(kind).iter().map(|v| format!("a::{v}")).collect();
+        format!("#[allow(dead_code)]\npub static {name}: [u8; {}] = [{}];\n", all.len(), all.join(", "))
+    };
     names("ELEMENTS", &elements)
         + &names("ATTRIBUTES", &attributes)
         + &variants("EIDS", "EId", &elements)
         + &variants("AIDS", "AId", &attributes)
+        + &module("e", &elements)
+        + &module("a", &attributes)
+        + &class("PRESENTATION", "isPresentation")
+        + &class("INHERIT_ALLOWED", "allowsInheritValue")
 }
 
 fn main() {

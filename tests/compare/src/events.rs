@@ -15,8 +15,12 @@ impl Events {
         }
     }
 
-    pub fn has(&self, event: &str) -> bool {
-        self.0.contains_key(event)
+    pub fn count(&self, event: &str) -> u64 {
+        self.0.get(event).copied().unwrap_or(0)
+    }
+
+    pub fn names(&self) -> impl Iterator<Item = &'static str> + '_ {
+        self.0.keys().copied()
     }
 
     pub fn merge(&mut self, other: &Events) {

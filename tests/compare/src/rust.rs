@@ -39,6 +39,15 @@ pub fn names() -> &'static Names {
 
 /// Runs the Rust on a drawing that check takes.
 pub fn tree(script: &[u8], characters: &[u8]) -> Tree {
+    tree_asked(script, characters, |_, _| ()).0
+}
+
+/// Runs the Rust on a drawing that check takes, and asks something of the tree if there is one.
+pub fn tree_asked<R>(
+    script: &[u8],
+    characters: &[u8],
+    ask: impl FnOnce(&svgtree::Document, &Tree) -> R,
+) -> (Tree, Option<R>) {
     let drawing = Drawing::read(script, characters, names());
     let document = roxmltree::Document::new(&drawing);
     let parsed = drawing::within(&drawing, || svgtree::Document::parse_tree(&document, None));
@@ -59,12 +68,21 @@ pub fn tree(script: &[u8], characters: &[u8]) -> Tree {
     };
     tree.events.add("tref: quoted", log.quotes as u64);
     tree.events.add("tref: nothing but empty texts", log.empty_quotes as u64);
-    match parsed {
-        Ok(doc) => tree.set_out(&drawing, &doc, &log, characters),
-        Err(roxmltree::Error::NodesLimitReached) => tree.end = 20,
-        Err(roxmltree::Error::NoRootNode) => tree.end = 21,
-    }
-    tree
+    let answer = match parsed {
+        Ok(doc) => {
+            tree.set_out(&drawing, &doc, &log, characters);
+            Some(ask(&doc, &tree))
+        }
+        Err(error) => {
+            tree.end = if error == roxmltree::Error::NodesLimitReached { 20 } else { 21 };
+            if tree.end == 20 {
+                let most = tree.needed()[0] > 1_000_001;
+                tree.events.note(if most { "20: more than 1,000,000 nodes" } else { "20: the depth limit" });
+            }
+            None
+        }
+    };
+    (tree, answer)
 }
 
 impl Tree {

@@ -1,5 +1,5 @@
-//! Stand-in of simplecss: the declarations of an element are those of the drawing, in two rules that match every element and in its
-//! style attribute, in this order.
+//! Stand-in of simplecss: the declarations of an element are those of the drawing, in two rules and in its style attribute,
+//! in this order.
 use drawing::Drawing;
 use std::ops::Range;
 use std::rc::Rc;
@@ -49,13 +49,16 @@ pub trait Element: Sized {
     fn pseudo_class_matches(&self, class: PseudoClass) -> bool;
 }
 
-pub struct Selector;
+/// Matches the elements for which its rule has declarations.
+pub struct Selector {
+    part: usize,
+}
 
 impl Selector {
-    /// Every element matches; asking for its name tells the stand-ins which element it is.
+    /// Asking an element for its name tells the stand-ins which element it is.
     pub fn matches<E: Element>(&self, element: &E) -> bool {
         element.has_local_name("");
-        true
+        !part_of(drawing::last_asked(), self.part).is_empty()
     }
 }
 
@@ -86,7 +89,7 @@ pub struct StyleSheet<'a> {
 impl<'a> StyleSheet<'a> {
     pub fn new() -> StyleSheet<'a> {
         let all = Rc::new(declarations(|d| 0..d.declarations.len()));
-        let rule = |part| Rule { selector: Selector, declarations: Declarations { part, all: all.clone() } };
+        let rule = |part| Rule { selector: Selector { part }, declarations: Declarations { part, all: all.clone() } };
         StyleSheet { rules: vec![rule(0), rule(1)] }
     }
 

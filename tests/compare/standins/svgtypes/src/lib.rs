@@ -43,13 +43,15 @@ pub enum FilterValue<'a> {
     Url(&'a str),
 }
 
-/// Readings of kind 4.
-pub struct FilterValueListParser<'a>(std::vec::IntoIter<&'a str>);
+/// Readings of kind 4, behind a function that is no link and one that cannot be read.
+pub struct FilterValueListParser<'a>(std::vec::IntoIter<Result<FilterValue<'a>, Error>>);
 
 impl<'a> From<&'a str> for FilterValueListParser<'a> {
     fn from(value: &'a str) -> Self {
         drawing::filters_read();
-        FilterValueListParser(drawing::parts(value, 4).into_iter())
+        let mut all = vec![Ok(FilterValue::Blur), Err(Error)];
+        all.extend(drawing::parts(value, 4).into_iter().map(|url| Ok(FilterValue::Url(url))));
+        FilterValueListParser(all.into_iter())
     }
 }
 
@@ -57,7 +59,7 @@ impl<'a> Iterator for FilterValueListParser<'a> {
     type Item = Result<FilterValue<'a>, Error>;
 
     fn next(&mut self) -> Option<Self::Item> {
-        self.0.next().map(|url| Ok(FilterValue::Url(url)))
+        self.0.next()
     }
 }
 
