@@ -3,6 +3,7 @@ use crate::built::{Built, Exchanged, first_difference};
 use crate::commands::{self, Bytes, Command};
 use crate::events::Events;
 use crate::generate::{self, Theme};
+use crate::library;
 use crate::questions::{self, Question, Reply};
 use crate::rust::{self, Tree};
 use host::check::check;
@@ -102,7 +103,7 @@ pub fn wanted(case: &Case, all_questions: bool) -> Wanted {
 pub struct Side<'a> {
     pub check: &'a dyn Fn(&Bytes) -> Option<u32>,
     pub build: &'a dyn Fn(&Bytes, [usize; 3]) -> Option<Built>,
-    pub exchange: &'a dyn Fn(&Bytes, u32, &[u8], [usize; 3]) -> Option<Exchanged>,
+    pub exchange: &'a dyn Fn(&Bytes, u32, &[u8], &Built) -> Option<Exchanged>,
     pub questions: &'a dyn Fn(&Built, &[u8], &[Question]) -> Option<Vec<Reply>>,
 }
 
@@ -125,23 +126,29 @@ pub fn difference(case: &Case, wanted: &Wanted, side: &Side) -> Option<String> {
         }
     }
     if let (Some((number, bytes)), Some(own)) = (&case.exchange, &wanted.exchanged) {
-        let given = (side.exchange)(&case.bytes, *number, bytes, wanted.words)?;
-        if *own != given {
-            let tables = match (&own.tables, &given.tables) {
-                (Some(a), Some(b)) => first_difference(a, b).unwrap_or_default(),
-                (a, b) => format!("tables written: {} and {}", a.is_some(), b.is_some()),
-            };
-            let same = own.characters == given.characters;
-            return Some(format!(
-                "exchange of text {number} for {bytes:?} with tables of {:?}: number {} and {}; characters {}; {tables}",
-                wanted.words,
-                own.number,
-                given.number,
-                if same { "alike" } else { "differ" }
-            ));
+        // What the tables hold before does not matter: anything, or the drawing's build.
+        for before in [&library::lent(wanted.words), &wanted.built] {
+            let given = (side.exchange)(&case.bytes, *number, bytes, before)?;
+            if *own != given {
+                let with = format!("exchange of text {number} for {bytes:?} with tables of {:?}", wanted.words);
+                return Some(format!("{with}: {}", exchange_difference(own, &given)));
+            }
         }
     }
     None
+}
+
+fn exchange_difference(own: &Exchanged, given: &Exchanged) -> String {
+    if own.number != given.number {
+        return format!("number: {} and {}", own.number, given.number);
+    }
+    if own.characters != given.characters {
+        return "the characters differ".to_string();
+    }
+    match (&own.tables, &given.tables) {
+        (Some(a), Some(b)) => first_difference(a, b).unwrap_or_default(),
+        (a, b) => format!("tables written: {} and {}", a.is_some(), b.is_some()),
+    }
 }
 
 /// Random bytes of a length, UTF-8.

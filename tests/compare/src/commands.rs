@@ -174,13 +174,77 @@ pub fn print(commands: &[Command]) -> String {
     out.trim_start_matches('\n').to_string()
 }
 
-/// A drawing as it is printed: its commands where it has some, and its bytes.
+/// A drawing as it is printed: its commands where it has some, and the word that stands for it.
 pub fn shown(bytes: &Bytes) -> String {
-    let hex = |b: &[u8]| b.iter().map(|b| format!("{b:02x}")).collect::<String>();
     let commands = read(bytes).map_or("(no list of commands)".to_string(), |c| print(&c));
-    let (script, characters) = (hex(&bytes.script), hex(&bytes.characters));
-    if script.len() + characters.len() > 4000 {
-        return format!("{:.4000}\n(script of {} bytes)", commands, bytes.script.len());
+    let word = to_word(bytes);
+    if word.len() > 4000 {
+        return format!("{commands:.4000}\n(a script of {} bytes)", bytes.script.len());
     }
-    format!("{commands}\nscript {script}\ncharacters {characters}")
+    format!("{commands}\ndrawing {word}")
+}
+
+/// A string in one word: bytes other than letters, digits and some signs are % and two hexadecimal digits.
+pub fn escaped(bytes: &[u8]) -> String {
+    let plain = |b: u8| b.is_ascii_alphanumeric() || b"#()-_;:/".contains(&b);
+    bytes.iter().map(|&b| if plain(b) { (b as char).to_string() } else { format!("%{b:02x}") }).collect()
+}
+
+pub fn unescaped(text: &str) -> Option<Vec<u8>> {
+    let mut bytes = Vec::new();
+    let mut rest = text.as_bytes();
+    while let Some((&byte, after)) = rest.split_first() {
+        if byte == b'%' {
+            bytes.push(u8::from_str_radix(std::str::from_utf8(after.get(..2)?).ok()?, 16).ok()?);
+            rest = &after[2..];
+        } else {
+            bytes.push(byte);
+            rest = after;
+        }
+    }
+    Some(bytes)
+}
+
+/// A drawing in one word: its commands between commas, or where it has none, its bytes.
+pub fn to_word(bytes: &Bytes) -> String {
+    let commands = match read(bytes) {
+        Some(commands) if !commands.is_empty() => commands,
+        _ => return format!("!{}!{}", escaped(&bytes.script), escaped(&bytes.characters)),
+    };
+    let word = |command: &Command| match command {
+        Command::Open { code, namespace } => format!("o{code}.{namespace}"),
+        Command::Attribute { name, namespace, value } => format!("a{name}.{namespace}={}", escaped(value)),
+        Command::Declaration { name, important, value } => format!("d{name}.{important}={}", escaped(value)),
+        Command::Reading { kind, offset, length } => format!("r{kind}.{offset}.{length}"),
+        Command::Text(text) => format!("t={}", escaped(text)),
+        Command::Other => "n".to_string(),
+        Command::Close => "c".to_string(),
+    };
+    commands.iter().map(word).collect::<Vec<_>>().join(",")
+}
+
+/// The drawing of such a word.
+pub fn from_word(word: &str) -> Option<Bytes> {
+    if let Some(bytes) = word.strip_prefix('!') {
+        let (script, characters) = bytes.split_once('!')?;
+        return Some(Bytes { script: unescaped(script)?, characters: unescaped(characters)? });
+    }
+    let mut commands = Vec::new();
+    for part in word.split(',') {
+        let (head, value) = part.split_once('=').unwrap_or((part, ""));
+        let numbers: Vec<u32> = head.get(1..)?.split('.').filter_map(|n| n.parse().ok()).collect();
+        let byte = |k: usize| numbers.get(k).and_then(|&n| u8::try_from(n).ok());
+        let value = unescaped(value)?;
+        commands.push(match head.as_bytes()[0] {
+            b'o' => Command::Open { code: byte(0)?, namespace: byte(1)? },
+            b'a' => Command::Attribute { name: byte(0)?, namespace: byte(1)?, value },
+            b'd' => Command::Declaration { name: byte(0)?, important: byte(1)?, value },
+            b'r' => Command::Reading { kind: byte(0)?, offset: *numbers.get(1)?, length: *numbers.get(2)? },
+            b't' => Command::Text(value),
+            b'n' => Command::Other,
+            b'c' => Command::Close,
+            _ => return None,
+        });
+    }
+    Some(write(&commands))
 }

@@ -122,14 +122,26 @@ const IDS: [&str; 5] = ["a", "b", "c", "d", ""];
 const TEXTS: [&str; 14] = ["", " ", "  ", "a", " a", "a ", " a ", "a  b", "\n", "\ta\n", "\u{a0}", " \u{2003}", "é ", " \r\n "];
 const LETTERS: [&str; 12] = [" ", " ", " ", "a", "b", "\n", "\t", "\r", "\u{a0}", "é", "\u{2003}", "\u{0}"];
 const GROUPS: [u8; 8] = [e::G, e::G, e::Svg, e::Symbol, e::Defs, e::A, e::Switch, e::Rect];
-const INSIDE_TEXT: [u8; 10] =
-    [e::Tspan, e::Tspan, e::Tspan, e::Tspan, e::A, e::A, e::Tref, e::TextPath, e::G, e::Text];
-const QUOTING: [u8; 10] =
-    [e::Tref, e::Tref, e::Tref, e::Tref, e::Tspan, e::Tspan, e::A, e::TextPath, e::G, e::Text];
+const INSIDE_TEXT: [u8; 10] = [e::Tspan, e::Tspan, e::Tspan, e::Tspan, e::A, e::A, e::Tref, e::TextPath, e::G, e::Text];
+const QUOTING: [u8; 10] = [e::Tref, e::Tref, e::Tref, e::Tref, e::Tspan, e::Tspan, e::A, e::TextPath, e::G, e::Text];
 const LINKED: [u8; 4] = [e::Pattern, e::ClipPath, e::Mask, e::Filter];
 const LINKS: [u8; 5] = [a::Fill, a::Stroke, a::ClipPath, a::Mask, a::Filter];
-const VALUES: [&str; 14] =
-    ["red", "none", "inherit", "inherit", "", "auto", "normal", "1", "black", "inherit ", "smooth", "pixelated", "é", "crisp-edges"];
+const VALUES: [&str; 14] = [
+    "red",
+    "none",
+    "inherit",
+    "inherit",
+    "",
+    "auto",
+    "normal",
+    "1",
+    "black",
+    "inherit ",
+    "smooth",
+    "pixelated",
+    "é",
+    "crisp-edges",
+];
 
 struct Maker<'r> {
     r: &'r mut Random,
@@ -413,7 +425,11 @@ impl Maker<'_> {
             Theme::Trefs => self.r.pick(&[e::Text, e::Text, e::Text, e::Text, e::G, e::Rect, e::Style, e::Tref]),
             Theme::Uses => self.r.pick(&[e::Use, e::Use, e::Use, e::G, e::G, e::Symbol, e::Text, e::Style, e::A, e::Svg]),
             Theme::Repairs => {
-                if self.r.one_in(2) { self.r.pick(&LINKED) } else { self.r.pick(&[e::G, e::Rect, e::Use, e::FeImage, e::Text]) }
+                if self.r.one_in(2) {
+                    self.r.pick(&LINKED)
+                } else {
+                    self.r.pick(&[e::G, e::Rect, e::Use, e::FeImage, e::Text])
+                }
             }
             Theme::FeImage => self.r.pick(&[e::Filter, e::Filter, e::FeImage, e::FeImage, e::FeImage, e::G, e::Rect, e::Use]),
             Theme::Mixed | Theme::Deep => match self.r.below(4) {
@@ -464,12 +480,35 @@ impl Maker<'_> {
         } else {
             self.open(top);
             self.entries(top, name);
+            if self.theme == Theme::Uses {
+                if self.r.one_in(2) {
+                    self.definitions(name);
+                }
+                if self.r.one_in(20) {
+                    self.chain();
+                }
+            }
             for _ in 0..self.r.from_to(1, 3) {
                 self.children(top, name, 0);
             }
             self.close();
         }
         self.comments();
+    }
+
+    /// An element for each id, before anything else has it.
+    fn definitions(&mut self, name: u8) {
+        for id in self.ids {
+            let code = self.r.pick(&[e::G, e::Symbol, e::Text, e::Use, e::Rect, e::Svg, e::A]);
+            self.open(code);
+            self.attribute(a::Id, 0, id);
+            if code == e::Use {
+                self.hrefs();
+            }
+            self.left += 1;
+            self.children(code, name, 1);
+            self.close();
+        }
     }
 
     /// Nesting around the depth limit: groups, and at the bottom a text, a comment, a use, a cycle or nothing; or a chain of uses.

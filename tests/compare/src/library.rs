@@ -2,12 +2,16 @@
 use crate::built::{Built, Exchanged};
 use crate::commands::Bytes;
 
-/// What lent tables hold before a call: nothing of it may be left.
-pub const LENT: u32 = 0xa5a5_a5a5;
-
-/// Tables of these lengths, as they are lent.
+/// Tables of these lengths as they are lent, full of what a call must not leave.
 pub fn lent(words: [usize; 3]) -> Built {
-    Built { number: 0, counts: [0; 3], nodes: vec![LENT; words[0]], attributes: vec![LENT; words[1]], text: vec![LENT as u8; words[2]] }
+    let word: u32 = 0xa5a5_a5a5;
+    Built {
+        number: 0,
+        counts: [0; 3],
+        nodes: vec![word; words[0]],
+        attributes: vec![word; words[1]],
+        text: vec![word as u8; words[2]],
+    }
 }
 
 #[cfg(feature = "library")]
@@ -51,10 +55,15 @@ mod linked {
     }
 
     // SAFETY, for all calls: each pointer and length are those of one slice that lives through the call; what the library writes to is
-    // borrowed by nobody else.
+    // borrowed by nobody else. Script and characters are copies in allocations of just their length, so that a memory checker sees a
+    // read past an end.
+
+    fn copies(bytes: &Bytes) -> (Box<[u8]>, Box<[u8]>) {
+        (bytes.script[..].into(), bytes.characters[..].into())
+    }
 
     pub fn check(bytes: &Bytes) -> Option<u32> {
-        let Bytes { script: s, characters: c } = bytes;
+        let (s, c) = copies(bytes);
         Some(unsafe { svgtree_check(s.as_ptr(), s.len(), c.as_ptr(), c.len()) })
     }
 
@@ -65,7 +74,7 @@ mod linked {
 
     #[rustfmt::skip]
     pub fn build(bytes: &Bytes, words: [usize; 3]) -> Option<Built> {
-        let Bytes { script: s, characters: c } = bytes;
+        let (s, c) = copies(bytes);
         let mut t = lent(words);
         let number = unsafe { svgtree_build(
             s.as_ptr(), s.len(), c.as_ptr(), c.len(),
@@ -73,20 +82,20 @@ mod linked {
         Some(told(number, t))
     }
 
+    /// Exchange with tables that hold `before`.
     #[rustfmt::skip]
-    pub fn exchange(bytes: &Bytes, number: u32, new: &[u8], words: [usize; 3]) -> Option<Exchanged> {
-        let Bytes { script: s, characters: c } = bytes;
-        let mut c = c.clone();
-        let before = lent(words);
+    pub fn exchange(bytes: &Bytes, number: u32, new: &[u8], before: &Built) -> Option<Exchanged> {
+        let (s, mut c) = copies(bytes);
         let mut t = before.clone();
         let told = told(unsafe { svgtree_exchange(
             s.as_ptr(), s.len(), c.as_mut_ptr(), c.len(), number, new.as_ptr(), new.len(),
             t.nodes.as_mut_ptr(), t.nodes.len(), t.attributes.as_mut_ptr(), t.attributes.len(), t.text.as_mut_ptr(), t.text.len(),
         ) }, t);
-        let untouched = told.counts == [0; 3] && Built { number: 0, ..told.clone() } == before;
-        let touches = told.number == 0 || (20..30).contains(&told.number);
-        let tables = if untouched && !touches { None } else { Some(told.clone()) };
-        Some(Exchanged { number: told.number, characters: c, tables })
+        // A number that leaves everything leaves the tables and counts nothing.
+        let untouched = Built { number: told.number, counts: [0; 3], ..before.clone() };
+        let leaves = !matches!(told.number, 0 | 20..=24);
+        let tables = if leaves && told == untouched { None } else { Some(told.clone()) };
+        Some(Exchanged { number: told.number, characters: c.into_vec(), tables })
     }
 
     #[rustfmt::skip]
@@ -126,7 +135,7 @@ mod linked {
 
     pub fn check(_: &Bytes) -> Option<u32> { None }
     pub fn build(_: &Bytes, _: [usize; 3]) -> Option<Built> { None }
-    pub fn exchange(_: &Bytes, _: u32, _: &[u8], _: [usize; 3]) -> Option<Exchanged> { None }
+    pub fn exchange(_: &Bytes, _: u32, _: &[u8], _: &Built) -> Option<Exchanged> { None }
     pub fn attribute(_: &Tables, _: u32, _: u32) -> Option<Answer> { None }
     pub fn find_attribute(_: &Tables, _: u32, _: u32) -> Option<Answer> { None }
     pub fn element_by_id(_: &Tables, _: &[u8]) -> Option<Answer> { None }

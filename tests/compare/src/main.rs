@@ -1,4 +1,6 @@
 //! The Rust itself beside the port's library. See `USAGE`.
+// Without the Rust only the list is replayed.
+#![cfg_attr(not(feature = "rust"), allow(dead_code))]
 mod built;
 mod codes;
 mod commands;
@@ -40,11 +42,11 @@ const USAGE: &str = "usage: compare COMMAND
 With the Rust (feature rust):
   vectors FILE..             recorded vectors of check, build, exchange and the questions, beside the Rust
   random N SEED [THEME]      N random drawings of a theme, or of all in turn, the library beside the Rust
-  small N                    all scripts of up to N commands over a few commands of each kind, likewise
+  small SORT N               all drawings of up to N commands, texts, links or uses, by the sort, likewise
   limits                     drawings at the limits of sizes, depth and nodes, likewise
   record N SEED              writes N drawings with hashes of the Rust's answers
   faults N SEED              puts faults into the Rust's answers, and tells after how many random drawings each is seen
-  show SCRIPT CHARACTERS     prints a drawing (in hexadecimal, - for none) and the Rust's tree
+  show DRAWING               prints a drawing, the first word of a line of the list, and the Rust's tree
 The status is 0 if nothing differs.";
 
 fn number(word: &str) -> Result<u64, String> {
@@ -82,24 +84,26 @@ fn with_rust(words: &[&str]) -> Result<bool, String> {
                 _ => None,
             };
             let tally = run::random(number(count)?, number(seed)?, only, &side, compared);
+            tally.print_missing();
             Ok(tally.end(&format!("{count} random drawings, seed {seed}")))
         }
-        ["small", most] => {
-            let tally = run::all_small(number(most)? as usize, &side, compared);
-            Ok(tally.end(&format!("all scripts of up to {most} commands")))
+        ["small", sort, most] => {
+            let tally = run::all_small(sort, number(most)? as usize, &side, compared).ok_or("no such sort")?;
+            Ok(tally.end(&format!("all of up to {most} {sort}")))
         }
         ["limits"] => Ok(run::limits(&side, compared).end("drawings at the limits")),
         ["record", count, seed] => {
+            println!(
+                "# Drawings with hashes of the Rust's answers, by `compare record {count} {seed}`. src/record.rs says what a line has."
+            );
             for line in run::record(number(count)? as usize, number(seed)?) {
                 println!("{}", line.written());
             }
             Ok(true)
         }
         ["faults", count, seed] => Ok(run::faults(number(count)?, number(seed)?)),
-        ["show", script, characters] => {
-            let line = format!("{script} {characters} 0 0 0 0 - -");
-            let bytes = record::Line::read(&line).ok_or("no hexadecimal")?.bytes;
-            show(&bytes);
+        ["show", word] => {
+            show(&commands::from_word(word).ok_or("no drawing")?);
             Ok(true)
         }
         _ => Err(USAGE.to_string()),

@@ -1,4 +1,5 @@
 //! What mod.rs names of the rest of its crate. Reading a document asks for none of it.
+#[allow(dead_code)]
 pub struct Opacity(f32);
 
 impl Opacity {

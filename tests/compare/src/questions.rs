@@ -72,7 +72,9 @@ pub fn rust(doc: &Document, tree: &Tree, asked: &[Question]) -> Vec<Reply> {
             let record = &tree.nodes[*node as usize];
             let place = match *record {
                 [3, ..] => own(record),
-                [2, _, _, first, ..] if first != 0 && tree.nodes[first as usize - 1][0] == 3 => own(&tree.nodes[first as usize - 1]),
+                [2, _, _, first, ..] if first != 0 && tree.nodes[first as usize - 1][0] == 3 => {
+                    own(&tree.nodes[first as usize - 1])
+                }
                 _ => [0; 3],
             };
             let bytes = &tree.text[place[1] as usize..][..place[2] as usize];

@@ -1,12 +1,12 @@
 //! The recorded list: drawings with hashes of the Rust's answers, so that they can be replayed where the Rust is not at hand.
 //!
-//! A line has: script, characters, the lengths of the three lent tables, build's number, the hash of its answer, the hash of the answers
-//! to every question about the first nodes (or -), and with an exchange: the text's number, the new bytes, the number, the hash. Bytes
-//! are hexadecimal, - stands for none.
+//! A line has: the drawing in one word (`commands::to_word`), the lengths of the three lent tables, build's number, the hash of its
+//! answer, the hash of the answers to every question about the first nodes (or -), and with an exchange: the text's number, = and the new
+//! bytes, the number, the hash.
 use crate::built::{Built, Exchanged};
-use crate::commands::Bytes;
-use crate::questions::{self, Reply};
+use crate::commands::{Bytes, escaped, from_word, to_word, unescaped};
 use crate::library;
+use crate::questions::{self, Reply};
 
 /// FNV-1a over words of four bytes.
 pub struct Hash(u64);
@@ -55,18 +55,6 @@ pub fn hash_replies(replies: &[Reply]) -> String {
     format!("{:016x}", h.0)
 }
 
-fn hex(bytes: &[u8]) -> String {
-    if bytes.is_empty() { "-".to_string() } else { bytes.iter().map(|b| format!("{b:02x}")).collect() }
-}
-
-fn unhex(text: &str) -> Option<Vec<u8>> {
-    if text == "-" {
-        return Some(Vec::new());
-    }
-    let pairs = text.as_bytes().chunks(2);
-    pairs.map(|pair| std::str::from_utf8(pair).ok().filter(|p| p.len() == 2).and_then(|p| u8::from_str_radix(p, 16).ok())).collect()
-}
-
 pub struct Line {
     pub bytes: Bytes,
     pub words: [usize; 3],
@@ -86,10 +74,9 @@ pub struct Exchange {
 impl Line {
     pub fn written(&self) -> String {
         let [n, a, t] = self.words;
-        let (script, characters) = (hex(&self.bytes.script), hex(&self.bytes.characters));
-        let build = format!("{script} {characters} {n} {a} {t} {} {} {}", self.number, self.hash, self.questions);
+        let build = format!("{} {n} {a} {t} {} {} {}", to_word(&self.bytes), self.number, self.hash, self.questions);
         match &self.exchange {
-            Some(e) => format!("{build} {} {} {} {}", e.text, hex(&e.bytes), e.number, e.hash),
+            Some(e) => format!("{build} {} ={} {} {}", e.text, escaped(&e.bytes), e.number, e.hash),
             None => build,
         }
     }
@@ -97,25 +84,25 @@ impl Line {
     pub fn read(line: &str) -> Option<Line> {
         let fields: Vec<&str> = line.split(' ').collect();
         let (build, exchange) = match fields.len() {
-            8 => (&fields[..], None),
-            12 => (&fields[..8], Some(&fields[8..])),
+            7 => (&fields[..], None),
+            11 => (&fields[..7], Some(&fields[7..])),
             _ => return None,
         };
         let exchange = match exchange {
             Some(e) => Some(Exchange {
                 text: e[0].parse().ok()?,
-                bytes: unhex(e[1])?,
+                bytes: unescaped(e[1].strip_prefix('=')?)?,
                 number: e[2].parse().ok()?,
                 hash: e[3].to_string(),
             }),
             None => None,
         };
         Some(Line {
-            bytes: Bytes { script: unhex(build[0])?, characters: unhex(build[1])? },
-            words: [build[2].parse().ok()?, build[3].parse().ok()?, build[4].parse().ok()?],
-            number: build[5].parse().ok()?,
-            hash: build[6].to_string(),
-            questions: build[7].to_string(),
+            bytes: from_word(build[0])?,
+            words: [build[1].parse().ok()?, build[2].parse().ok()?, build[3].parse().ok()?],
+            number: build[4].parse().ok()?,
+            hash: build[5].to_string(),
+            questions: build[6].to_string(),
             exchange,
         })
     }
@@ -137,7 +124,8 @@ impl Line {
             Some("-".to_string())
         };
         let exchanged = match &self.exchange {
-            Some(e) => library::exchange(&self.bytes, e.text, &e.bytes, self.words).map(|x| (x.number, hash_exchanged(&x))),
+            Some(e) => library::exchange(&self.bytes, e.text, &e.bytes, &library::lent(self.words))
+                .map(|x| (x.number, hash_exchanged(&x))),
             None => None,
         };
         self.against(&hash_built(&built), built.number, replies.as_deref(), exchanged)

@@ -21,14 +21,18 @@ pub struct Tally {
 }
 
 impl Tally {
+    /// What a run should see happen, and has not.
+    pub fn print_missing(&self) {
+        let missing = self.events.missing(&EVENTS);
+        if !missing.is_empty() {
+            println!("never happened: {}", missing.join("; "));
+        }
+    }
+
     /// The events, and the last line. The status is whether nothing differs.
     pub fn end(&self, title: &str) -> bool {
         println!("{title}");
         self.events.print();
-        let missing = self.events.missing(&EVENTS);
-        if !missing.is_empty() {
-            println!("  never: {}", missing.join("; "));
-        }
         let beside = if self.compared { "" } else { " (no library is linked: the Rust ran alone)" };
         println!("{} agree, {} differ{beside}", self.agree, self.differ);
         self.differ == 0
@@ -155,14 +159,21 @@ pub fn random(count: u64, seed: u64, only: Option<Theme>, side: &Side, compared:
     tally
 }
 
-/// All small scripts, with tables that are large enough.
-pub fn all_small(most: usize, side: &Side, compared: bool) -> Tally {
+/// All drawings of a sort up to a size, with tables that are large enough.
+pub fn all_small(sort: &str, most: usize, side: &Side, compared: bool) -> Option<Tally> {
     let mut tally = Tally { compared, ..Tally::default() };
-    small::all(most, &mut |bytes| {
+    let see = &mut |bytes: &Bytes| {
         let case = Case { bytes: bytes.clone(), slack: [3, 2, 1], exchange: None };
-        one(&mut tally, &case, side, &|| "small".to_string());
-    });
-    tally
+        one(&mut tally, &case, side, &|| sort.to_string());
+    };
+    match sort {
+        "commands" => small::all(most, see),
+        "texts" => small::texts(most, see),
+        "links" => small::links(most, see),
+        "uses" => small::uses(most, see),
+        _ => return None,
+    }
+    Some(tally)
 }
 
 /// Drawings at the limits, with tables of just the size that is needed, and one record less: the Rust's number is document 01's too.
@@ -196,7 +207,7 @@ pub fn record(count: usize, seed: u64) -> Vec<Line> {
         let case = case::random(theme, &mut Random::new(seed, input));
         input += 1;
         let size = case.bytes.script.len() + case.bytes.characters.len();
-        if size > 400 && !(size < 5000 && input % 1009 == 0) {
+        if size > 260 && !(size < 5000 && input % 1009 == 0) {
             continue;
         }
         let wanted = case::wanted(&case, false);
@@ -267,7 +278,8 @@ pub fn faults(count: u64, seed: u64) -> bool {
         let build = |bytes: &Bytes, words: [usize; 3]| {
             Some(with_fault(fault, crate::rust::build(&bytes.script, &bytes.characters, words)))
         };
-        let exchange = |bytes: &Bytes, number: u32, new: &[u8], words: [usize; 3]| {
+        let exchange = |bytes: &Bytes, number: u32, new: &[u8], before: &Built| {
+            let words = [before.nodes.len(), before.attributes.len(), before.text.len()];
             let mut given = crate::rust::exchange(&bytes.script, &bytes.characters, number, new, words);
             if fault == 6 && given.number == 0 {
                 given.characters = bytes.characters.clone();

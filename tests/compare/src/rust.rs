@@ -43,11 +43,7 @@ pub fn tree(script: &[u8], characters: &[u8]) -> Tree {
 }
 
 /// Runs the Rust on a drawing that check takes, and asks something of the tree if there is one.
-pub fn tree_asked<R>(
-    script: &[u8],
-    characters: &[u8],
-    ask: impl FnOnce(&svgtree::Document, &Tree) -> R,
-) -> (Tree, Option<R>) {
+pub fn tree_asked<R>(script: &[u8], characters: &[u8], ask: impl FnOnce(&svgtree::Document, &Tree) -> R) -> (Tree, Option<R>) {
     let drawing = Drawing::read(script, characters, names());
     let document = roxmltree::Document::new(&drawing);
     let parsed = drawing::within(&drawing, || svgtree::Document::parse_tree(&document, None));

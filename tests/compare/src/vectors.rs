@@ -140,7 +140,11 @@ fn asked(t: &Tables, plain: Answer, ask: impl FnOnce(&crate::svgtree::Document) 
         return plain;
     }
     match seen::document(t) {
-        Some(doc) => ask(&doc).map_or(Answer { number: 0, found: 0, index: 0 }, |index| Answer { number: 0, found: 1, index: index as u32 }),
+        Some(doc) => ask(&doc).map_or(Answer { number: 0, found: 0, index: 0 }, |index| Answer {
+            number: 0,
+            found: 1,
+            index: index as u32,
+        }),
         None => plain,
     }
 }
