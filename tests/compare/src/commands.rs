@@ -99,7 +99,7 @@ pub fn read(bytes: &Bytes) -> Option<Vec<Command>> {
             _ => return None,
         });
     }
-    characters.is_empty().then(|| all)
+    characters.is_empty().then_some(all)
 }
 
 pub fn element_name(code: u8) -> String {

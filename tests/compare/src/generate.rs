@@ -19,18 +19,10 @@ pub enum Theme {
     Damaged,
 }
 
+#[rustfmt::skip]
 pub const THEMES: [Theme; 11] = [
-    Theme::Spaces,
-    Theme::Trefs,
-    Theme::Uses,
-    Theme::Styles,
-    Theme::Inherit,
-    Theme::Repairs,
-    Theme::FeImage,
-    Theme::Deep,
-    Theme::Mixed,
-    Theme::Any,
-    Theme::Damaged,
+    Theme::Spaces, Theme::Trefs, Theme::Uses, Theme::Styles, Theme::Inherit, Theme::Repairs, Theme::FeImage, Theme::Deep, Theme::Mixed,
+    Theme::Any, Theme::Damaged,
 ];
 
 /// The theme of an input: they take turns, deep drawings come less often, since they are large.
@@ -126,21 +118,9 @@ const INSIDE_TEXT: [u8; 10] = [e::Tspan, e::Tspan, e::Tspan, e::Tspan, e::A, e::
 const QUOTING: [u8; 10] = [e::Tref, e::Tref, e::Tref, e::Tref, e::Tspan, e::Tspan, e::A, e::TextPath, e::G, e::Text];
 const LINKED: [u8; 4] = [e::Pattern, e::ClipPath, e::Mask, e::Filter];
 const LINKS: [u8; 5] = [a::Fill, a::Stroke, a::ClipPath, a::Mask, a::Filter];
+#[rustfmt::skip]
 const VALUES: [&str; 14] = [
-    "red",
-    "none",
-    "inherit",
-    "inherit",
-    "",
-    "auto",
-    "normal",
-    "1",
-    "black",
-    "inherit ",
-    "smooth",
-    "pixelated",
-    "é",
-    "crisp-edges",
+    "red", "none", "inherit", "inherit", "", "auto", "normal", "1", "black", "inherit ", "smooth", "pixelated", "é", "crisp-edges",
 ];
 
 struct Maker<'r> {

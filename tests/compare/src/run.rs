@@ -4,7 +4,7 @@ use crate::case::{self, Case, Side, Wanted};
 use crate::commands::{Bytes, shown};
 use crate::events::Events;
 use crate::generate::{self, Theme};
-use crate::questions;
+use crate::questions::{self, Question};
 use crate::record::{Line, recorded};
 use crate::shrink::smaller;
 use crate::{library, limits, small};
@@ -40,60 +40,18 @@ impl Tally {
 }
 
 /// What a run should see happen.
+#[rustfmt::skip]
 const EVENTS: [&str; 53] = [
-    "number: 0",
-    "number: 2",
-    "number: 3",
-    "number: 4",
-    "number: 6",
-    "number: 7",
-    "number: 8",
-    "number: 9",
-    "number: 20",
-    "number: 21",
-    "number: 22",
-    "number: 23",
-    "number: 24",
-    "exchange: 0",
-    "exchange: check's numbers",
-    "exchange: 20 to 24",
-    "exchange: 30",
-    "exchange: 31",
-    "exchange: 32",
-    "exchange: 33",
-    "20: the depth limit",
-    "repair: pattern, fill",
-    "repair: pattern, stroke",
-    "repair: clip path",
-    "repair: mask",
-    "repair: filter",
-    "repair: feImage",
-    "repair: feImage, cut again",
-    "repair: several cuts",
-    "tref: quoted",
-    "tref: nothing but empty texts",
-    "use: copied",
-    "use: nothing copied",
-    "element: a becomes g",
-    "element: a or tref becomes tspan",
-    "entry: fixed value",
-    "entry: important",
-    "trim: no text",
-    "trim: one, preserve",
-    "trim: one, empty",
-    "trim: one, a lone space",
-    "trim: one, a byte",
-    "trim: one, first",
-    "trim: one, last",
-    "trim: many, an earlier text stands for an empty one",
-    "trim: many, first of a deeper one",
-    "trim: many, a deeper one preserves",
-    "trim: many, last before a space",
-    "trim: many, first behind a preserved space",
-    "trim: many, first of all",
-    "trim: many, both edges at one step",
-    "trim: many, last of all",
-    "trim: many, last but one",
+    "number: 0", "number: 2", "number: 3", "number: 4", "number: 6", "number: 7", "number: 8", "number: 9", "number: 20", "number: 21",
+    "number: 22", "number: 23", "number: 24", "exchange: 0", "exchange: check's numbers", "exchange: 20 to 24", "exchange: 30",
+    "exchange: 31", "exchange: 32", "exchange: 33", "20: the depth limit", "repair: pattern, fill", "repair: pattern, stroke",
+    "repair: clip path", "repair: mask", "repair: filter", "repair: feImage", "repair: feImage, cut again", "repair: several cuts",
+    "tref: quoted", "tref: nothing but empty texts", "use: copied", "use: nothing copied", "element: a becomes g",
+    "element: a or tref becomes tspan", "entry: fixed value", "entry: important", "trim: no text", "trim: one, preserve",
+    "trim: one, empty", "trim: one, a lone space", "trim: one, a byte", "trim: one, first", "trim: one, last",
+    "trim: many, an earlier text stands for an empty one", "trim: many, first of a deeper one", "trim: many, a deeper one preserves",
+    "trim: many, last before a space", "trim: many, first behind a preserved space", "trim: many, first of all",
+    "trim: many, both edges at one step", "trim: many, last of all", "trim: many, last but one",
 ];
 
 /// The library as the other side.
@@ -221,85 +179,77 @@ pub fn record(count: usize, seed: u64) -> Vec<Line> {
     lines
 }
 
-/// Faults that are put into the Rust's answer, to see that a run tells them.
-pub const FAULTS: [&str; 7] = [
-    "a fixed value keeps the importance 0",
-    "a text node's from stays where its place begins",
-    "the bytes behind a text's end are not cleared",
-    "no room for an entry is told as no room for a node",
-    "a copied value has no command",
-    "the last sibling has a next one",
-    "an exchange leaves the text as it was",
+/// Faults that are put into the Rust's answer, one for each part of it, to see that a run tells them.
+const FAULTS: [&str; 9] = [
+    "check: 7 is told as 6",
+    "build: 23 is told as 22",
+    "build: one byte of text too few is counted",
+    "build: the last of more than twenty nodes has a sibling",
+    "build: a fixed value is not important",
+    "build: the byte behind the last text is a space",
+    "exchange: the characters stay as they were",
+    "exchange: the tables are those of the drawing before",
+    "find attribute: a text node has none",
 ];
 
 fn with_fault(fault: usize, mut built: Built) -> Built {
     let [nodes, attributes, text] = built.counts.map(|c| c as usize);
     match fault {
-        0 => (0..attributes).filter(|k| built.attributes[5 * k + 4] == 0).collect::<Vec<_>>().iter().for_each(|k| {
-            built.attributes[5 * k + 1] = 0;
-        }),
-        1 => {
-            let mut place = 0;
-            for k in 0..nodes {
-                if built.nodes[8 * k] == 3 {
-                    if built.nodes[8 * k + 6] == place + 1 {
-                        built.nodes[8 * k + 6] = place;
-                    }
-                    place = built.nodes[8 * k + 7];
-                }
-            }
-        }
-        2 => {
-            if let Some(byte) = built.text.get_mut(text.wrapping_sub(1)) {
-                *byte = if *byte == 0 { b' ' } else { *byte };
-            }
-        }
-        3 if built.number == 23 => built.number = 22,
-        4 => {
-            let mut commands: Vec<u32> = Vec::new();
-            for k in 0..attributes {
-                let command = built.attributes[5 * k + 4];
-                if commands.contains(&command) && command > 40 {
-                    built.attributes[5 * k + 4] = command - 1;
-                }
-                commands.push(command);
-            }
-        }
-        5 if nodes > 20 => built.nodes[8 * (nodes - 1) + 2] = 1,
+        1 if built.number == 23 => built.number = 22,
+        2 if text > 0 => built.counts[2] -= 1,
+        3 if nodes > 20 => built.nodes[8 * nodes - 6] = 1,
+        4 => built.attributes[..5 * attributes].chunks_mut(5).filter(|e| e[4] == 0).for_each(|e| e[1] = 0),
+        5 if text > 0 && built.text[text - 1] == 0 => built.text[text - 1] = b' ',
         _ => {}
     }
     built
 }
 
-/// Random cases with each fault: how many cases it takes until it is told.
+/// Random cases with each fault: the first one that tells it, made smaller.
 pub fn faults(count: u64, seed: u64) -> bool {
     let mut all = true;
     for (fault, name) in FAULTS.iter().enumerate() {
+        let check = |bytes: &Bytes| match host::check::check(&bytes.script, &bytes.characters) {
+            7 if fault == 0 => Some(6),
+            number => Some(number),
+        };
         let build = |bytes: &Bytes, words: [usize; 3]| {
             Some(with_fault(fault, crate::rust::build(&bytes.script, &bytes.characters, words)))
         };
         let exchange = |bytes: &Bytes, number: u32, new: &[u8], before: &Built| {
             let words = [before.nodes.len(), before.attributes.len(), before.text.len()];
             let mut given = crate::rust::exchange(&bytes.script, &bytes.characters, number, new, words);
-            if fault == 6 && given.number == 0 {
+            if given.number == 0 && fault == 6 {
                 given.characters = bytes.characters.clone();
+            }
+            if given.number == 0 && fault == 7 {
+                given.tables = build(bytes, words);
             }
             Some(given)
         };
-        let side = Side { check: &|_| None, build: &build, exchange: &exchange, questions: &|_, _, _| None };
-        let mut told = None;
-        for input in 0..count {
-            let case = case::random(generate::theme(input), &mut Random::new(seed, input));
-            let wanted = case::wanted(&case, false);
-            if case::difference(&case, &wanted, &side).is_some() {
-                println!("fault '{name}': told by input {input}");
-                one(&mut Tally::default(), &case, &side, &|| format!("input {input}"));
-                told = Some(input);
-                break;
+        let questions = |built: &Built, characters: &[u8], asked: &[Question]| {
+            let t = questions::tables(built, characters);
+            let mut replies = questions::plain(&t, asked);
+            for (question, reply) in asked.iter().zip(&mut replies) {
+                match question {
+                    Question::FindAttribute(node, _) if fault == 8 && built.nodes[8 * *node as usize] == 3 => *reply = [0; 3],
+                    _ => {}
+                }
             }
-        }
+            Some(replies)
+        };
+        let side = Side { check: &check, build: &build, exchange: &exchange, questions: &questions };
+        let told = (0..count).find(|&input| {
+            let case = case::random(generate::theme(input), &mut Random::new(seed, input));
+            let tells = case::difference(&case, &case::wanted(&case, false), &side).is_some();
+            if tells {
+                println!("fault: {name}");
+                one(&mut Tally::default(), &case, &side, &|| format!("input {input}"));
+            }
+            tells
+        });
         if told.is_none() {
-            println!("fault '{name}': not told in {count} cases");
+            println!("fault: {name}: not told in {count} cases");
             all = false;
         }
     }
