@@ -1,4 +1,4 @@
-//! The port's library, called as a C program would. Without the feature every call gives None.
+//! The port's library, called as a C program would. A call whose feature is off gives None.
 use crate::built::{Built, Exchanged};
 use crate::commands::Bytes;
 
@@ -35,6 +35,7 @@ mod linked {
             script: *const u8, script_length: usize, characters: *const u8, characters_length: usize,
             nodes: *mut u32, nodes_length: usize, attributes: *mut u32, attributes_length: usize, text: *mut u8, text_length: usize,
         ) -> Number;
+        #[cfg(feature = "exchange")]
         fn svgtree_exchange(
             script: *const u8, script_length: usize, characters: *mut u8, characters_length: usize,
             number: u32, bytes: *const u8, bytes_length: usize,
@@ -82,7 +83,13 @@ mod linked {
         Some(told(number, t))
     }
 
+    #[cfg(not(feature = "exchange"))]
+    pub fn exchange(_: &Bytes, _: u32, _: &[u8], _: &Built) -> Option<Exchanged> {
+        None
+    }
+
     /// Exchange with tables that hold `before`.
+    #[cfg(feature = "exchange")]
     #[rustfmt::skip]
     pub fn exchange(bytes: &Bytes, number: u32, new: &[u8], before: &Built) -> Option<Exchanged> {
         let (s, mut c) = copies(bytes);

@@ -69,9 +69,15 @@ pub struct Declaration {
 #[derive(Clone, Copy, PartialEq)]
 pub enum Kind {
     Root,
-    Element { code: u8, namespace: u8 },
+    Element {
+        code: u8,
+        namespace: u8,
+    },
     /// A text: its number, counted from 1, and its value.
-    Text { number: u32, value: usize },
+    Text {
+        number: u32,
+        value: usize,
+    },
     Other,
 }
 
