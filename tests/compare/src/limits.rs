@@ -105,4 +105,8 @@ pub fn all(see: &mut dyn FnMut(&str, &Bytes, u32)) {
     see("the 1,000,002nd node is an element", &wide(1_000_001, &rect), 20);
     see("the 1,000,002nd node is a text", &wide(1_000_000, &text), 0);
     see("the text element is the 1,000,002nd node", &wide(1_000_001, &text), 20);
+    let inside = |within: &[Command]| [&[open(e::Text), open(e::Tspan)], within, &[Command::Close, Command::Close]].concat();
+    see("the 1,000,001st node is a tspan", &wide(999_999, &inside(&[Command::Text(b"a".to_vec())])), 0);
+    see("the 1,000,002nd node is a tspan", &wide(1_000_000, &inside(&[])), 20);
+    see("the 1,000,002nd node is a tspan in a tspan", &wide(999_999, &inside(&[open(e::Tspan), Command::Close])), 20);
 }
