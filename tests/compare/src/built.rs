@@ -25,7 +25,7 @@ pub struct Exchanged {
     pub tables: Option<Built>,
 }
 
-/// Which words a table has: a text with the place of each byte that two answers differ in would be long, so the first is named.
+/// The first place in which two answers differ.
 pub fn first_difference(a: &Built, b: &Built) -> Option<String> {
     let words = |table: &str, size: usize, a: &[u32], b: &[u32]| -> Option<String> {
         if a.len() != b.len() {
