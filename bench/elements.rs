@@ -16,7 +16,7 @@ extern "C" {
     fn elements_check(script: *const u8, script_len: usize, characters: *const u8, characters_len: usize) -> u32;
     #[rustfmt::skip]
     fn elements_build(script: *const u8, script_len: usize, characters: *const u8, characters_len: usize,
-        nodes: *mut u32, nodes_len: usize, attributes: *mut u32, attributes_len: usize) -> Built;
+        nodes: *mut u32, nodes_len: usize, attributes: *mut u32, attributes_len: usize, ignored: bool) -> Built;
 }
 
 /// The codes and classes of names, from tools/names.lists.
@@ -387,7 +387,7 @@ fn measure(name: &str, d: &Drawing) {
     // SAFETY: the slices are those of the vectors.
     let mut library = || unsafe {
         let b = elements_build(script.as_ptr(), script.len(), characters.as_ptr(), characters.len(), nodes.as_mut_ptr(), node_words,
-            attributes.as_mut_ptr(), attribute_words);
+            attributes.as_mut_ptr(), attribute_words, false);
         assert_eq!((b.number, b.nodes as usize, b.attributes as usize), (0, records, entries));
     };
     let mut rust = || assert_eq!(Plain::build(d.names, script, characters, true).attributes.len(), entries);

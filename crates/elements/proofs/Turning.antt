@@ -78,12 +78,13 @@ module _ (script chars ns ats : List ℕ) (s : State) (g : Going script chars ns
       omega (arith, o .further .further),
     )
 
-    pub grown : (code : ℕ) → isElement code ≡ true → (c : Counts) (behind : Cursor) → SameNodes script chars (e .inside) behind →
+    pub grown : (ignored : Bool) (code : ℕ) → isElement code ≡ true → (c : Counts) (behind : Cursor) →
+        SameNodes script chars (e .inside) behind →
         (ms as′ : List ℕ) →
-        done (treeOf ms as′ [] c) ≡ parseSvgElement (elementOf script chars e) code false (s .parent) (treeOf ns ats [] (s .counts)) →
+        done (treeOf ms as′ [] c) ≡ parseSvgElement (elementOf script chars e) code ignored (s .parent) (treeOf ns ats [] (s .counts)) →
         Going script chars ms as′ (record { c = behind; parent = s .counts .nodes; counts = c }) × (s .c .at < behind .at)
-    grown code is c behind same ms as′ q =
-        let h = element-grown (length chars) (treeOf ns ats [] (s .counts)) (g .tidy) code is (s .parent) (g .below) false
+    grown ignored code is c behind same ms as′ q =
+        let h = element-grown (length chars) (treeOf ns ats [] (s .counts)) (g .tidy) code is (s .parent) (g .below) ignored
         (elementOf script chars e) (o .element) (treeOf ms as′ [] c) q in (
           record {
             fit = same .fit;

@@ -82,6 +82,7 @@ fn begin(
     characters: &[u8],
     nodes: &mut [u32],
     attributes: &mut [u32],
+    ignored: bool,
     s: State,
     e: Opened,
 ) -> Turn
@@ -108,7 +109,7 @@ fn begin(
         counts,
         s.parent,
         code,
-        false,
+        ignored,
         e,
     ) {
         Parsed::Refused(k) => Turn::Refused(k),
@@ -126,6 +127,7 @@ fn advance(
     characters: &[u8],
     nodes: &mut [u32],
     attributes: &mut [u32],
+    ignored: bool,
     s: State,
 ) -> Turn
     requires { ⌜ Going (now script) (now characters) (now nodes) (now attributes) s ⌝ }
@@ -134,7 +136,7 @@ fn advance(
     let c = s.c;
     let counts = s.counts;
     match next_item(script, characters, c) {
-        Item::Begin(e) => begin(script, characters, nodes, attributes, s, e),
+        Item::Begin(e) => begin(script, characters, nodes, attributes, ignored, s, e),
         Item::Text(_, _, n) => Turn::On(State {
             c: n,
             parent: s.parent,
@@ -160,13 +162,14 @@ fn run(
     characters: &[u8],
     nodes: &mut [u32],
     attributes: &mut [u32],
+    ignored: bool,
     first: State,
 ) -> Built
     requires { ⌜ Going (now script) (now characters) (now nodes) (now attributes) first ⌝ }
 {
     let mut s = first;
     loop {
-        match advance(script, characters, nodes, attributes, s) {
+        match advance(script, characters, nodes, attributes, ignored, s) {
             Turn::On(n) => {
                 s = n;
             }
@@ -198,13 +201,14 @@ fn refused(number: u32) -> Built {
     }
 }
 
-// All elements of a drawing.
+// All elements of a drawing; their ids are ignored or not.
 #[no_mangle]
 pub extern "C" fn elements_build(
     script: &[u8],
     characters: &[u8],
     nodes: &mut [u32],
     attributes: &mut [u32],
+    ignored: bool,
 ) -> Built {
     let number = check(script, characters);
     if number != 0 {
@@ -225,7 +229,7 @@ pub extern "C" fn elements_build(
             text: 0,
         },
     };
-    run(script, characters, nodes, attributes, first)
+    run(script, characters, nodes, attributes, ignored, first)
 }
 
 // Check alone, for what it takes of the time.

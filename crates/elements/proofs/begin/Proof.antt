@@ -53,7 +53,7 @@ returns-3 c =
     .before .before .before .before .before .pre .0 in
     let opens = c .before .before .before .before .before .before .before .before .before .before .before .before .before .before
     .before .before .before .before .before .pre .1 in
-    grown _ _ _ _ _ going _ opens _ (kept-code _ (c .before .before .before .before .before .before .before .before .before
+    grown _ _ _ _ _ going _ opens _ _ (kept-code _ (c .before .before .before .before .before .before .before .before .before
     .before .before .before .before .before .before .before .before .before .before .args .e .space)
     (passes (c .before .before .before .before .before .before .before .before .before .before .before .is-kept .ensures)
     (c .before .before .before .before .before .before .before .before .before .before .if1 .left))) _ _

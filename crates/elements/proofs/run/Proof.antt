@@ -9,11 +9,11 @@ use Rattle.elements.proofs.run.Statement.{statement}
 use Rattle.elements.proofs.run.Tie as tie
 
 abbrev Inv-loop : tie.InvT-loop
-Inv-loop script characters nodes₀ attributes₀ s₀ nodes attributes s =
+Inv-loop script characters nodes₀ attributes₀ ignored s₀ nodes attributes s =
     Going script characters nodes attributes s × (length nodes ≡ length nodes₀) × (length attributes ≡ length attributes₀)
 
 abbrev μ-loop : tie.MeasureT-loop
-μ-loop script characters nodes₀ attributes₀ s₀ nodes attributes s = length script - s .c .at
+μ-loop script characters nodes₀ attributes₀ ignored s₀ nodes attributes s = length script - s .c .at
 
 loop-holds : tie.Need-loop-holds Inv-loop μ-loop
 loop-holds c = (c .before .before .before .before .pre, refl, refl)
