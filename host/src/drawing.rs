@@ -3,6 +3,7 @@ use crate::readings::{readings, Kind, Place};
 use crate::{names, style};
 use roxmltree::{Document, Node, NodeType, ParsingOptions};
 use simplecss::StyleSheet;
+use std::borrow::Cow;
 use std::fmt;
 
 /// A drawing as the panel takes it: the commands, and the strings that they have, one after another.
@@ -48,6 +49,7 @@ impl Drawing {
 
     /// The drawing of an XML document.
     pub fn from_xml(text: &str) -> Result<Drawing, Fault> {
+        let text = &line_ends(text);
         let options = ParsingOptions { allow_dtd: true, ..ParsingOptions::default() };
         let xml = Document::parse_with_options(text, options).map_err(|error| no_xml(&error))?;
         all_closed(text, &xml)?;
@@ -140,6 +142,15 @@ impl Drawing {
         self.script.extend([4, kind as u8]);
         self.add_number(offset);
         self.add_number(length);
+    }
+}
+
+/// Each end of a line as one newline (XML 1.0, section 2.11). Debian's roxmltree leaves those within CDATA as they are.
+fn line_ends(text: &str) -> Cow<'_, str> {
+    if text.contains('\r') {
+        Cow::Owned(text.replace("\r\n", "\n").replace('\r', "\n"))
+    } else {
+        Cow::Borrowed(text)
     }
 }
 

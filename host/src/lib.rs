@@ -1,7 +1,8 @@
 //! SVG files for the sealed panel.
 //!
 //! A [`Drawing`] is what the panel takes of an SVG file: a script of commands, and the strings that they have. [`check`] asks the library
-//! whether the panel takes it; a [`Refusal`] is the number that it answers with, and prints the words of docs/MANUAL.md.
+//! whether the panel takes it; a [`Refusal`] is the number that it answers with, and prints the words of docs/MANUAL.md. The four
+//! questions are asked of [`Tables`].
 //!
 //! ```
 //! use storkvanity::Drawing;
@@ -22,5 +23,5 @@ pub mod spell;
 mod style;
 
 pub use drawing::{Drawing, Fault};
-pub use library::check;
+pub use library::{check, Counts, Tables};
 pub use refusal::Refusal;

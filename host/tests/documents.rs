@@ -185,7 +185,8 @@ fn values_have_their_readings() {
 fn texts_entities_and_other_nodes() {
     becomes(
         "\u{feff}<?xml version='1.0'?>\n<?a b?><!DOCTYPE svg [<!ENTITY ns 'urn:n'><!ENTITY e 'x &amp; y'><!ENTITY f 'p<g/>q'>]><!-- c -->\
-         <svg xmlns:n='&ns;' n:a='&e;' width='a\n\tb&#10;'><text>1 &lt; &e;<![CDATA[ <2> ]]>&#xe9;\r\n3<?d?>4<!-- e --></text>&f;</svg>\n<!-- g -->",
+         <svg xmlns:n='&ns;' n:a='&e;' width='a\n\tb&#10;'><text>1 &lt; &e;<![CDATA[ <2>\r\n]]>\
+         &#xe9;\r\n3<?d?>4<!-- e --></text>&f;</svg>\n<!-- g -->",
         r#"
         other
         other
@@ -193,7 +194,7 @@ fn texts_entities_and_other_nodes() {
           attribute ? (another) "x & y"
           attribute width (none) "a  b\n"
           open text (none)
-            text "1 < x & y <2> é\n3"
+            text "1 < x & y <2>\né\n3"
             other
             text "4"
             other
