@@ -58,7 +58,7 @@ pub fn readings(place: Place, name: u8, value: &str) -> Vec<(Kind, &str)> {
 /// Some(()) if nothing but spaces is left.
 fn end(s: &mut Stream) -> Option<()> {
     s.skip_spaces();
-    s.at_end().then(|| ())
+    s.at_end().then_some(())
 }
 
 /// svgtypes' IRI: `#id`.
@@ -109,7 +109,7 @@ fn paint(value: &str) -> Option<&str> {
     s.skip_spaces();
     let fallback = s.slice_tail();
     let is_paint = matches!(fallback, "" | "none" | "currentColor") || is_color(fallback);
-    is_paint.then(|| link)
+    is_paint.then_some(link)
 }
 
 /// Whether this is a colour: one of Debian's svgtypes, or one of the forms that came later.
@@ -135,7 +135,7 @@ fn color_function(value: &str) -> Option<()> {
     loop {
         s.skip_bytes(|_, c| matches!(c, b' ' | b'\t' | b'\n' | b'\r' | b',' | b'/'));
         if s.at_end() {
-            return matches!(count, 3 | 4).then(|| ());
+            return matches!(count, 3 | 4).then_some(());
         }
         s.parse_number().ok()?;
         if s.is_curr_byte_eq(b'%') {
@@ -185,21 +185,21 @@ fn filter_function<'a>(s: &mut Stream<'a>) -> Option<Option<&'a str>> {
 /// The functions that have one amount, or none.
 fn known_function(name: &str) -> Option<()> {
     let amounts = ["brightness", "contrast", "grayscale", "invert", "opacity", "saturate", "sepia"];
-    (amounts.contains(&name) || matches!(name, "blur" | "hue-rotate")).then(|| ())
+    (amounts.contains(&name) || matches!(name, "blur" | "hue-rotate")).then_some(())
 }
 
 /// The amount of a function: a length without percent, an angle, or a number that is not negative, with percent or without.
 fn filter_amount(name: &str, s: &mut Stream) -> Option<()> {
     known_function(name)?;
     match name {
-        "blur" => (s.parse_length().ok()?.unit != LengthUnit::Percent).then(|| ()),
+        "blur" => (s.parse_length().ok()?.unit != LengthUnit::Percent).then_some(()),
         "hue-rotate" => s.parse_angle().ok().map(|_| ()),
         _ => {
             let amount = s.parse_number().ok()?;
             if s.is_curr_byte_eq(b'%') {
                 s.advance(1);
             }
-            (amount >= 0.0).then(|| ())
+            (amount >= 0.0).then_some(())
         }
     }
 }
@@ -211,7 +211,7 @@ fn drop_shadow(s: &mut Stream) -> Option<()> {
     loop {
         s.skip_spaces();
         match s.get_curr_byte()? {
-            b')' => return matches!(lengths, 2 | 3).then(|| ()),
+            b')' => return matches!(lengths, 2 | 3).then_some(()),
             b'0'..=b'9' | b'+' | b'-' | b'.' => {
                 if s.parse_length().ok()?.unit == LengthUnit::Percent {
                     return None;
@@ -307,7 +307,7 @@ fn font_size<'a>(s: &mut Stream<'a>) -> Option<&'a str> {
     let word = ascii_ident(s);
     let is_size =
         matches!(word, "xx-small" | "x-small" | "small" | "medium" | "large" | "x-large" | "xx-large" | "larger" | "smaller");
-    is_size.then(|| word)
+    is_size.then_some(word)
 }
 
 #[cfg(test)]

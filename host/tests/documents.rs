@@ -272,7 +272,7 @@ fn limits_are_checks() {
 /// A document that is cut off or has a byte changed is a fault, or check answers; nothing panics.
 #[test]
 fn damaged_documents() {
-    let whole = include_bytes!("damaged.svg");
+    let whole = include_bytes!("drawing.svg");
     let mut faults = 0;
     let mut see = |file: &[u8]| match Drawing::from_bytes(file) {
         Err(fault) => {

@@ -11,13 +11,13 @@ fn run(arguments: &[&str]) -> (Option<i32>, String, String) {
 
 #[test]
 fn check_prints_a_line_for_each_file() {
-    assert_eq!(run(&["check", "damaged.svg"]), (Some(0), "damaged.svg: 0: taken\n".to_string(), String::new()));
-    let (status, lines, errors) = run(&["check", "damaged.svg", "program.rs", "nowhere.svg", "damaged.svg"]);
+    assert_eq!(run(&["check", "drawing.svg"]), (Some(0), "drawing.svg: 0: taken\n".to_string(), String::new()));
+    let (status, lines, errors) = run(&["check", "drawing.svg", "program.rs", "nowhere.svg", "drawing.svg"]);
     let lines: Vec<&str> = lines.lines().collect();
     assert_eq!((status, lines.len(), errors.as_str()), (Some(1), 4, ""));
     assert_eq!(lines[1], "program.rs: no XML: line 1, column 1: unknown token");
     assert!(lines[2].starts_with("nowhere.svg: cannot be read: "));
-    assert_eq!(lines[3], "damaged.svg: 0: taken");
+    assert_eq!(lines[3], "drawing.svg: 0: taken");
 }
 
 #[test]
