@@ -25,7 +25,7 @@ fn fault(xml: &str) -> String {
 fn namespaces_go_by_their_uri() {
     becomes(
         r##"<s:svg xmlns:s="http://www.w3.org/2000/svg" xmlns:l="http://www.w3.org/1999/xlink" xmlns:i="urn:i" width="1" s:height="2"
-            l:href="#a" xml:space="preserve" i:label="b"><g fill="red"/><i:path d="M0"/></s:svg>"##,
+            l:href="#a" xml:space="preserve" i:label="b" i:fill="url(#c)"><g fill="red"/><i:path d="M0"/></s:svg>"##,
         r##"
         open svg (svg)
           attribute width (none) "1"
@@ -34,6 +34,7 @@ fn namespaces_go_by_their_uri() {
             reading iri "a" at 1
           attribute space (xml) "preserve"
           attribute ? (another) "b"
+          attribute fill (another) "url(#c)"
           open g (none)
             attribute fill (none) "red"
           close
