@@ -1,0 +1,4 @@
+pub mod Summing
+pub mod Putting
+pub mod Quoting
+pub mod Contents
