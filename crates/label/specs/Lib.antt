@@ -1,2 +1,3 @@
 pub mod Quotes
 pub mod Content
+pub mod Walk
