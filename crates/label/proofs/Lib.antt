@@ -6,3 +6,4 @@ pub mod Holders
 pub mod Growing
 pub mod Walking
 pub mod Telling
+pub mod Trimming

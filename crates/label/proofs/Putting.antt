@@ -73,7 +73,8 @@ pub record Putting (w : XmlSpace) (s chars place₀ : List ℕ) (from : Cursor) 
   pub text : sets place (d .size) (trimEach w (d .prev) chars (textsIn k (eventsAt s chars c)))
       ≡ sets place₀ 0 (trimEach w 48 chars (textsFrom s chars from))
 
-pub putting-none : (w : XmlSpace) (s chars place : List ℕ) (c : Cursor) → Quotable s chars c → totalSize (textsFrom s chars c) ≤ length place →
+pub putting-none : (w : XmlSpace) (s chars place : List ℕ) (c : Cursor) → Quotable s chars c →
+    totalSize (textsFrom s chars c) ≤ length place →
     Putting w s chars place c place c 0 (record { size = 0; prev = 48 })
 putting-none w s chars place c q h = record {
   fit = q .fit;

@@ -279,8 +279,8 @@ module _ (script chars : List ℕ) (e : ℕ) (ns ats bs : List ℕ) (s : State) 
           (told : done (treeOf ns₁ ats₁ bs₁ k) ≡ parseSvgElement X tag false (s .p) t) where
         grown : Under (length chars) e t (treeOf ns₁ ats₁ bs₁ k) (s .p)
         grown =
-            element-under (length chars) e t (w .sound) (s .p) (w .up) (w .below) tag (ap isElement named ∙ tag-element X (eqb (s .p) e) is) false X (o .element)
-            (treeOf ns₁ ats₁ bs₁ k) told
+            element-under (length chars) e t (w .sound) (s .p) (w .up) (w .below) tag
+            (ap isElement named ∙ tag-element X (eqb (s .p) e) is) false X (o .element) (treeOf ns₁ ats₁ bs₁ k) told
 
         so-far : inner (treeOf ns₁ ats₁ bs₁ k) ≡ whole script chars e ns ats bs s ns ats bs
         so-far = ap (λ (y : Out Tree). then y inner) told ∙ content

@@ -4,6 +4,7 @@ use tree::Counts;
 
 pub mod content;
 pub mod quote;
+pub mod whole;
 pub mod within;
 
 // A place inside a text element, the node of the element that is open there, and how much of the tables is taken.

@@ -211,7 +211,7 @@ fn advance(
 }
 
 // All nodes inside the text element e, from the cursor `from` inside it on. The answer has the cursor behind it.
-fn inside(
+pub fn inside(
     script: &[u8],
     characters: &[u8],
     nodes: &mut [u32],
