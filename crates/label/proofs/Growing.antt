@@ -101,7 +101,8 @@ module _ (size e : ℕ) (t : Tree) (s : Sound size e t) (p : ℕ) (up : e ≤ p)
         let g = element-grown size t (s .tidy) tag is p below b x lies u h in
         let texts : u .textCount ≡ t .textCount = ap (λ (v : Tree). v .textCount) (m .0) in
         with-node u ELEMENT tag (t .attributeCount) (t .attributeCount + length (entriesOf t p tag b x))
-        (ap (λ (v : Tree). v .nodes) (m .0)) (g .one) (omega (arith, m .1)) (g .tidy) (g .few .0, g .few .1, omega (arith, texts, s .few .2))
+        (ap (λ (v : Tree). v .nodes) (m .0)) (g .one)
+        (omega (arith, m .1)) (g .tidy) (g .few .0, g .few .1, omega (arith, texts, s .few .2))
 
   -- A text node.
   module _ (chars : List ℕ) (from : List Source) where

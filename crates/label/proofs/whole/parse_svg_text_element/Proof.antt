@@ -1,7 +1,8 @@
 use mathlib.Core.Path.{_∙_}
 use native.Mathlib.Omega.{arith}
 use Rattle.label.proofs.Telling.{element-done, element-none, element-behind}
-use Rattle.label.proofs.Trimming.{label-ready, label-values, label-refused, label-within, inside-refused, label-trims, label-done, label-leaves, inside-done, inside-none}
+use Rattle.label.proofs.Trimming.{label-ready, label-values, label-refused, label-within, inside-refused}
+use Rattle.label.proofs.Trimming.{label-trims, label-done, label-leaves, inside-done, inside-none}
 use borrow.Author.Needs.{needs}
 use Rattle.label.proofs.whole.parse_svg_text_element.Statement.{statement}
 use Rattle.label.proofs.whole.parse_svg_text_element.Tie as tie
