@@ -36,7 +36,7 @@ module _ (chars : List ℕ) (t : Tree) where
       ap (λ j. pick (eqb j 0) (λ u. w)
       (λ u. pick (sameBytes (valueAtEntry chars t j) preserveWord) (λ v. preserve) (λ v. default))) (id-same t i AId.Space)
 
-  space-same : (i : ℕ) → spaceOf chars seen i ≡ spaceOf chars t i
+  pub space-same : (i : ℕ) → spaceOf chars seen i ≡ spaceOf chars t i
   unfolding spaceOf
   space-same i =
       rw (holder-same t AId.Space (i + 1) (i + 1))

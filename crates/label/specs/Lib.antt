@@ -1,0 +1,4 @@
+pub mod Quotes
+pub mod Content
+pub mod Walk
+pub mod Whole

@@ -1,0 +1,22 @@
+// The inside of a text element: the texts that it holds and that its trefs quote, and the elements that are read in it.
+use script::cursor::Cursor;
+use tree::Counts;
+
+pub mod content;
+pub mod quote;
+pub mod whole;
+pub mod within;
+
+// A place inside a text element, the node of the element that is open there, and how much of the tables is taken.
+pub struct State {
+    pub c: Cursor,
+    pub p: u32,
+    pub counts: Counts,
+}
+
+// What a turn of the walk comes to; at the end, how much of the tables is taken, and the cursor behind the text element.
+pub enum Turn {
+    On(State),
+    Refused(u32),
+    End(Counts, Cursor),
+}

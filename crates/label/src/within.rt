@@ -1,0 +1,241 @@
+// The inside of a text element (`parse_svg_text_element_impl`), one node after another.
+use crate::State;
+use crate::Turn;
+use crate::content::code_of;
+use crate::content::is_text_content;
+use crate::content::text_tag_of;
+use crate::quote::append_quoted;
+use element::Parsed;
+use element::parse::parse_svg_element;
+use links::link::FoundElement;
+use links::link::quoted;
+use names::eid;
+use script::cursor::Cursor;
+use text::Source;
+use text::append::append_text;
+use text::space::space_of;
+use tree::Counts;
+use tree::Outcome;
+use tree::word;
+use tree::word::node_word;
+use walk::node::Item;
+use walk::node::Opened;
+use walk::node::next_item;
+use walk::node::past_element;
+ghost use mathlib.Core.Path.{_≡_};
+ghost use mathlib.Core.List.{[], _∷_};
+ghost use Prim.Native.Nat.{_+_, _≤_, _<_};
+ghost use lib.ListN.{length};
+ghost use Rattle.model.specs.Check.{mostBytes};
+ghost use Rattle.model.specs.Drawing.{events, quoted, sourceAt};
+ghost use Rattle.model.specs.Text.{appendText};
+ghost use Rattle.script.specs.Step.{markOf};
+ghost use Rattle.walk.specs.Nodes.{elementOf, Standing};
+ghost use Rattle.tree.specs.Lent.{treeOf, outOf};
+ghost use Rattle.label.specs.Walk.{Holding, quoteOf, Lies, Within, Opening, TurnFit, InsideFit};
+
+// A text node below p, made from the text of the script that stands at `own`.
+fn add_text(
+    nodes: &mut [u32],
+    attributes: &[u32],
+    text: &mut [u8],
+    characters: &[u8],
+    counts: Counts,
+    p: u32,
+    own: Cursor,
+    size: u32,
+) -> Outcome
+    requires { ⌜ Holding (length (now characters)) (treeOf (now nodes) (now attributes) (now text) counts) p ⌝ }
+    requires { ⌜ own .chars + size ≤ length (now characters) ⌝ }
+    requires { ⌜ (length (now characters) ≤ mostBytes) × (own .texts ≤ mostBytes) ⌝ }
+    ensures { λ r. ⌜ outOf (now (nodes .exit)) (now (attributes .entry)) (now (text .exit)) r
+        ≡ appendText (now (characters .entry)) (sourceAt (now (characters .entry)) (markOf own) size ∷ []) p
+        (treeOf (now (nodes .entry)) (now (attributes .entry)) (now (text .entry)) counts) ⌝ }
+{
+    let space = space_of(nodes, attributes, characters, p);
+    let texts = own.texts as u32;
+    let source = Source {
+        number: texts + 1,
+        start: own.chars as u32,
+        size,
+    };
+    append_text(nodes, text, characters, counts, p, source, space)
+}
+
+// The text node of the tref x below p, made from all texts that it quotes; there is none for nothing.
+fn add_quoted(
+    script: &[u8],
+    characters: &[u8],
+    nodes: &mut [u32],
+    attributes: &[u32],
+    text: &mut [u8],
+    counts: Counts,
+    p: u32,
+    x: Opened,
+) -> Outcome
+    requires { ⌜ Holding (length (now characters)) (treeOf (now nodes) (now attributes) (now text) counts) p ⌝ }
+    requires { ⌜ Standing (now script) x ⌝ }
+    requires { ⌜ Lies (now characters) (events (now script) (now characters)) ⌝ }
+    ensures { λ r. ⌜ outOf (now (nodes .exit)) (now (attributes .entry)) (now (text .exit)) r
+        ≡ quoteOf (now (characters .entry)) (quoted (events (now (script .entry)) (now (characters .entry)))
+        (elementOf (now (script .entry)) (now (characters .entry)) x)) p
+        (treeOf (now (nodes .entry)) (now (attributes .entry)) (now (text .entry)) counts) ⌝ }
+{
+    match quoted(script, characters, x) {
+        FoundElement::At(l) => {
+            let space = space_of(nodes, attributes, characters, p);
+            append_quoted(script, characters, nodes, text, counts, p, l.inside, space)
+        }
+        FoundElement::Nothing => Outcome::Done(counts),
+    }
+}
+
+// An element inside the text element e: its node, and its inside comes next; a tref quotes, and its own inside is passed over. So is an
+// element that is not read here.
+fn begin(
+    script: &[u8],
+    characters: &[u8],
+    nodes: &mut [u32],
+    attributes: &mut [u32],
+    text: &mut [u8],
+    e: u32,
+    s: State,
+    x: Opened,
+) -> Turn
+    requires { ⌜ Within (now script) (now characters) (now nodes) (now attributes) (now text) e s ⌝ }
+    requires { ⌜ Opening (now script) (now characters) s x ⌝ }
+    ensures { λ r. ⌜ TurnFit (now (script .entry)) (now (characters .entry)) e (now (nodes .entry)) (now (attributes .entry))
+        (now (text .entry)) s (now (nodes .exit)) (now (attributes .exit)) (now (text .exit)) r ⌝ }
+{
+    let code = code_of(x.name);
+    let counts = s.counts;
+    let inside = x.inside;
+    if !is_text_content(x.name, x.space, s.p == e) {
+        let behind = past_element(script, characters, inside);
+        return Turn::On(State {
+            c: behind,
+            p: s.p,
+            counts,
+        });
+    }
+    match parse_svg_element(
+        script,
+        characters,
+        nodes,
+        attributes,
+        counts,
+        s.p,
+        text_tag_of(code),
+        false,
+        x,
+    ) {
+        Parsed::Refused(k) => Turn::Refused(k),
+        Parsed::Done(taken, behind) => {
+            if code != eid::TREF {
+                return Turn::On(State {
+                    c: behind,
+                    p: counts.nodes,
+                    counts: taken,
+                });
+            }
+            match add_quoted(
+                script,
+                characters,
+                nodes,
+                attributes,
+                text,
+                taken,
+                counts.nodes,
+                x,
+            ) {
+                Outcome::Refused(k) => Turn::Refused(k),
+                Outcome::Done(more) => {
+                    let past = past_element(script, characters, behind);
+                    Turn::On(State {
+                        c: past,
+                        p: s.p,
+                        counts: more,
+                    })
+                }
+            }
+        }
+    }
+}
+
+// What stands at the place of the state.
+fn advance(
+    script: &[u8],
+    characters: &[u8],
+    nodes: &mut [u32],
+    attributes: &mut [u32],
+    text: &mut [u8],
+    e: u32,
+    s: State,
+) -> Turn
+    requires { ⌜ Within (now script) (now characters) (now nodes) (now attributes) (now text) e s ⌝ }
+    ensures { λ r. ⌜ TurnFit (now (script .entry)) (now (characters .entry)) e (now (nodes .entry)) (now (attributes .entry))
+        (now (text .entry)) s (now (nodes .exit)) (now (attributes .exit)) (now (text .exit)) r ⌝ }
+{
+    let c = s.c;
+    let counts = s.counts;
+    match next_item(script, characters, c) {
+        Item::Begin(x) => begin(script, characters, nodes, attributes, text, e, s, x),
+        Item::Text(own, len, n) => {
+            match add_text(nodes, attributes, text, characters, counts, s.p, own, len) {
+                Outcome::Refused(k) => Turn::Refused(k),
+                Outcome::Done(more) => Turn::On(State {
+                    c: n,
+                    p: s.p,
+                    counts: more,
+                }),
+            }
+        }
+        Item::Other(n) => Turn::On(State {
+            c: n,
+            p: s.p,
+            counts,
+        }),
+        Item::Close(n) => {
+            if s.p == e {
+                return Turn::End(counts, n);
+            }
+            let parent = node_word(nodes, s.p, word::PARENT);
+            Turn::On(State {
+                c: n,
+                p: parent - 1,
+                counts,
+            })
+        }
+        Item::End => Turn::End(counts, c),
+    }
+}
+
+// All nodes inside the text element e, from the cursor `from` inside it on. The answer has the cursor behind it.
+pub fn inside(
+    script: &[u8],
+    characters: &[u8],
+    nodes: &mut [u32],
+    attributes: &mut [u32],
+    text: &mut [u8],
+    e: u32,
+    first: State,
+) -> Parsed
+    requires { ⌜ Within (now script) (now characters) (now nodes) (now attributes) (now text) e first ⌝ }
+    ensures { λ r. ⌜ InsideFit (now (script .entry)) (now (characters .entry)) e (now (nodes .entry)) (now (attributes .entry))
+        (now (text .entry)) first (now (nodes .exit)) (now (attributes .exit)) (now (text .exit)) r ⌝ }
+{
+    let mut s = first;
+    loop {
+        match advance(script, characters, nodes, attributes, text, e, s) {
+            Turn::On(n) => {
+                s = n;
+            }
+            Turn::Refused(k) => {
+                return Parsed::Refused(k);
+            }
+            Turn::End(counts, c) => {
+                return Parsed::Done(counts, c);
+            }
+        }
+    }
+}
