@@ -1,3 +1,4 @@
+pub mod Aiming
 pub mod Comparing
 pub mod Descending
 pub mod Lasting

@@ -1,25 +1,31 @@
 -- An element and the nodes below it, pair by pair. Assumes nothing.
-use mathlib.Core.Path.{_≡_, refl, sym, ap, _∙_}
+use mathlib.Core.Path.{_≡_, refl, sym, ap, _∙_, subst}
 use mathlib.Core.Bool.{Bool, true, false}
 use mathlib.Core.List.{List, [], _∷_, _++_}
 use mathlib.Core.Option.{Option, none, some}
-use Prim.Native.Nat.{ℕ, _-_}
+use Prim.Native.Nat.{ℕ, _+_, _-_, _<_, _≤_}
 use borrow.Author.Tests.{ne-eqb}
 use lib.Dec.{leb}
+use lib.ListN.{length}
 use Rattle.model.specs.Base.{pick, given, Pair}
 use Rattle.model.specs.AId
-use Rattle.model.specs.Drawing.{Part, Value, readingsOf}
+use Rattle.model.specs.Drawing.{Part, Value, events, readingsOf}
 use Rattle.model.specs.Tables.{Tree, lastWithId, elementById}
-use Rattle.model.specs.Repair.{descendants, linkKind, linkOf, nodeAttribute, Cut, cutName, cutAt, applyCut, applied}
+use Rattle.model.specs.Repair.{upFrom, descendants, linkKind, linkOf, nodeAttribute, Cut, cutName, cutAt, applyCut, applied}
+use Rattle.model.specs.Theorems.Inside.{all-inside}
+use Rattle.model.specs.Theorems.Images.{values-bare}
 use Rattle.model.specs.Theorems.Kept.{Tidy}
 use Rattle.model.specs.Theorems.GoingOn.{passing, leadsTo, targetOf, nodesAt, cutsAlong, withEach, goingOn}
+use Rattle.script.specs.declared.cursor.Cursor.{Cursor}
+use Rattle.script.specs.Step.{Fit}
 use Rattle.tree.specs.declared.Counts.{Counts}
 use Rattle.tree.specs.Lent.{readOf}
 use Rattle.tree.proofs.Alike.{last-same}
 use Rattle.repair.specs.declared.lead.Aim.{Aim}
-use Rattle.repair.specs.Links.{valuesOf}
-use Rattle.repair.specs.Passes.{seenOf, Aimed, cutBack, cutNodes}
-use Rattle.repair.proofs.Turning.{by-func, link-seen, cut-tidy, cut-aimed}
+use Rattle.repair.specs.Links.{valuesOf, counted}
+use Rattle.repair.specs.Passes.{seenOf, Mendable, Aimed, cutBack, cutNodes, cutPairs}
+use Rattle.repair.proofs.Turning.{by-func, no-id, link-seen, cut-tidy, cut-long, cut-aimed}
+use Rattle.repair.proofs.Descending.{up-step, up-none, descendants-alike}
 
 -- Where the link of a node leads.
 target-compared : (chars : List ℕ) (values : List Value) (t : Tree) (aim : Aim) → Aimed chars t aim → (m : ℕ)
@@ -103,6 +109,13 @@ module _ (size : ℕ) (chars : List ℕ) (values : List Value) (bare : readingsO
   nodes-tidy [] t g = g
   nodes-tidy (m ∷ ms) t g = nodes-tidy ms (applyCut t (cutAt t k m)) (cut-tidy size chars values bare k other t g m)
 
+  pub nodes-long : (ms : List ℕ) (t : Tree) → Tidy size t → length (cutNodes chars values k t ms .attributes) ≡ length (t .attributes)
+  unfolding cutsAlong applied
+  nodes-long [] t g = refl
+  nodes-long (m ∷ ms) t g =
+      nodes-long ms (applyCut t (cutAt t k m)) (cut-tidy size chars values bare k other t g m)
+      ∙ cut-long size chars values bare k other t g m
+
   pub nodes-aimed : (aim : Aim) (ms : List ℕ) (t : Tree) → Tidy size t → Aimed chars t aim → Aimed chars (cutNodes chars values k t ms) aim
   unfolding cutsAlong applied
   nodes-aimed aim [] t g w = w
@@ -111,14 +124,10 @@ module _ (size : ℕ) (chars : List ℕ) (values : List Value) (bare : readingsO
       (cut-aimed size chars values bare k other t g m aim w)
 
 module _ (chars : List ℕ) (values : List Value) (k i : ℕ) where
-  -- The tree behind the cuts of pairs.
-  abbrev pub behind : Tree → List Pair → Tree
-  behind t ps = applied t (goingOn chars values k t ps)
-
   -- The first pair, and the others in the tree that it leaves.
   pub pair-first : (t : Tree) (j : ℕ) (js : List ℕ) (more : List Pair)
-      → behind t (withEach i (j ∷ js) more)
-      ≡ behind (cutNodes chars values k t (nodesAt chars values k t i j)) (withEach i js more)
+      → cutPairs chars values k t (withEach i (j ∷ js) more)
+      ≡ cutPairs chars values k (cutNodes chars values k t (nodesAt chars values k t i j)) (withEach i js more)
   unfolding goingOn withEach
   pair-first t j js more =
       applied-more t (cutsAlong chars values k t (nodesAt chars values k t i j))
@@ -126,9 +135,66 @@ module _ (chars : List ℕ) (values : List Value) (k i : ℕ) where
 
   -- The pairs of one element, and the others in the tree that they leave.
   pub pairs-first : (js : List ℕ) (t : Tree) (more : List Pair)
-      → behind t (withEach i js more) ≡ behind (behind t (withEach i js [])) more
+      → cutPairs chars values k t (withEach i js more) ≡ cutPairs chars values k (cutPairs chars values k t (withEach i js [])) more
   unfolding goingOn withEach applied
   pairs-first [] t more = refl
   pairs-first (j ∷ js) t more =
       pair-first t j js more ∙ pairs-first js (cutNodes chars values k t (nodesAt chars values k t i j)) more
-      ∙ ap (λ (u : Tree). behind u more) (sym (pair-first t j js []))
+      ∙ ap (λ (u : Tree). cutPairs chars values k u more) (sym (pair-first t j js []))
+
+-- THE LOOP
+
+-- In the middle of the nodes below element i, up to the node `end`: j is next, and what is still to do leaves what all of it leaves.
+pub record Pairs (script chars ns : List ℕ) (c : Counts) (aim : Aim) (i end : ℕ) (es₀ es : List ℕ) (j : ℕ) (hint : Cursor) : Type 0 where
+  pub mendable : Mendable script chars ns es c hint
+  pub aimed : Aimed chars (seenOf ns es c) aim
+  pub inside : end ≤ c .nodes
+  pub long : length es ≡ length es₀
+  pub same : cutPairs chars (valuesOf script chars) (aim .pass) (seenOf ns es c) (withEach i (upFrom j (end - j)) [])
+      ≡ cutPairs chars (valuesOf script chars) (aim .pass) (seenOf ns es₀ c) (withEach i (upFrom i (end - i)) [])
+
+pub pairs-start : (script chars ns : List ℕ) (c : Counts) (aim : Aim) (i end : ℕ) (es : List ℕ) (hint : Cursor)
+    → Mendable script chars ns es c hint → Aimed chars (seenOf ns es c) aim → end ≤ c .nodes
+    → Pairs script chars ns c aim i end es es i hint
+pairs-start script chars ns c aim i end es hint g a h = record { mendable = g; aimed = a; inside = h; long = refl; same = refl }
+
+module _ (script chars ns : List ℕ) (c : Counts) (aim : Aim) (i end : ℕ) (es₀ es : List ℕ) (j : ℕ) (hint : Cursor)
+    (q : Pairs script chars ns c aim i end es₀ es j hint) (own : aim .element ≡ i) where
+  pub pairs-turn : j < end → (es′ : List ℕ) (n : Cursor)
+      → seenOf ns es′ c ≡ cutNodes chars (valuesOf script chars) (aim .pass) (seenOf ns es c)
+      (nodesAt chars (valuesOf script chars) (aim .pass) (seenOf ns es c) (aim .element) j)
+      → Fit script n → Pairs script chars ns c aim i end es₀ es′ (j + 1) n
+  pairs-turn l es′ n e f =
+      let t : Tree = seenOf ns es c in
+      let vs : List Value = valuesOf script chars in
+      let bare = values-bare (length chars) (events script chars) (all-inside script chars (q .mendable .drawn .checked)) in
+      let other = no-id (aim .pass) (q .aimed .last) in
+      let g = q .mendable .tidy in
+      let ms : List ℕ = nodesAt chars vs (aim .pass) t (aim .element) j in
+      record {
+        mendable = record {
+          drawn = record { checked = q .mendable .drawn .checked; fit = f };
+          tidy = subst (Tidy (length chars)) (sym e) (nodes-tidy (length chars) chars vs bare (aim .pass) other ms t g);
+        };
+        aimed = subst (λ (u : Tree). Aimed chars u aim) (sym e)
+            (nodes-aimed (length chars) chars vs bare (aim .pass) other aim ms t g (q .aimed));
+        inside = q .inside;
+        long = ap (λ (u : Tree). length (u .attributes)) e
+            ∙ nodes-long (length chars) chars vs bare (aim .pass) other ms t g ∙ q .long;
+        same =
+            ap (λ (u : Tree). cutPairs chars vs (aim .pass) u (withEach i (upFrom (j + 1) (end - (j + 1))) []))
+            (e ∙ ap (λ (x : ℕ). cutNodes chars vs (aim .pass) t (nodesAt chars vs (aim .pass) t x j)) own)
+            ∙ sym (pair-first chars vs (aim .pass) i t j (upFrom (j + 1) (end - (j + 1))) [])
+            ∙ ap (λ (xs : List ℕ). cutPairs chars vs (aim .pass) t (withEach i xs [])) (sym (up-step j end l))
+            ∙ q .same;
+      }
+
+  pub pairs-done : end ≤ j → (k : ℕ) → aim .pass ≡ k → descendants (counted ns (c .nodes)) i ≡ upFrom i (end - i)
+      → seenOf ns es c ≡ cutPairs chars (valuesOf script chars) k (seenOf ns es₀ c) (withEach i (descendants (seenOf ns es₀ c) i) [])
+  unfolding withEach goingOn applied
+  pairs-done l k z d =
+      sym (ap (λ (xs : List ℕ). cutPairs chars (valuesOf script chars) (aim .pass) (seenOf ns es c) (withEach i xs [])) (up-none j end l))
+      ∙ q .same
+      ∙ ap (λ (xs : List ℕ). cutPairs chars (valuesOf script chars) (aim .pass) (seenOf ns es₀ c) (withEach i xs []))
+      (sym d ∙ descendants-alike (counted ns (c .nodes)) (seenOf ns es₀ c) refl refl i)
+      ∙ ap (λ (x : ℕ). cutPairs chars (valuesOf script chars) x (seenOf ns es₀ c) (withEach i (descendants (seenOf ns es₀ c) i) [])) z

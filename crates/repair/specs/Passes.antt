@@ -4,13 +4,13 @@ use Prim.Native.Nat.{ℕ, _+_, _≤_}
 use mathlib.Core.List.{List}
 use lib.Dec.{eqb, leb}
 use lib.ListN.{length, replicate}
-use Rattle.model.specs.Base.{pick, or}
+use Rattle.model.specs.Base.{pick, or, Pair}
 use Rattle.model.specs.AId
 use Rattle.model.specs.Drawing.{Value}
 use Rattle.model.specs.Tables.{Tree, attributeId, elementById}
 use Rattle.model.specs.Repair.{elementId, cutName, cutAt, applyCut, applied}
 use Rattle.model.specs.Theorems.Kept.{Tidy}
-use Rattle.model.specs.Theorems.GoingOn.{leadsTo, cutsAlong}
+use Rattle.model.specs.Theorems.GoingOn.{leadsTo, cutsAlong, goingOn}
 use Rattle.script.specs.declared.cursor.Cursor.{Cursor}
 use Rattle.tree.specs.declared.Counts.{Counts}
 use Rattle.tree.specs.Lent.{treeOf}
@@ -42,3 +42,7 @@ cutBack chars values k i t m = pick (leadsTo chars values k t i m) (λ u. applyC
 -- The tree with the values of these nodes cut, one after another.
 abbrev pub cutNodes : List ℕ → List Value → ℕ → Tree → List ℕ → Tree
 cutNodes chars values k t ms = applied t (cutsAlong chars values k t ms)
+
+-- The tree behind the cuts of pairs, each of an element and a node below it.
+abbrev pub cutPairs : List ℕ → List Value → ℕ → Tree → List Pair → Tree
+cutPairs chars values k t ps = applied t (goingOn chars values k t ps)
