@@ -4,5 +4,6 @@ pub mod Descending
 pub mod Lasting
 pub mod Linking
 pub mod Pairing
+pub mod Passing
 pub mod Turning
 pub mod Writing

@@ -6,3 +6,4 @@ pub mod last;
 pub mod lead;
 pub mod link;
 pub mod pair;
+pub mod pass;
