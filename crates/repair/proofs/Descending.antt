@@ -1,0 +1,92 @@
+-- The nodes below a node follow it: they are a range of the table. Assumes nothing.
+use mathlib.Core.Path.{_≡_, refl, sym, ap, _∙_}
+use mathlib.Core.List.{List, [], _∷_, _++_, append-assoc, append-nil}
+use Prim.Native.Nat.{ℕ, zero, suc, _+_, _-_, _<_, _≤_}
+use native.Mathlib.Omega.{arith}
+use borrow.Author.Tests.{le-leb, lt-leb}
+use lib.Dec.{leb}
+use Rattle.model.specs.Base.{pick}
+use Rattle.model.specs.Tables.{Tree, word, parentOf}
+use Rattle.model.specs.Repair.{upFrom, belowFrom, descendants}
+
+-- One more node at the end.
+pub up-more : (n i : ℕ) → upFrom i (suc n) ≡ upFrom i n ++ ((i + n) ∷ [])
+unfolding upFrom
+up-more zero i = let e : i ≡ i + 0 = omega arith in ap (λ (x : ℕ). x ∷ []) e
+up-more (suc n) i =
+    let e : i + 1 + n ≡ i + suc n = omega arith in
+    ap (λ (l : List ℕ). i ∷ l) (up-more n (i + 1) ∙ ap (λ (x : ℕ). upFrom (i + 1) n ++ (x ∷ [])) e)
+
+-- The nodes from i on, up to n, where there is one.
+pub up-step : (i n : ℕ) → i < n → upFrom i (n - i) ≡ i ∷ upFrom (i + 1) (n - (i + 1))
+unfolding upFrom
+up-step i n h = let e : n - i ≡ suc (n - (i + 1)) = omega arith in ap (upFrom i) e
+
+pub up-none : (i n : ℕ) → n ≤ i → upFrom i (n - i) ≡ []
+unfolding upFrom
+up-none i n h = let e : n - i ≡ 0 = omega arith in ap (upFrom i) e
+
+-- The nodes below i are those before j, and then those from j on.
+pub record Passed (t : Tree) (i j : ℕ) : Type 0 where
+  pub low : i < j
+  pub high : j ≤ t .nodeCount
+  pub same : descendants t i ≡ upFrom i (j - i) ++ belowFrom t i (upFrom j (t .nodeCount - j))
+
+pub passed-first : (t : Tree) (i : ℕ) → i < t .nodeCount → Passed t i (i + 1)
+unfolding descendants upFrom
+passed-first t i h =
+    let e : 1 ≡ i + 1 - i = omega arith in
+    record {
+      low = omega arith;
+      high = omega arith;
+      same = ap (λ (n : ℕ). upFrom i n ++ belowFrom t i (upFrom (i + 1) (t .nodeCount - (i + 1)))) e;
+    }
+
+module _ (t : Tree) (i j : ℕ) (p : Passed t i j) where
+  -- What comes next is below i too.
+  pub passed-more : j < t .nodeCount → i < parentOf t j → Passed t i (j + 1)
+  unfolding belowFrom
+  passed-more h w =
+      let n : ℕ = t .nodeCount in
+      let low : i < j = p .low in
+      let e : i + (j - i) ≡ j = omega arith in
+      let d : suc (j - i) ≡ j + 1 - i = omega arith in
+      let next : belowFrom t i (upFrom j (n - j)) ≡ j ∷ belowFrom t i (upFrom (j + 1) (n - (j + 1))) =
+      rw (up-step j n h, le-leb (i + 1) (parentOf t j) (omega arith)) refl in
+      let rest : List ℕ = belowFrom t i (upFrom (j + 1) (n - (j + 1))) in
+      record {
+        low = omega arith;
+        high = omega arith;
+        same = p .same ∙ ap (λ (l : List ℕ). upFrom i (j - i) ++ l) next ∙ sym (append-assoc (upFrom i (j - i)) (j ∷ []) rest)
+            ∙ ap (λ (l : List ℕ). l ++ rest)
+            (ap (λ (x : ℕ). upFrom i (j - i) ++ (x ∷ [])) (sym e) ∙ sym (up-more (j - i) i) ∙ ap (upFrom i) d);
+      }
+
+  -- It is not.
+  pub passed-stop : j < t .nodeCount → parentOf t j ≤ i → descendants t i ≡ upFrom i (j - i)
+  unfolding belowFrom
+  passed-stop h w =
+      let n : ℕ = t .nodeCount in
+      let next : belowFrom t i (upFrom j (n - j)) ≡ [] = rw (up-step j n h, lt-leb (i + 1) (parentOf t j) (omega arith)) refl in
+      p .same ∙ ap (λ (l : List ℕ). upFrom i (j - i) ++ l) next ∙ append-nil (upFrom i (j - i))
+
+  -- Nothing comes.
+  pub passed-all : t .nodeCount ≤ j → descendants t i ≡ upFrom i (j - i)
+  unfolding belowFrom
+  passed-all h =
+      p .same ∙ ap (λ (l : List ℕ). upFrom i (j - i) ++ belowFrom t i l) (up-none j (t .nodeCount) h) ∙ append-nil (upFrom i (j - i))
+
+-- Only the nodes and their count are read.
+below-alike : (t u : Tree) → t .nodes ≡ u .nodes → (i : ℕ) (js : List ℕ) → belowFrom t i js ≡ belowFrom u i js
+unfolding belowFrom
+below-alike t u e i [] = refl
+below-alike t u e i (j ∷ js) =
+    ap (λ (l : List ℕ). pick (leb (i + 1) (parentOf t j)) (λ x. j ∷ l) (λ x. [])) (below-alike t u e i js)
+    ∙ ap (λ (ns : List ℕ). pick (leb (i + 1) (word ns j 1)) (λ x. j ∷ belowFrom u i js) (λ x. [])) e
+
+pub descendants-alike : (t u : Tree) → t .nodes ≡ u .nodes → t .nodeCount ≡ u .nodeCount → (i : ℕ) → descendants t i ≡ descendants u i
+unfolding descendants
+descendants-alike t u e n i =
+    ap (λ (l : List ℕ). i ∷ l)
+    (below-alike t u e i (upFrom (i + 1) (t .nodeCount - (i + 1)))
+    ∙ ap (λ (k : ℕ). belowFrom u i (upFrom (i + 1) (k - (i + 1)))) n)

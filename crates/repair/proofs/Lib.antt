@@ -1,0 +1,9 @@
+pub mod Aiming
+pub mod Comparing
+pub mod Descending
+pub mod Lasting
+pub mod Linking
+pub mod Pairing
+pub mod Passing
+pub mod Turning
+pub mod Writing

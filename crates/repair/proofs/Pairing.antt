@@ -1,0 +1,200 @@
+-- An element and the nodes below it, pair by pair. Assumes nothing.
+use mathlib.Core.Path.{_≡_, refl, sym, ap, _∙_, subst}
+use mathlib.Core.Bool.{Bool, true, false}
+use mathlib.Core.List.{List, [], _∷_, _++_}
+use mathlib.Core.Option.{Option, none, some}
+use Prim.Native.Nat.{ℕ, _+_, _-_, _<_, _≤_}
+use borrow.Author.Tests.{ne-eqb}
+use lib.Dec.{leb}
+use lib.ListN.{length}
+use Rattle.model.specs.Base.{pick, given, Pair}
+use Rattle.model.specs.AId
+use Rattle.model.specs.Drawing.{Part, Value, events, readingsOf}
+use Rattle.model.specs.Tables.{Tree, lastWithId, elementById}
+use Rattle.model.specs.Repair.{upFrom, descendants, linkKind, linkOf, nodeAttribute, Cut, cutName, cutAt, applyCut, applied}
+use Rattle.model.specs.Theorems.Inside.{all-inside}
+use Rattle.model.specs.Theorems.Images.{values-bare}
+use Rattle.model.specs.Theorems.Kept.{Tidy}
+use Rattle.model.specs.Theorems.GoingOn.{passing, leadsTo, targetOf, nodesAt, cutsAlong, withEach, goingOn}
+use Rattle.script.specs.declared.cursor.Cursor.{Cursor}
+use Rattle.script.specs.Step.{Fit}
+use Rattle.tree.specs.declared.Counts.{Counts}
+use Rattle.tree.specs.Lent.{readOf}
+use Rattle.tree.proofs.Alike.{last-same}
+use Rattle.repair.specs.declared.lead.Aim.{Aim}
+use Rattle.repair.specs.Links.{valuesOf, counted}
+use Rattle.repair.specs.Passes.{seenOf, Mendable, Aimed, cutBack, cutNodes, cutPairs}
+use Rattle.repair.proofs.Turning.{by-func, no-id, link-seen, cut-tidy, cut-long, cut-aimed}
+use Rattle.repair.proofs.Descending.{up-step, up-none, descendants-alike}
+
+-- Where the link of a node leads.
+target-compared : (chars : List ℕ) (values : List Value) (t : Tree) (aim : Aim) → Aimed chars t aim → (m : ℕ)
+    → targetOf chars values (aim .pass) t m
+    ≡ given (linkOf chars values (aim .kind) t (aim .name) m) (λ v. elementById chars t (v .bytes)) (λ u. 0)
+unfolding targetOf nodeAttribute
+target-compared chars values t aim w m =
+    go (leb (aim .pass) 2)
+    ∙ sym (ap (λ (n : ℕ). given (linkOf chars values n t (aim .name) m) (λ v. elementById chars t (v .bytes)) (λ u. 0)) (w .kind)
+    ∙ ap (λ (a : ℕ). given (linkOf chars values (pick (leb (aim .pass) 2) (λ u. 3) (λ u. 2)) t a m) (λ v. elementById chars t (v .bytes))
+    (λ u. 0)) (w .name))
+  where
+    a : ℕ
+    a = cutName (aim .pass)
+
+    go : (b : Bool)
+        → pick b (λ u. given (linkOf chars values 3 t a m) (λ v. elementById chars t (v .bytes)) (λ x. 0))
+        (λ u. given (linkOf chars values (linkKind a) t a m) (λ v. elementById chars t (v .bytes)) (λ x. 0))
+        ≡ given (linkOf chars values (pick b (λ u. 3) (λ u. 2)) t a m) (λ v. elementById chars t (v .bytes)) (λ u. 0)
+    go true = refl
+    go false =
+        ap (λ (n : ℕ). given (linkOf chars values n t a m) (λ v. elementById chars t (v .bytes)) (λ x. 0))
+        (by-func (aim .pass) (w .first) (w .last))
+
+module _ (script chars ns es : List ℕ) (c : Counts) (aim : Aim) (w : Aimed chars (seenOf ns es c) aim) (m : ℕ) where
+  abbrev values : List Value
+  values = valuesOf script chars
+
+  abbrev t : Tree
+  t = seenOf ns es c
+
+  -- The link as it was read.
+  abbrev link : Option Part
+  link = linkOf chars values (aim .kind) (readOf ns es) (aim .name) m
+
+  by-link : targetOf chars values (aim .pass) t m ≡ given link (λ v. elementById chars t (v .bytes)) (λ u. 0)
+  by-link =
+      target-compared chars values t aim w m
+      ∙ sym (ap (λ (o : Option Part). given o (λ v. elementById chars t (v .bytes)) (λ u. 0))
+      (link-seen chars values t (aim .kind) (aim .name) m))
+
+  pub target-nowhere : none ≡ link → targetOf chars values (aim .pass) t m ≡ 0
+  target-nowhere e = by-link ∙ sym (ap (λ (o : Option Part). given o (λ v. elementById chars t (v .bytes)) (λ u. 0)) e)
+
+  pub target-on : (v : Part) → some v ≡ link → (p : List ℕ) → p ≡ v .bytes → (n : ℕ)
+      → n ≡ lastWithId chars (readOf ns es) p (c .nodes) → n ≡ targetOf chars values (aim .pass) t m
+  unfolding elementById
+  target-on v e p q n h =
+      h ∙ last-same t chars p (c .nodes) ∙ ap (λ (b : List ℕ). elementById chars t b) q
+      ∙ ap (λ (o : Option Part). given o (λ x. elementById chars t (x .bytes)) (λ u. 0)) e ∙ sym by-link
+
+  -- What the pair leaves.
+  pub pair-back : leadsTo chars values (aim .pass) t (aim .element) m ≡ true
+      → cutBack chars values (aim .pass) (aim .element) t m
+      ≡ cutNodes chars values (aim .pass) t (nodesAt chars values (aim .pass) t (aim .element) m)
+  unfolding nodesAt cutsAlong applied
+  pair-back e = rw e refl
+
+  pub pair-nowhere : leadsTo chars values (aim .pass) t (aim .element) m ≡ false → targetOf chars values (aim .pass) t m ≡ 0
+      → t ≡ cutNodes chars values (aim .pass) t (nodesAt chars values (aim .pass) t (aim .element) m)
+  unfolding nodesAt cutsAlong applied
+  pair-nowhere e z = rw (e, z) refl
+
+  pub pair-below : leadsTo chars values (aim .pass) t (aim .element) m ≡ false
+      → (n : ℕ) → n ≡ targetOf chars values (aim .pass) t m → (n ≡ 0 → ⊥)
+      → cutNodes chars values (aim .pass) t (passing (leadsTo chars values (aim .pass) t (aim .element)) (descendants t (n - 1)))
+      ≡ cutNodes chars values (aim .pass) t (nodesAt chars values (aim .pass) t (aim .element) m)
+  unfolding nodesAt
+  pair-below e n q z = rw (e, ← q, ne-eqb n 0 z) refl
+
+-- ONE PAIR AFTER ANOTHER
+
+applied-more : (t : Tree) (cs ds : List Cut) → applied t (cs ++ ds) ≡ applied (applied t cs) ds
+unfolding applied
+applied-more t [] ds = refl
+applied-more t (c ∷ cs) ds = applied-more (applyCut t c) cs ds
+
+module _ (size : ℕ) (chars : List ℕ) (values : List Value) (bare : readingsOf 0 values ≡ []) (k : ℕ) (other : cutName k ≡ AId.Id → ⊥) where
+  pub nodes-tidy : (ms : List ℕ) (t : Tree) → Tidy size t → Tidy size (cutNodes chars values k t ms)
+  unfolding cutsAlong applied
+  nodes-tidy [] t g = g
+  nodes-tidy (m ∷ ms) t g = nodes-tidy ms (applyCut t (cutAt t k m)) (cut-tidy size chars values bare k other t g m)
+
+  pub nodes-long : (ms : List ℕ) (t : Tree) → Tidy size t → length (cutNodes chars values k t ms .attributes) ≡ length (t .attributes)
+  unfolding cutsAlong applied
+  nodes-long [] t g = refl
+  nodes-long (m ∷ ms) t g =
+      nodes-long ms (applyCut t (cutAt t k m)) (cut-tidy size chars values bare k other t g m)
+      ∙ cut-long size chars values bare k other t g m
+
+  pub nodes-aimed : (aim : Aim) (ms : List ℕ) (t : Tree) → Tidy size t → Aimed chars t aim → Aimed chars (cutNodes chars values k t ms) aim
+  unfolding cutsAlong applied
+  nodes-aimed aim [] t g w = w
+  nodes-aimed aim (m ∷ ms) t g w =
+      nodes-aimed aim ms (applyCut t (cutAt t k m)) (cut-tidy size chars values bare k other t g m)
+      (cut-aimed size chars values bare k other t g m aim w)
+
+module _ (chars : List ℕ) (values : List Value) (k i : ℕ) where
+  -- The first pair, and the others in the tree that it leaves.
+  pub pair-first : (t : Tree) (j : ℕ) (js : List ℕ) (more : List Pair)
+      → cutPairs chars values k t (withEach i (j ∷ js) more)
+      ≡ cutPairs chars values k (cutNodes chars values k t (nodesAt chars values k t i j)) (withEach i js more)
+  unfolding goingOn withEach
+  pair-first t j js more =
+      applied-more t (cutsAlong chars values k t (nodesAt chars values k t i j))
+      (goingOn chars values k (cutNodes chars values k t (nodesAt chars values k t i j)) (withEach i js more))
+
+  -- The pairs of one element, and the others in the tree that they leave.
+  pub pairs-first : (js : List ℕ) (t : Tree) (more : List Pair)
+      → cutPairs chars values k t (withEach i js more) ≡ cutPairs chars values k (cutPairs chars values k t (withEach i js [])) more
+  unfolding goingOn withEach applied
+  pairs-first [] t more = refl
+  pairs-first (j ∷ js) t more =
+      pair-first t j js more ∙ pairs-first js (cutNodes chars values k t (nodesAt chars values k t i j)) more
+      ∙ ap (λ (u : Tree). cutPairs chars values k u more) (sym (pair-first t j js []))
+
+-- THE LOOP
+
+-- In the middle of the nodes below element i, up to the node `end`: j is next, and what is still to do leaves what all of it leaves.
+pub record Pairs (script chars ns : List ℕ) (c : Counts) (aim : Aim) (i end : ℕ) (es₀ es : List ℕ) (j : ℕ) (hint : Cursor) : Type 0 where
+  pub mendable : Mendable script chars ns es c hint
+  pub aimed : Aimed chars (seenOf ns es c) aim
+  pub inside : end ≤ c .nodes
+  pub long : length es ≡ length es₀
+  pub same : cutPairs chars (valuesOf script chars) (aim .pass) (seenOf ns es c) (withEach i (upFrom j (end - j)) [])
+      ≡ cutPairs chars (valuesOf script chars) (aim .pass) (seenOf ns es₀ c) (withEach i (upFrom i (end - i)) [])
+
+pub pairs-start : (script chars ns : List ℕ) (c : Counts) (aim : Aim) (i end : ℕ) (es : List ℕ) (hint : Cursor)
+    → Mendable script chars ns es c hint → Aimed chars (seenOf ns es c) aim → end ≤ c .nodes
+    → Pairs script chars ns c aim i end es es i hint
+pairs-start script chars ns c aim i end es hint g a h = record { mendable = g; aimed = a; inside = h; long = refl; same = refl }
+
+module _ (script chars ns : List ℕ) (c : Counts) (aim : Aim) (i end : ℕ) (es₀ es : List ℕ) (j : ℕ) (hint : Cursor)
+    (q : Pairs script chars ns c aim i end es₀ es j hint) (own : aim .element ≡ i) where
+  pub pairs-turn : j < end → (es′ : List ℕ) (n : Cursor)
+      → seenOf ns es′ c ≡ cutNodes chars (valuesOf script chars) (aim .pass) (seenOf ns es c)
+      (nodesAt chars (valuesOf script chars) (aim .pass) (seenOf ns es c) (aim .element) j)
+      → Fit script n → Pairs script chars ns c aim i end es₀ es′ (j + 1) n
+  pairs-turn l es′ n e f =
+      let t : Tree = seenOf ns es c in
+      let vs : List Value = valuesOf script chars in
+      let bare = values-bare (length chars) (events script chars) (all-inside script chars (q .mendable .drawn .checked)) in
+      let other = no-id (aim .pass) (q .aimed .last) in
+      let g = q .mendable .tidy in
+      let ms : List ℕ = nodesAt chars vs (aim .pass) t (aim .element) j in
+      record {
+        mendable = record {
+          drawn = record { checked = q .mendable .drawn .checked; fit = f };
+          tidy = subst (Tidy (length chars)) (sym e) (nodes-tidy (length chars) chars vs bare (aim .pass) other ms t g);
+        };
+        aimed = subst (λ (u : Tree). Aimed chars u aim) (sym e)
+            (nodes-aimed (length chars) chars vs bare (aim .pass) other aim ms t g (q .aimed));
+        inside = q .inside;
+        long = ap (λ (u : Tree). length (u .attributes)) e
+            ∙ nodes-long (length chars) chars vs bare (aim .pass) other ms t g ∙ q .long;
+        same =
+            ap (λ (u : Tree). cutPairs chars vs (aim .pass) u (withEach i (upFrom (j + 1) (end - (j + 1))) []))
+            (e ∙ ap (λ (x : ℕ). cutNodes chars vs (aim .pass) t (nodesAt chars vs (aim .pass) t x j)) own)
+            ∙ sym (pair-first chars vs (aim .pass) i t j (upFrom (j + 1) (end - (j + 1))) [])
+            ∙ ap (λ (xs : List ℕ). cutPairs chars vs (aim .pass) t (withEach i xs [])) (sym (up-step j end l))
+            ∙ q .same;
+      }
+
+  pub pairs-done : end ≤ j → (k : ℕ) → aim .pass ≡ k → descendants (counted ns (c .nodes)) i ≡ upFrom i (end - i)
+      → seenOf ns es c ≡ cutPairs chars (valuesOf script chars) k (seenOf ns es₀ c) (withEach i (descendants (seenOf ns es₀ c) i) [])
+  unfolding withEach goingOn applied
+  pairs-done l k z d =
+      sym (ap (λ (xs : List ℕ). cutPairs chars (valuesOf script chars) (aim .pass) (seenOf ns es c) (withEach i xs [])) (up-none j end l))
+      ∙ q .same
+      ∙ ap (λ (xs : List ℕ). cutPairs chars (valuesOf script chars) (aim .pass) (seenOf ns es₀ c) (withEach i xs []))
+      (sym d ∙ descendants-alike (counted ns (c .nodes)) (seenOf ns es₀ c) refl refl i)
+      ∙ ap (λ (x : ℕ). cutPairs chars (valuesOf script chars) x (seenOf ns es₀ c) (withEach i (descendants (seenOf ns es₀ c) i) [])) z

@@ -1,0 +1,86 @@
+-- The links of nodes as the code reads them, and what reading them asks.
+use mathlib.Core.Path.{_≡_}
+use Prim.Native.Nat.{ℕ, _+_, _-_, _*_, _<_, _≤_}
+use mathlib.Core.Bool.{Bool, true, false}
+use mathlib.Core.List.{List, []}
+use mathlib.Core.Option.{Option, none, some}
+use lib.Dec.{eqb}
+use lib.ListN.{length}
+use Rattle.model.specs.Base.{pick, and, given, sameBytes}
+use Rattle.model.specs.Check.{check}
+use Rattle.model.specs.Drawing.{Part, Value, partAt, events, valuesIn}
+use Rattle.model.specs.Tables.{Tree, ELEMENT, kindOf, toOf, entryAt, valueAtEntry}
+use Rattle.model.specs.Theorems.Kept.{KeptEntry}
+use Rattle.script.specs.declared.cursor.Cursor.{Cursor}
+use Rattle.script.specs.Step.{Fit, mostStart}
+use Rattle.tree.specs.Lent.{treeOf, Readable, Valued}
+use Rattle.repair.specs.declared.link.FoundLink.{FoundLink}
+use Rattle.repair.specs.declared.link.FoundLink.the-variants as link
+use Rattle.repair.specs.declared.lead.Lead.{Lead}
+use Rattle.repair.specs.declared.lead.Lead.the-variants as lead
+
+-- THE DRAWING
+
+-- The values of a drawing.
+abbrev pub valuesOf : List ℕ → List ℕ → List Value
+valuesOf script chars = valuesIn (events script chars)
+
+-- A drawing that check takes, and a cursor in it.
+pub record Drawn (script chars : List ℕ) (c : Cursor) : Type 0 where
+  pub checked : check script chars ≡ 0
+  pub fit : Fit script c
+
+-- LINKS
+
+-- A link that was looked for.
+abbrev pub linkIn : List ℕ → FoundLink → Option Part
+linkIn chars (link.At a l c) = some (partAt chars a l)
+linkIn chars (link.Nothing c) = none
+
+abbrev pub LinkFit : List ℕ → FoundLink → Type 0
+LinkFit script (link.At a l c) = (a ≤ mostStart) × Fit script c
+LinkFit script (link.Nothing c) = Fit script c
+
+-- IDS
+
+-- The entry whose number plus 1 is j, if there is one, stands in the table, and its value is fixed or lies within that many characters.
+abbrev pub Stands : ℕ → Tree → ℕ → Type 0
+Stands size t j = (j ≡ 0 → ⊥) → (5 * (j - 1) + 4 < length (t .attributes)) × Valued size (entryAt t (j - 1))
+
+-- The id in the entry whose number plus 1 is j; empty where there is none.
+abbrev pub idAt : List ℕ → Tree → ℕ → List ℕ
+idAt chars t j = pick (eqb j 0) (λ u. []) (λ u. valueAtEntry chars t j)
+
+-- Entry j stands in the table, and has what a build keeps true of entries.
+pub record Known (size : ℕ) (t : Tree) (j : ℕ) : Type 0 where
+  pub inside : 5 * j + 4 < length (t .attributes)
+  pub kept : KeptEntry size (entryAt t j)
+
+-- Node i can be read, and so can the entries of its range.
+pub record KnownIn (size : ℕ) (t : Tree) (i : ℕ) : Type 0 where
+  pub readable : Readable t i
+  pub entries : kindOf t i ≡ ELEMENT → (j : ℕ) → j < toOf t i → KeptEntry size (entryAt t j)
+
+-- WHERE THEY LEAD
+
+-- Does a link lead to an element with that id? Only if links with the id lead to it, and if its bytes are the id's.
+abbrev pub ledBy : Bool → List ℕ → Option Part → Bool
+ledBy led id o = and led (given o (λ v. sameBytes (v .bytes) id) (λ u. false))
+
+-- Does it lead back to the element?
+abbrev pub isBack : Lead → Bool
+isBack (lead.Back c) = true
+isBack (lead.On a l c) = false
+isBack (lead.Nowhere c) = false
+
+-- What is told of the link o.
+abbrev pub LeadFit : List ℕ → List ℕ → Option Part → Lead → Type 0
+LeadFit script chars o (lead.Back c) = Fit script c
+LeadFit script chars o (lead.On a l c) = (some (partAt chars a l) ≡ o) × ((a ≤ mostStart) × Fit script c)
+LeadFit script chars o (lead.Nowhere c) = (none ≡ o) × Fit script c
+
+-- NODES
+
+-- What a function sees that is lent the nodes and their count.
+abbrev pub counted : List ℕ → ℕ → Tree
+counted ns n = treeOf ns [] [] (record { nodes = n; attributes = 0; text = 0 })

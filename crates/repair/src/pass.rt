@@ -1,0 +1,113 @@
+// One pass: each element that it looks at, one after another.
+use crate::pair::cut_element;
+use names::eid;
+use script::cursor::Cursor;
+use tree::Counts;
+use tree::word;
+use tree::word::node_word;
+ghost use mathlib.Core.Path.{_≡_};
+ghost use mathlib.Core.List.{[], _∷_};
+ghost use Prim.Native.Nat.{_+_, _*_, _<_, _≤_};
+ghost use lib.ListN.{length};
+ghost use Rattle.model.specs.Tables.{isNamed};
+ghost use Rattle.model.specs.Repair.{allNamed, applied};
+ghost use Rattle.model.specs.Theorems.GoingOn.{elementOf, pairsOf};
+ghost use Rattle.model.specs.Theorems.Images.{passOn};
+ghost use Rattle.script.specs.Step.{Fit};
+ghost use Rattle.tree.specs.Lent.{nodesRead};
+ghost use Rattle.repair.specs.Links.{valuesOf};
+ghost use Rattle.repair.specs.Passes.{seenOf, Mendable, cutPairs};
+
+// The elements that one of the passes 1 to 5 looks at.
+fn element_code(pass: u32) -> u32
+    requires { ⌜ (1 ≤ pass) × (pass ≤ 5) ⌝ }
+    ensures { λ r. ⌜ r ≡ elementOf pass ⌝ }
+{
+    if pass <= 2 {
+        return eid::PATTERN;
+    }
+    if pass == 3 {
+        return eid::CLIP_PATH;
+    }
+    if pass == 4 {
+        return eid::MASK;
+    }
+    eid::FILTER
+}
+
+// Is node i an element with that code?
+fn is_named(nodes: &[u32], code: u32, i: u32) -> bool
+    requires { ⌜ 8 * i + 7 < length (now nodes) ⌝ }
+    ensures { λ r. ⌜ r ≡ isNamed (nodesRead (now (nodes .entry))) code i ⌝ }
+{
+    if node_word(nodes, i, word::KIND) != word::ELEMENT {
+        return false;
+    }
+    node_word(nodes, i, word::CODE) == code
+}
+
+// Node i, where it is an element that the pass looks at.
+fn cut_named(
+    script: &[u8],
+    characters: &[u8],
+    nodes: &[u32],
+    attributes: &mut [u32],
+    counts: Counts,
+    pass: u32,
+    code: u32,
+    i: u32,
+    hint: Cursor,
+) -> Cursor
+    requires { ⌜ Mendable (now script) (now characters) (now nodes) (now attributes) counts hint ⌝ }
+    requires { ⌜ (1 ≤ pass) × (pass ≤ 5) ⌝ }
+    requires { ⌜ i < counts .nodes ⌝ }
+    ensures tables { λ r. ⌜ seenOf (now (nodes .entry)) (now (attributes .exit)) counts
+        ≡ cutPairs (now (characters .entry)) (valuesOf (now (script .entry)) (now (characters .entry))) pass
+        (seenOf (now (nodes .entry)) (now (attributes .entry)) counts)
+        (pairsOf (seenOf (now (nodes .entry)) (now (attributes .entry)) counts)
+        (allNamed (seenOf (now (nodes .entry)) (now (attributes .entry)) counts) code (i ∷ []))) ⌝ }
+    ensures fit { λ r. ⌜ Fit (now (script .entry)) r ⌝ }
+{
+    if !is_named(nodes, code, i) {
+        return hint;
+    }
+    cut_element(script, characters, nodes, attributes, counts, pass, i, hint)
+}
+
+// One of the passes 1 to 5.
+pub fn cut_pass(
+    script: &[u8],
+    characters: &[u8],
+    nodes: &[u32],
+    attributes: &mut [u32],
+    counts: Counts,
+    pass: u32,
+    hint: Cursor,
+) -> Cursor
+    requires { ⌜ Mendable (now script) (now characters) (now nodes) (now attributes) counts hint ⌝ }
+    requires { ⌜ (1 ≤ pass) × (pass ≤ 5) ⌝ }
+    ensures tables { λ r. ⌜ seenOf (now (nodes .entry)) (now (attributes .exit)) counts
+        ≡ applied (seenOf (now (nodes .entry)) (now (attributes .entry)) counts)
+        (passOn (now (characters .entry)) (valuesOf (now (script .entry)) (now (characters .entry))) pass
+        (seenOf (now (nodes .entry)) (now (attributes .entry)) counts)) ⌝ }
+    ensures fit { λ r. ⌜ Fit (now (script .entry)) r ⌝ }
+{
+    let code = element_code(pass);
+    let mut c = hint;
+    let mut i = 0;
+    while i < counts.nodes {
+        c = cut_named(
+            script,
+            characters,
+            nodes,
+            attributes,
+            counts,
+            pass,
+            code,
+            i,
+            c,
+        );
+        i += 1;
+    }
+    c
+}
