@@ -50,8 +50,8 @@ module _ (chars : List ℕ) (t : Tree) (k i n j : ℕ) (f : 1 ≤ k) (l : k ≤ 
 
   -- Any other element.
   pub aim-other : 2 < k → (b : Bool)
-      → b ≡ eqb (lastWithId chars (readOf (t .nodes) (t .attributes)) (elementId chars (readOf (t .nodes) (t .attributes)) i) (t .nodeCount))
-      (i + 1)
+      → b ≡ eqb (lastWithId chars (readOf (t .nodes) (t .attributes)) (elementId chars (readOf (t .nodes) (t .attributes)) i)
+      (t .nodeCount)) (i + 1)
       → Aimed chars t (record { pass = k; element = i; name = n; kind = 2; id = j; led = b })
   aim-other h b q = record {
     first = f;

@@ -1,5 +1,6 @@
 -- The link of an attribute, by the command of its entry. Assumes nothing.
 use mathlib.Core.Path.{_≡_, refl, sym, ap, _∙_, subst}
+use mathlib.Core.Bool.{Bool, false}
 use mathlib.Core.List.{List}
 use mathlib.Core.Option.{Option, none}
 use Prim.Native.Nat.{ℕ, _+_, _-_}
@@ -9,7 +10,7 @@ use lib.ListN.{length}
 use Rattle.model.specs.Check.{check}
 use Rattle.model.specs.Drawing.{Part, events, readingOf, readingsOf}
 use Rattle.model.specs.Tables.{Tree, entryWord, entryAt, attributeOf}
-use Rattle.model.specs.Repair.{readingsOfAttribute, linkOf}
+use Rattle.model.specs.Repair.{anyReading, readingsOfAttribute, linkOf}
 use Rattle.model.specs.Theorems.Inside.{all-inside}
 use Rattle.model.specs.Theorems.Images.{values-bare}
 use Rattle.script.specs.declared.cursor.Cursor.{Cursor}
@@ -24,6 +25,10 @@ module _ (s chars : List ℕ) (t : Tree) (a i k j : ℕ) (e : j ≡ attributeOf 
   pub link-absent : j ≡ 0 → none ≡ linkOf chars (valuesOf s chars) k t a i
   unfolding readingsOfAttribute readingOf
   link-absent z = rw (eq-eqb (attributeOf chars t i a) 0 (sym e ∙ z)) refl
+
+  pub any-absent : (id : List ℕ) → j ≡ 0 → false ≡ anyReading k id (readingsOfAttribute chars (valuesOf s chars) t a i)
+  unfolding readingsOfAttribute anyReading
+  any-absent id z = rw (eq-eqb (attributeOf chars t i a) 0 (sym e ∙ z)) refl
 
   -- It is there, and has the command n.
   module _ (h : check s chars ≡ 0) (there : j ≡ 0 → ⊥) (n : ℕ) (f : n ≡ entryWord t (j - 1) 4) where
@@ -44,6 +49,22 @@ module _ (s chars : List ℕ) (t : Tree) (a i k j : ℕ) (e : j ≡ attributeOf 
         let m : n - 1 + 1 ≡ n = omega arith in
         q
         ∙ ap (readingOf k)
+        (ap (readingsHere s chars) d ∙ checked-readings s chars h (n - 1) ∙ ap (λ (x : ℕ). readingsOf x (valuesOf s chars)) m
+        ∙ sym by-command)
+
+    pub any-fixed : (id : List ℕ) → n ≡ 0 → false ≡ anyReading k id (readingsOfAttribute chars (valuesOf s chars) t a i)
+    unfolding anyReading
+    any-fixed id z =
+        sym (ap (anyReading k id)
+        (by-command ∙ ap (λ (m : ℕ). readingsOf m (valuesOf s chars)) z
+        ∙ values-bare (length chars) (events s chars) (all-inside s chars h)))
+
+    pub any-there : (id : List ℕ) → (n ≡ 0 → ⊥) → (c : Cursor) → c ≡ placeOf s (n - 1) → (b : Bool)
+        → b ≡ anyReading k id (readingsHere s chars c) → b ≡ anyReading k id (readingsOfAttribute chars (valuesOf s chars) t a i)
+    any-there id z c d b q =
+        let m : n - 1 + 1 ≡ n = omega arith in
+        q
+        ∙ ap (anyReading k id)
         (ap (readingsHere s chars) d ∙ checked-readings s chars h (n - 1) ∙ ap (λ (x : ℕ). readingsOf x (valuesOf s chars)) m
         ∙ sym by-command)
 

@@ -55,7 +55,8 @@ module _ (t u : Tree) (e : t .nodes ≡ u .nodes) (n : t .nodeCount ≡ u .nodeC
   named-alike c [] = refl
   named-alike c (i ∷ is) =
       ap (λ (l : List ℕ). pick (isNamed t c i) (λ x. i ∷ l) (λ x. l)) (named-alike c is)
-      ∙ ap (λ (ns : List ℕ). pick (and (eqb (word ns i 0) ELEMENT) (eqb (word ns i 5) c)) (λ x. i ∷ allNamed u c is) (λ x. allNamed u c is)) e
+      ∙ ap (λ (ns : List ℕ). pick (and (eqb (word ns i 0) ELEMENT) (eqb (word ns i 5) c)) (λ x. i ∷ allNamed u c is)
+      (λ x. allNamed u c is)) e
 
   pairs-alike : (is : List ℕ) → pairsOf t is ≡ pairsOf u is
   unfolding pairsOf

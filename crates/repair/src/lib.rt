@@ -2,6 +2,7 @@
 pub mod back;
 pub mod below;
 pub mod cut;
+pub mod image;
 pub mod last;
 pub mod lead;
 pub mod link;

@@ -1,0 +1,92 @@
+use Rattle.tree.specs.Lent.{readOf, entriesOf}
+use Rattle.tree.proofs.Alike.{held-value}
+use Rattle.model.specs.AId
+use Rattle.repair.specs.Links.{idAt}
+use Rattle.repair.proofs.Linking.{any-absent, any-fixed, any-there}
+use borrow.Author.Needs.{needs}
+use Rattle.repair.proofs.image.has_filter.Statement.{statement}
+use Rattle.repair.proofs.image.has_filter.Tie as tie
+
+attribute-of-requires : tie.Need-attribute-of-requires
+attribute-of-requires c κs = search needs
+
+returns : tie.Need-returns
+returns c =
+    let id = idAt (c .before .before .before .before .before .before .args .characters .now)
+    (entriesOf (c .before .before .before .before .before .before .args .attributes .now))
+    (c .before .before .before .before .before .before .args .j) in (
+      any-absent (c .before .before .before .before .before .before .args .script .now)
+          (c .before .before .before .before .before .before .args .characters .now)
+          (readOf (c .before .before .before .before .before .before .args .nodes .now)
+          (c .before .before .before .before .before .before .args .attributes .now)) AId.Filter
+          (c .before .before .before .before .before .before .args .m) 4 _ (c .before .attribute-of .ensures .0) id (c .if1 .taken),
+      c .before .before .before .before .before .before .pre .0 .fit,
+    )
+
+sub-entry-word : tie.Need-sub-entry-word
+sub-entry-word c = search needs
+
+entry-word-requires : tie.Need-entry-word-requires
+entry-word-requires c κs =
+    (held-value _ _ _ _ (c .before .before .before .before .before .before .pre .1 .0) (c .before .attribute-of .ensures .1)
+    (c .if1 .left)) .0
+
+returns-2 : tie.Need-returns-2
+returns-2 c =
+    let id = idAt (c .before .before .before .before .before .before .before .before .args .characters .now)
+    (entriesOf (c .before .before .before .before .before .before .before .before .args .attributes .now))
+    (c .before .before .before .before .before .before .before .before .args .j) in (
+      any-fixed (c .before .before .before .before .before .before .before .before .args .script .now)
+          (c .before .before .before .before .before .before .before .before .args .characters .now)
+          (readOf (c .before .before .before .before .before .before .before .before .args .nodes .now)
+          (c .before .before .before .before .before .before .before .before .args .attributes .now)) AId.Filter
+          (c .before .before .before .before .before .before .before .before .args .m) 4 _
+          (c .before .before .before .attribute-of .ensures .0)
+          (c .before .before .before .before .before .before .before .before .pre .0 .checked) (c .before .before .if1 .left) _
+          (c .before .entry-word .ensures) id (c .if2 .taken),
+      c .before .before .before .before .before .before .before .before .pre .0 .fit,
+    )
+
+sub-number : tie.Need-sub-number
+sub-number c = search needs
+
+cast-number : tie.Need-cast-number
+cast-number c = search needs
+
+seek-requires : tie.Need-seek-requires
+seek-requires c κs = search needs
+
+any-id-at-requires : tie.Need-any-id-at-requires
+any-id-at-requires c κs = search needs
+
+returns-3 : tie.Need-returns-3
+returns-3 c =
+    let id = idAt (c .before .before .before .before .before .before .before .before .before .before .args .characters .now)
+    (entriesOf (c .before .before .before .before .before .before .before .before .before .before .args .attributes .now))
+    (c .before .before .before .before .before .before .before .before .before .before .args .j) in (
+      any-there (c .before .before .before .before .before .before .before .before .before .before .args .script .now)
+          (c .before .before .before .before .before .before .before .before .before .before .args .characters .now)
+          (readOf (c .before .before .before .before .before .before .before .before .before .before .args .nodes .now)
+          (c .before .before .before .before .before .before .before .before .before .before .args .attributes .now)) AId.Filter
+          (c .before .before .before .before .before .before .before .before .before .before .args .m) 4 _
+          (c .before .before .before .before .before .attribute-of .ensures .0)
+          (c .before .before .before .before .before .before .before .before .before .before .pre .0 .checked)
+          (c .before .before .before .before .if1 .left) _ (c .before .before .before .entry-word .ensures) id
+          (c .before .before .if2 .left) _ (c .before .seek .ensures .0) _ (c .any-id-at .ensures),
+      c .before .seek .ensures .1,
+    )
+
+pub has-filter-spec : {M : Type 1} → statement M
+has-filter-spec =
+    tie.close
+    (tie.spec
+    attribute-of-requires
+    returns
+    sub-entry-word
+    entry-word-requires
+    returns-2
+    sub-number
+    cast-number
+    seek-requires
+    any-id-at-requires
+    returns-3)
