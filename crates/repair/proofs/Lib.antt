@@ -1,6 +1,7 @@
 pub mod Aiming
 pub mod Comparing
 pub mod Descending
+pub mod Imaging
 pub mod Lasting
 pub mod Linking
 pub mod Pairing

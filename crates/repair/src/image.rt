@@ -1,25 +1,33 @@
 // feImage: an image of an element whose own filters lead back to the filter in which the image stands.
 use crate::lead::is_id;
+use crate::link::FoundLink;
+use crate::link::link_of;
 use names::aid;
 use places::seek::seek;
 use script::cursor::Cursor;
 use script::cursor::Step;
+use tree::Counts;
+use tree::read::attribute_id;
 use tree::read::attribute_of;
+use tree::read::last_with_id;
 use tree::word;
 use tree::word::entry_word;
+use tree::word::node_word;
 use walk::value::NextReading;
 use walk::value::next_reading;
 use walk::value::part_at;
 ghost use mathlib.Core.Path.{_≡_};
-ghost use Prim.Native.Nat.{_≤_};
+ghost use Prim.Native.Nat.{_≤_, _<_};
 ghost use lib.ListN.{length};
 ghost use Rattle.model.specs.AId;
-ghost use Rattle.model.specs.Repair.{anyReading, readingsOfAttribute};
+ghost use Rattle.model.specs.Tables.{ELEMENT, word};
+ghost use Rattle.model.specs.Repair.{anyReading, readingsOfAttribute, recursiveFeImage};
 ghost use Rattle.script.specs.Step.{Fit, mostPlace};
 ghost use Rattle.walk.specs.Values.{readingsIn};
 ghost use Rattle.places.specs.Seeks.{readingsHere};
 ghost use Rattle.tree.specs.Lent.{readOf, entriesOf, ReadableIn};
 ghost use Rattle.repair.specs.Links.{Drawn, valuesOf, Stands, idAt};
+ghost use Rattle.repair.specs.Passes.{seenOf, Mendable};
 
 // Do filters lead to an id? And a place in the script from which to look for the next link.
 pub struct Filtered {
@@ -111,4 +119,53 @@ pub fn has_filter(
     let c = seek(script, characters, number, hint);
     let back = any_id_at(script, characters, attributes, c, j);
     Filtered { back, hint: c }
+}
+
+// A node that a feImage cuts, as its index plus 1, 0 for none; and a place in the script from which to look for the next link.
+pub struct Image {
+    pub node: u32,
+    pub hint: Cursor,
+}
+
+// The node that the feImage i leads to, where one of that node's filters leads to i's parent.
+fn image_of(
+    script: &[u8],
+    characters: &[u8],
+    nodes: &[u32],
+    attributes: &[u32],
+    counts: Counts,
+    i: u32,
+    hint: Cursor,
+) -> Image
+    requires { ⌜ Mendable (now script) (now characters) (now nodes) (now attributes) counts hint ⌝ }
+    requires { ⌜ i < counts .nodes ⌝ }
+    requires { ⌜ word (now nodes) i 0 ≡ ELEMENT ⌝ }
+    ensures same { λ r. ⌜ r .node ≡ recursiveFeImage (now (characters .entry)) (valuesOf (now (script .entry)) (now (characters .entry)))
+        (seenOf (now (nodes .entry)) (now (attributes .entry)) counts) i ⌝ }
+    ensures fit { λ r. ⌜ (r .node ≤ counts .nodes) × Fit (now (script .entry)) (r .hint) ⌝ }
+{
+    match link_of(script, characters, nodes, attributes, i, aid::HREF, 1, hint) {
+        FoundLink::At(start, len, c) => {
+            let target = part_at(characters, start, len);
+            let w = last_with_id(nodes, attributes, characters, target, counts.nodes);
+            if w == 0 {
+                return Image { node: 0, hint: c };
+            }
+            let parent = node_word(nodes, i, word::PARENT);
+            let id = attribute_id(nodes, attributes, parent - 1, aid::ID);
+            let f = has_filter(script, characters, nodes, attributes, w - 1, id, c);
+            let place = f.hint;
+            if f.back {
+                return Image {
+                    node: w,
+                    hint: place,
+                };
+            }
+            Image {
+                node: 0,
+                hint: place,
+            }
+        }
+        FoundLink::Nothing(c) => Image { node: 0, hint: c },
+    }
 }
