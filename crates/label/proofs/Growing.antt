@@ -1,8 +1,8 @@
 -- What a new node inside a text element leaves true of the tables. Assumes nothing.
-use Prim.Native.Nat.{ℕ, _+_, _*_, _/_, _≤_, _<_, min}
-use mathlib.Core.Path.{_≡_, refl, sym, ap, _∙_, subst}
+use Prim.Native.Nat.{ℕ, _+_, _*_, _≤_, _<_}
+use mathlib.Core.Path.{_≡_, refl, ap, _∙_, subst}
 use mathlib.Core.Bool.{Bool, true, false}
-use mathlib.Core.List.{List, []}
+use mathlib.Core.List.{List}
 use native.Mathlib.Omega.{arith}
 use native.Mathlib.Decide.{decLt}
 use borrow.Author.Tests.{leb-true, ltb-true}
@@ -11,7 +11,7 @@ use lib.ListN.{length, getD}
 use Rattle.model.specs.Base.{pick}
 use Rattle.model.specs.Names.{isElement}
 use Rattle.model.specs.Drawing.{Element, Source}
-use Rattle.model.specs.Tables.{Tree, Entry, Out, refused, done, most, ELEMENT, TEXT, word, nodeRoom, attributeRoom, textRoom}
+use Rattle.model.specs.Tables.{Tree, refused, done, most, ELEMENT, TEXT, word, nodeRoom, attributeRoom, textRoom}
 use Rattle.model.specs.Tables.{entriesWords, appended, addElement, addText}
 use Rattle.model.specs.Element.{entriesOf, mostNodes, parseSvgElement}
 use Rattle.model.specs.Text.{XmlSpace, getXmlspace, spaceOf, trimText, totalSize, joined, appendText}

@@ -5,12 +5,12 @@ use mathlib.Core.Bool.{Bool, true, false, not}
 use mathlib.Core.List.{List}
 use native.Mathlib.Omega.{arith}
 use native.Mathlib.Decide.{ℕ-discrete}
-use borrow.Author.Tests.{eq-eqb, ne-eqb, eqb-true, eqb-false}
+use borrow.Author.Tests.{eq-eqb, ne-eqb, eqb-false}
 use lib.Dec.{eqb}
 use lib.ListN.{getD}
 use Rattle.model.specs.Base.{pick, sameBytes}
 use Rattle.model.specs.AId
-use Rattle.model.specs.Tables.{Tree, ELEMENT, word, kindOf, parentOf, fromOf, toOf, entryWord, entryAt, findEntry, attributeId, hasAttribute}
+use Rattle.model.specs.Tables.{Tree, ELEMENT, kindOf, parentOf, fromOf, toOf, findEntry, attributeId, hasAttribute}
 use Rattle.model.specs.Tables.{valueOf, valueAtEntry, holderFrom}
 use Rattle.model.specs.Text.{XmlSpace, default, preserve, preserveWord, getXmlspace, spaceOf}
 use Rattle.model.specs.Theorems.Entries.{entry-by-words}
@@ -78,7 +78,8 @@ parent-space chars t p q falls e w told j found none =
 -- IN TABLES THAT GROW
 
 -- Node i and its entries, which lie among the first n, are the same.
-module _ (chars : List ℕ) (t u : Tree) (n i : ℕ) (kind : kindOf u i ≡ kindOf t i) (from : fromOf u i ≡ fromOf t i) (to : toOf u i ≡ toOf t i)
+module _ (chars : List ℕ) (t u : Tree) (n i : ℕ) (kind : kindOf u i ≡ kindOf t i) (from : fromOf u i ≡ fromOf t i)
+    (to : toOf u i ≡ toOf t i)
     (range : kindOf t i ≡ ELEMENT → (fromOf t i ≤ toOf t i) × (toOf t i ≤ n))
     (agree : (q : ℕ) → q < 5 * n → getD (u .attributes) q 0 ≡ getD (t .attributes) q 0) where
   find-same : (a j m : ℕ) → j + m ≤ n → findEntry u a j m ≡ findEntry t a j m

@@ -7,7 +7,7 @@ use native.Mathlib.Omega.{arith}
 use lib.Dec.{eqb, leb, ltb}
 use lib.ListN.{length}
 use Rattle.model.specs.Base.{pick}
-use Rattle.model.specs.Drawing.{Element, Event, Source, events, quoted}
+use Rattle.model.specs.Drawing.{Element, Source, events, quoted}
 use Rattle.model.specs.Tables.{Tree, Out, refused, done, most, parentOf, nodeRoom, textRoom, addText}
 use Rattle.model.specs.Text.{XmlSpace, spaceOf, trimText, totalSize, joined, appendText}
 use Rattle.model.specs.Theorems.Sim.{Every, texts-quoted}

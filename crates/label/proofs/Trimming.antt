@@ -1,6 +1,6 @@
 -- A text element whole: its node, its inside and its trimming. Assumes nothing.
-use Prim.Native.Nat.{ℕ, _+_, _*_, _≤_, _<_}
-use mathlib.Core.Path.{_≡_, refl, sym, ap, _∙_, subst}
+use Prim.Native.Nat.{ℕ, _<_}
+use mathlib.Core.Path.{_≡_, refl, ap, _∙_, subst}
 use mathlib.Core.Bool.{Bool, true}
 use mathlib.Core.List.{List}
 use native.Mathlib.Omega.{arith}
@@ -14,7 +14,7 @@ use Rattle.model.specs.Text.{Trimming, stop, look, cut, run, cutText, spaceOf, 
 use Rattle.model.specs.Parse.{inside, label, plain}
 use Rattle.model.specs.Theorems.Kept.{Tidy}
 use Rattle.model.specs.Theorems.Reach as R
-use Rattle.model.specs.Theorems.Reach.{IsText, tidy-cut, run-unmoved, within-trimming, own-collected}
+use Rattle.model.specs.Theorems.Reach.{IsText, tidy-cut, within-trimming, own-collected}
 use Rattle.script.specs.declared.cursor.Cursor.{Cursor}
 use Rattle.walk.specs.declared.node.Opened.{Opened}
 use Rattle.walk.specs.Nodes.{elementOf, leave}
@@ -31,8 +31,8 @@ use Rattle.text.specs.Nodes.{Trimmable}
 use Rattle.text.proofs.Entire.{space-same}
 use Rattle.text.proofs.Steps.{cut-words}
 use Rattle.label.specs.declared.State.{State}
-use Rattle.label.specs.Walk.{Holding, Within, Way, insideOf, whole, Ends, InsideFit}
-use Rattle.label.specs.Whole.{Counted, Beginning, Labelled}
+use Rattle.label.specs.Walk.{Holding, Within, insideOf, whole, Ends, InsideFit}
+use Rattle.label.specs.Whole.{Beginning, Labelled}
 use Rattle.label.proofs.Growing.{made-element}
 
 -- A TRIMMING KEEPS THE TABLES TIDY
@@ -100,7 +100,9 @@ module _ (script chars ns ats bs : List ℕ) (k : Counts) (p : ℕ) (x : Opened)
     is-element = refl
 
     grown : Grown (length chars) t (treeOf ns₁ ats₁ bs₁ taken)
-    grown = element-grown (length chars) t (b .tidy) EId.Text is-element p (b .below) ignored X (b .element) (treeOf ns₁ ats₁ bs₁ taken) told
+    grown =
+        element-grown (length chars) t (b .tidy) EId.Text is-element p (b .below) ignored X (b .element) (treeOf ns₁ ats₁ bs₁ taken)
+        told
 
     texts : taken .text ≡ k .text
     unfolding addElement
@@ -154,7 +156,8 @@ module _ (script chars ns ats bs : List ℕ) (k : Counts) (p : ℕ) (x : Opened)
               (trimmed : treeOf ns₃ ats₂ bs₃ last ≡ trimTextNodes chars (k .nodes) (treeOf ns₂ ats₂ bs₂ last)) where
             pub label-done : done (treeOf ns₃ ats₂ bs₃ last) ≡ labelled
             label-done =
-                ap (λ (r : Tree). done r) trimmed ∙ ap (λ (o : Out Tree). then o (λ q. done (trimTextNodes chars (k .nodes) q))) (ends .same)
+                ap (λ (r : Tree). done r) trimmed
+                ∙ ap (λ (o : Out Tree). then o (λ q. done (trimTextNodes chars (k .nodes) q))) (ends .same)
                 ∙ so-far
 
             pub label-leaves : Labelled script chars x (treeOf ns₃ ats₂ bs₃ last) c

@@ -1,7 +1,7 @@
 -- The turns of the walk inside a text element. Assumes nothing.
-use Prim.Native.Nat.{ℕ, zero, suc, _+_, _-_, _*_, _≤_, _<_}
+use Prim.Native.Nat.{ℕ, zero, suc, _+_, _-_, _≤_, _<_}
 use mathlib.Core.Path.{_≡_, refl, sym, ap, _∙_, subst}
-use mathlib.Core.Bool.{Bool, true, false}
+use mathlib.Core.Bool.{true, false}
 use mathlib.Core.List.{List, [], _∷_}
 use native.Mathlib.Omega.{arith}
 use borrow.Author.Tests.{eq-eqb, ne-eqb}
@@ -10,18 +10,17 @@ use lib.ListN.{length}
 use Rattle.model.specs.Base.{pick}
 use Rattle.model.specs.EId
 use Rattle.model.specs.Names.{isElement}
-use Rattle.model.specs.Check.{mostBytes}
 use Rattle.model.specs.Drawing as model
 use Rattle.model.specs.Drawing.{Element, Event, Source, begin, close, events, quoted}
 use Rattle.model.specs.Tables.{Tree, Out, refused, done, then, word}
 use Rattle.model.specs.Element.{parseSvgElement}
 use Rattle.model.specs.Text.{appendText, getXmlspace, spaceOf}
 use Rattle.model.specs.Parse.{Ops, inside, plain, isTextContent, textTagOf}
-use Rattle.model.specs.Theorems.Inside.{LiesElement, LiesText}
+use Rattle.model.specs.Theorems.Inside.{LiesText}
 use Rattle.script.specs.declared.cursor.Cursor.{Cursor}
 use Rattle.script.specs.Step.{Fit}
 use Rattle.walk.specs.declared.node.Opened.{Opened}
-use Rattle.walk.specs.Nodes.{elementOf, leave, Standing, Further}
+use Rattle.walk.specs.Nodes.{elementOf, leave, Further}
 use Rattle.walk.specs.Values.{eventsAt, SameNodes}
 use Rattle.tree.specs.declared.Counts.{Counts}
 use Rattle.tree.specs.Lent.{treeOf, readOf}
@@ -32,7 +31,7 @@ use Rattle.element.specs.Runs.{InAttributes, InDeclarations, Ready}
 use Rattle.element.proofs.Keeping.{kept-ready}
 use Rattle.label.specs.declared.State.{State}
 use Rattle.label.specs.declared.Turn.{Turn}
-use Rattle.label.specs.Walk.{Holding, quoteOf, Lies, Sound, Within, Up, Way, insideOf, Opening, whole, Goes, Ends, TurnFit}
+use Rattle.label.specs.Walk.{Holding, quoteOf, Lies, Within, Up, Way, insideOf, Opening, whole, Goes, Ends, TurnFit}
 use Rattle.label.proofs.Contents.{tag-element}
 use Rattle.label.proofs.Handing.{spaceFrom, space-from, space-step, old-space}
 use Rattle.label.proofs.Growing.{Onward, Under, onward-none, onward-then, element-under, text-onward, quote-onward}
@@ -113,7 +112,8 @@ module _ (script chars : List ℕ) (e : ℕ) (ns ats bs : List ℕ) (s : State) 
   -- Another place, another node, in tables that have grown.
   elsewhere : (ns′ ats′ bs′ : List ℕ) (k : Counts) → Onward (length chars) e t (treeOf ns′ ats′ bs′ k) → (c : Cursor) (p : ℕ)
       (sp : XmlSpace) → Fit script c → Lies chars (eventsAt script chars c) → e ≤ p → p < k .nodes →
-      spaceIn sp ≡ spaceOf chars (treeOf ns′ ats′ bs′ k) p → Within script chars ns′ ats′ bs′ e (record { c = c; p = p; counts = k; space = sp })
+      spaceIn sp ≡ spaceOf chars (treeOf ns′ ats′ bs′ k) p →
+      Within script chars ns′ ats′ bs′ e (record { c = c; p = p; counts = k; space = sp })
   elsewhere ns′ ats′ bs′ k g c p sp f l u b q =
       record { fit = f; all = w .all; lies = l; small = w .small; sound = g .sound; up = u; below = b; space = q }
 

@@ -1,5 +1,4 @@
 use mathlib.Core.Path.{_∙_}
-use native.Mathlib.Omega.{arith}
 use Rattle.label.proofs.Telling.{element-done, element-none, element-behind}
 use Rattle.label.proofs.Holders.{climbs, reads}
 use Rattle.label.proofs.Trimming.{label-ready, label-values, label-refused, label-holds, label-within, inside-refused}

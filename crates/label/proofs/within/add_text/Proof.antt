@@ -1,4 +1,3 @@
-use native.Mathlib.Omega.{arith}
 use Rattle.label.proofs.Holders.{appends, text-node}
 use borrow.Author.Needs.{needs}
 use Rattle.label.proofs.within.add_text.Statement.{statement}

@@ -7,7 +7,8 @@ use Rattle.tree.proofs.Bools.{fails, passes}
 use Rattle.label.specs.Content.{tagIn}
 use Rattle.label.proofs.Contents.{content-is}
 use Rattle.label.proofs.Telling.{element-done, element-none, element-behind, append-done, append-none}
-use Rattle.label.proofs.Walking.{ready, in-values, goes-past, new-space, element-refused, goes-in, tref-holds, tref-refused, goes-tref}
+use Rattle.label.proofs.Walking.{ready, in-values, goes-past, new-space, element-refused, goes-in}
+use Rattle.label.proofs.Walking.{tref-holds, tref-refused, goes-tref}
 use borrow.Author.Needs.{needs}
 use Rattle.label.proofs.within.begin.Statement.{statement}
 use Rattle.label.proofs.within.begin.Tie as tie

@@ -1,9 +1,5 @@
 use Rattle.label.proofs.Holders.{above-asks}
-use mathlib.Core.Path.{refl, sym, ap, _∙_}
 use native.Mathlib.Omega.{arith}
-use borrow.Author.Tests.{eq-eqb}
-use Rattle.model.specs.Text.{getXmlspace}
-use Rattle.tree.specs.Lent.{readOf}
 use Rattle.label.proofs.Handing.{parent-space}
 use borrow.Author.Needs.{needs}
 use Rattle.label.proofs.within.space_above.Statement.{statement}
