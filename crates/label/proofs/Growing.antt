@@ -1,25 +1,27 @@
 -- What a new node inside a text element leaves true of the tables. Assumes nothing.
-use Prim.Native.Nat.{ℕ, _+_, _*_, _/_, _≤_, _<_, min}
-use mathlib.Core.Path.{_≡_, refl, sym, ap, _∙_, subst}
+use Prim.Native.Nat.{ℕ, _+_, _*_, _≤_, _<_}
+use mathlib.Core.Path.{_≡_, refl, ap, _∙_, subst}
 use mathlib.Core.Bool.{Bool, true, false}
-use mathlib.Core.List.{List, []}
+use mathlib.Core.List.{List}
 use native.Mathlib.Omega.{arith}
 use native.Mathlib.Decide.{decLt}
 use borrow.Author.Tests.{leb-true, ltb-true}
 use lib.Dec.{eqb, leb, ltb}
-use lib.ListN.{length}
+use lib.ListN.{length, getD}
 use Rattle.model.specs.Base.{pick}
 use Rattle.model.specs.Names.{isElement}
 use Rattle.model.specs.Drawing.{Element, Source}
-use Rattle.model.specs.Tables.{Tree, Entry, Out, refused, done, most, ELEMENT, TEXT, word, nodeRoom, attributeRoom, textRoom}
-use Rattle.model.specs.Tables.{appended, addElement, addText}
+use Rattle.model.specs.Tables.{Tree, refused, done, most, ELEMENT, TEXT, word, nodeRoom, attributeRoom, textRoom}
+use Rattle.model.specs.Tables.{entriesWords, appended, addElement, addText}
 use Rattle.model.specs.Element.{entriesOf, mostNodes, parseSvgElement}
-use Rattle.model.specs.Text.{spaceOf, trimText, totalSize, joined, appendText}
+use Rattle.model.specs.Text.{XmlSpace, getXmlspace, spaceOf, trimText, totalSize, joined, appendText}
+use Rattle.model.specs.Theorems.Agree.{sets-out}
 use Rattle.model.specs.Theorems.Laws.{appended-old, appended-new}
 use Rattle.model.specs.Theorems.Inside.{LiesElement}
 use Rattle.model.specs.Theorems.Kept.{Tidy, tidy-text}
 use Rattle.element.proofs.Keeping.{element-grown}
 use Rattle.label.specs.Walk.{Sound, quoteOf}
+use Rattle.label.proofs.Handing.{says-same}
 use Rattle.label.proofs.Putting.{quoted-most}
 
 -- From t to u nodes were added, each under e.
@@ -27,15 +29,17 @@ pub record Onward (size e : ℕ) (t u : Tree) : Type 0 where
   pub sound : Sound size e u
   pub more : t .nodeCount ≤ u .nodeCount
   pub old : (i : ℕ) → i < t .nodeCount → word (u .nodes) i 1 ≡ word (t .nodes) i 1
+  pub says : (chars : List ℕ) (i : ℕ) → i < t .nodeCount → (w : XmlSpace) → getXmlspace chars u i w ≡ getXmlspace chars t i w
 
 pub onward-none : (size e : ℕ) (t : Tree) → Sound size e t → Onward size e t t
-onward-none size e t s = record { sound = s; more = omega arith; old = λ i l. refl }
+onward-none size e t s = record { sound = s; more = omega arith; old = λ i l. refl; says = λ chars i l w. refl }
 
 pub onward-then : (size e : ℕ) (t u v : Tree) → Onward size e t u → Onward size e u v → Onward size e t v
 onward-then size e t u v a b = record {
   sound = b .sound;
   more = omega (arith, a .more, b .more);
   old = λ i l. b .old i (omega (arith, a .more)) ∙ a .old i l;
+  says = λ chars i l w. b .says chars i (omega (arith, a .more)) w ∙ a .says chars i l w;
 }
 
 -- The new node below p is the last one.
@@ -64,21 +68,24 @@ made-element t p tag b x u h =
 module _ (size e : ℕ) (t : Tree) (s : Sound size e t) (p : ℕ) (up : e ≤ p) (below : p < t .nodeCount) where
   with-node : (u : Tree) (kind code from to : ℕ) → u .nodes ≡ appended kind code from to (t .nodes) p (t .nodeCount) →
       u .nodeCount ≡ t .nodeCount + 1 → 8 * t .nodeCount + 8 ≤ length (t .nodes) → Tidy size u →
-      (u .nodeCount ≤ most) × (u .attributeCount ≤ most) × (u .textCount ≤ most) → Under size e t u p
-  with-node u kind code from to nodes one room tidy few = record {
+      (u .nodeCount ≤ most) × (u .attributeCount ≤ most) × (u .textCount ≤ most) →
+      ((q : ℕ) → q < 5 * t .attributeCount → getD (u .attributes) q 0 ≡ getD (t .attributes) q 0) → Under size e t u p
+  with-node u kind code from to nodes one room tidy few agree = record {
     onward = record {
       sound = record { tidy = tidy; few = few; under = λ i l b. under i l b (decLt i (t .nodeCount)) };
       more = omega (arith, one);
-      old = old;
+      old = λ i l. old i 1 l (omega arith) (λ x y. omega arith);
+      says = λ chars i l w. says-same chars t u (t .attributeCount) i (old i 0 l (omega arith) (λ x y. omega arith))
+          (old i 6 l (omega arith) (λ x y. omega arith)) (old i 7 l (omega arith) (λ x y. omega arith))
+          (s .tidy .kept .nodes i l .range) agree w;
     };
     one = one;
     new = new;
   }
     where
-      old : (i : ℕ) → i < t .nodeCount → word (u .nodes) i 1 ≡ word (t .nodes) i 1
-      old i l =
-          ap (λ (ns : List ℕ). word ns i 1) nodes
-          ∙ appended-old kind code from to (t .nodes) p (t .nodeCount) i 1 l (omega arith) (λ x y. omega arith)
+      old : (i k : ℕ) → i < t .nodeCount → k < 8 → (2 ≤ k → k ≤ 4 → ⊥) → word (u .nodes) i k ≡ word (t .nodes) i k
+      old i k l b h =
+          ap (λ (ns : List ℕ). word ns i k) nodes ∙ appended-old kind code from to (t .nodes) p (t .nodeCount) i k l b h
 
       new : word (u .nodes) (t .nodeCount) 1 ≡ p + 1
       new =
@@ -86,7 +93,7 @@ module _ (size e : ℕ) (t : Tree) (s : Sound size e t) (p : ℕ) (up : e ≤ p)
           ∙ appended-new kind code from to (t .nodes) p (t .nodeCount) 1 room (omega arith) (λ x y. omega arith)
 
       under : (i : ℕ) → e < i → i < u .nodeCount → Dec (i < t .nodeCount) → e + 1 ≤ word (u .nodes) i 1
-      under i l b (yes d) = omega (arith, old i d, s .under i l d)
+      under i l b (yes d) = omega (arith, old i 1 d (omega arith) (λ x y. omega arith), s .under i l d)
       under i l b (no d) =
           let z : i ≡ t .nodeCount = omega (arith, one) in
           let y : word (u .nodes) i 1 ≡ p + 1 = ap (λ k. word (u .nodes) k 1) z ∙ new in
@@ -103,6 +110,8 @@ module _ (size e : ℕ) (t : Tree) (s : Sound size e t) (p : ℕ) (up : e ≤ p)
         with-node u ELEMENT tag (t .attributeCount) (t .attributeCount + length (entriesOf t p tag b x))
         (ap (λ (v : Tree). v .nodes) (m .0)) (g .one)
         (omega (arith, m .1)) (g .tidy) (g .few .0, g .few .1, omega (arith, texts, s .few .2))
+        (λ q l. ap (λ (v : Tree). getD (v .attributes) q 0) (m .0)
+        ∙ sets-out (entriesWords (entriesOf t p tag b x)) (t .attributes) (5 * t .attributeCount) q (λ y z. omega arith))
 
   -- A text node.
   module _ (chars : List ℕ) (from : List Source) where
@@ -129,7 +138,8 @@ module _ (size e : ℕ) (t : Tree) (s : Sound size e t) (p : ℕ) (up : e ≤ p)
         (quoted-most (spaceOf chars t p) chars from) (omega (arith, m .1)) in
         (with-node u TEXT 0 (t .textCount) (t .textCount + length bytes) (ap (λ (v : Tree). v .nodes) (m .0))
         (ap (λ (v : Tree). v .nodeCount) (m .0)) (omega (arith, m .2)) (rw (m .0) tidy)
-        (rw (m .0) (omega (arith, m .2), s .few .1, omega (arith, m .1)))) .onward
+        (rw (m .0) (omega (arith, m .2), s .few .1, omega (arith, m .1)))
+        (λ q l. ap (λ (v : Tree). getD (v .attributes) q 0) (m .0))) .onward
 
     pub quote-onward : (u : Tree) → done u ≡ quoteOf chars from p t → Onward size e t u
     quote-onward u h = go (eqb (totalSize from) 0) h

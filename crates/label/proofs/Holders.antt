@@ -7,8 +7,8 @@ use native.Mathlib.Omega.{arith}
 use lib.Dec.{eqb, leb, ltb}
 use lib.ListN.{length}
 use Rattle.model.specs.Base.{pick}
-use Rattle.model.specs.Drawing.{Element, Event, Source, events, quoted}
-use Rattle.model.specs.Tables.{Tree, Out, refused, done, most, nodeRoom, textRoom, addText}
+use Rattle.model.specs.Drawing.{Element, Source, events, quoted}
+use Rattle.model.specs.Tables.{Tree, Out, refused, done, most, parentOf, nodeRoom, textRoom, addText}
 use Rattle.model.specs.Text.{XmlSpace, spaceOf, trimText, totalSize, joined, appendText}
 use Rattle.model.specs.Theorems.Sim.{Every, texts-quoted}
 use Rattle.model.specs.Theorems.Inside.{LiesElement, LiesText}
@@ -117,3 +117,18 @@ module _ (script chars : List ℕ) (r : FoundElement) (x : Element) (told : text
       let z : [] ≡ quoted (events script chars) x =
       subst (λ (f : FoundElement). textsOf script chars f ≡ quoted (events script chars) x) e told in
       subst (λ (l : List Source). done t ≡ quoteOf chars l p t) z refl
+
+-- THE PARENT
+
+-- Where node p and those before it can be read, its parent q can.
+pub above-asks : (size : ℕ) (t : Tree) (p q : ℕ) → Climbable t p → ((k : ℕ) → k ≤ p → ReadableIn size t k) → parentOf t p ≡ q + 1 →
+    Climbable t q × ((k : ℕ) → k ≤ q → ReadableIn size t k)
+above-asks size t p q c r e =
+    let l : q ≤ p = omega (arith, c .placed p (omega arith) .falls) in (
+      record {
+        small = omega (arith, c .small);
+        placed = λ k h. c .placed k (omega arith);
+        readable = λ k h. c .readable k (omega arith);
+      },
+      λ k h. r k (omega arith),
+    )

@@ -2,6 +2,7 @@ pub mod Summing
 pub mod Putting
 pub mod Quoting
 pub mod Contents
+pub mod Handing
 pub mod Holders
 pub mod Growing
 pub mod Walking

@@ -1,5 +1,5 @@
 -- The texts inside an element, one after another, trimmed as one. Assumes nothing.
-use Prim.Native.Nat.{ℕ, suc, _+_, _-_, _≤_, min}
+use Prim.Native.Nat.{ℕ, suc, _+_, _-_, _≤_}
 use mathlib.Core.Path.{_≡_, refl, sym, ap, _∙_, subst}
 use mathlib.Core.List.{List, [], _∷_, _++_}
 use native.Mathlib.Omega.{arith}
@@ -146,10 +146,6 @@ module _ (w : XmlSpace) (s chars place₀ : List ℕ) (from : Cursor) (place : L
 -- THE PLACE IN THE TEXT TABLE
 
 module _ (w : XmlSpace) (chars : List ℕ) (from : List Source) (first size : ℕ) (total : size ≡ totalSize from) where
-  pub place-size : (bs : List ℕ) → first + size ≤ length bs → totalSize from ≤ length (take (first + size - first) (drop first bs))
-  place-size bs h =
-      omega (arith, length-take (first + size - first) (drop first bs), length-drop first bs)
-
   pub place-back : (bs part : List ℕ) → first + size ≤ length bs →
       part ≡ sets (take (first + size - first) (drop first bs)) 0 (trimText w (joined chars from)) →
       take first bs ++ (part ++ drop (first + size - first) (drop first bs)) ≡ sets bs first (trimText w (joined chars from))

@@ -1,7 +1,7 @@
 -- The texts inside an element, one after another: how many bytes they have. Assumes nothing.
 use Prim.Native.Nat.{ℕ, _+_, _*_, _≤_}
 use mathlib.Core.Path.{_≡_, ap, subst}
-use mathlib.Core.List.{List, []}
+use mathlib.Core.List.{List}
 use native.Mathlib.Omega.{arith}
 use Rattle.model.specs.Drawing.{textsIn}
 use Rattle.model.specs.Text.{totalSize}

@@ -1,6 +1,6 @@
 -- A text element whole: its node, its inside and its trimming. Assumes nothing.
-use Prim.Native.Nat.{ℕ, _+_, _*_, _≤_, _<_}
-use mathlib.Core.Path.{_≡_, refl, sym, ap, _∙_, subst}
+use Prim.Native.Nat.{ℕ, _<_}
+use mathlib.Core.Path.{_≡_, refl, ap, _∙_, subst}
 use mathlib.Core.Bool.{Bool, true}
 use mathlib.Core.List.{List}
 use native.Mathlib.Omega.{arith}
@@ -14,22 +14,25 @@ use Rattle.model.specs.Text.{Trimming, stop, look, cut, run, cutText, spaceOf, 
 use Rattle.model.specs.Parse.{inside, label, plain}
 use Rattle.model.specs.Theorems.Kept.{Tidy}
 use Rattle.model.specs.Theorems.Reach as R
-use Rattle.model.specs.Theorems.Reach.{IsText, tidy-cut, run-unmoved, within-trimming, own-collected}
+use Rattle.model.specs.Theorems.Reach.{IsText, tidy-cut, within-trimming, own-collected}
 use Rattle.script.specs.declared.cursor.Cursor.{Cursor}
 use Rattle.walk.specs.declared.node.Opened.{Opened}
 use Rattle.walk.specs.Nodes.{elementOf, leave}
 use Rattle.walk.specs.Values.{eventsAt, SameNodes}
 use Rattle.tree.specs.declared.Counts.{Counts}
-use Rattle.tree.specs.Lent.{treeOf}
+use Rattle.tree.specs.Lent.{treeOf, readOf}
 use Rattle.element.specs.declared.Parsed.{Parsed}
 use Rattle.element.specs.declared.Parsed.the-variants as parsed
 use Rattle.element.specs.Runs.{InAttributes, InDeclarations, Ready}
-use Rattle.element.proofs.Keeping.{kept-ready, element-grown}
+use Rattle.element.proofs.Keeping.{Grown, kept-ready, element-grown}
+use Rattle.text.specs.declared.XmlSpace.{XmlSpace}
+use Rattle.text.specs.Spaces.{spaceIn}
 use Rattle.text.specs.Nodes.{Trimmable}
+use Rattle.text.proofs.Entire.{space-same}
 use Rattle.text.proofs.Steps.{cut-words}
 use Rattle.label.specs.declared.State.{State}
-use Rattle.label.specs.Walk.{Within, Way, insideOf, whole, Ends, InsideFit}
-use Rattle.label.specs.Whole.{Counted, Beginning, Labelled}
+use Rattle.label.specs.Walk.{Holding, Within, insideOf, whole, Ends, InsideFit}
+use Rattle.label.specs.Whole.{Beginning, Labelled}
 use Rattle.label.proofs.Growing.{made-element}
 
 -- A TRIMMING KEEPS THE TABLES TIDY
@@ -92,70 +95,80 @@ module _ (script chars ns ats bs : List ℕ) (k : Counts) (p : ℕ) (x : Opened)
 
   module _ (ns₁ ats₁ bs₁ : List ℕ) (taken : Counts) (behind : Cursor) (nodes : SameNodes script chars (x .inside) behind)
       (told : done (treeOf ns₁ ats₁ bs₁ taken) ≡ parseSvgElement X EId.Text ignored p t) where
-    abbrev first : State
-    first = record { c = behind; p = k .nodes; counts = taken }
-
     is-element : isElement EId.Text ≡ true
     unfolding isElement
     is-element = refl
 
-    pub label-within : Within script chars ns₁ ats₁ bs₁ (k .nodes) first
+    grown : Grown (length chars) t (treeOf ns₁ ats₁ bs₁ taken)
+    grown =
+        element-grown (length chars) t (b .tidy) EId.Text is-element p (b .below) ignored X (b .element) (treeOf ns₁ ats₁ bs₁ taken)
+        told
+
+    texts : taken .text ≡ k .text
     unfolding addElement
-    label-within =
-        let g = element-grown (length chars) t (b .tidy) EId.Text is-element p (b .below) ignored X (b .element) (treeOf ns₁ ats₁ bs₁ taken)
-        told in
-        let m = made-element t p EId.Text ignored X (treeOf ns₁ ats₁ bs₁ taken) told in
-        let texts : taken .text ≡ k .text = ap (λ (v : Tree). v .textCount) (m .0) in
-        record {
-          fit = nodes .fit;
-          all = b .all;
-          lies = rw (nodes .events) (b .lies);
-          small = b .small;
-          sound = record {
-            tidy = g .tidy;
-            few = (g .few .0, g .few .1, omega (arith, texts, b .few .2));
-            under = λ i l h. absurd (omega (arith, g .one));
-          };
-          up = omega arith;
-          below = omega (arith, g .one);
-        }
+    texts = ap (λ (v : Tree). v .textCount) (made-element t p EId.Text ignored X (treeOf ns₁ ats₁ bs₁ taken) told .0)
 
-    so-far : then (insideOf script chars (k .nodes) (eventsAt script chars behind) (k .nodes) (treeOf ns₁ ats₁ bs₁ taken))
-        (λ q. done (trimTextNodes chars (k .nodes) q)) ≡ labelled
-    so-far =
-        ap (λ ys. then (insideOf script chars (k .nodes) ys (k .nodes) (treeOf ns₁ ats₁ bs₁ taken))
-        (λ q. done (trimTextNodes chars (k .nodes) q))) (nodes .events)
-        ∙ ap (λ (o : Out Tree). then o follows) told
+    pub label-holds : Holding (length chars) (treeOf ns₁ ats₁ bs₁ taken) (k .nodes)
+    label-holds =
+        record { kept = grown .tidy .kept; few = (grown .few .0, omega (arith, texts, b .few .2)); below = omega (arith, grown .one) }
 
-    pub inside-refused : (j : ℕ) → refused j ≡ whole script chars (k .nodes) ns₁ ats₁ bs₁ first ns₁ ats₁ bs₁ → refused j ≡ labelled
-    inside-refused j h = ap (λ (o : Out Tree). then o (λ q. done (trimTextNodes chars (k .nodes) q))) h ∙ so-far
+    module _ (sp : XmlSpace) (handed : spaceIn sp ≡ spaceOf chars (readOf ns₁ ats₁) (k .nodes)) where
+      abbrev first : State
+      first = record { c = behind; p = k .nodes; counts = taken; space = sp }
 
-    module _ (ns₂ ats₂ bs₂ : List ℕ) where
-      module _ (last : Counts) (c : Cursor) (ends : Ends script chars (k .nodes) ns₁ ats₁ bs₁ first ns₂ ats₂ bs₂ last c) where
-        pub label-trims : Trimmable chars (treeOf ns₂ ats₂ bs₂ last) (k .nodes)
-        label-trims = record {
-          kept = ends .within .sound .tidy .kept;
-          small = ends .within .sound .few .0;
-          inside = ends .within .below;
-          under = ends .within .sound .under;
-        }
+      pub label-within : Within script chars ns₁ ats₁ bs₁ (k .nodes) first
+      label-within = record {
+        fit = nodes .fit;
+        all = b .all;
+        lies = rw (nodes .events) (b .lies);
+        small = b .small;
+        sound = record {
+          tidy = grown .tidy;
+          few = (grown .few .0, grown .few .1, omega (arith, texts, b .few .2));
+          under = λ i l h. absurd (omega (arith, grown .one));
+        };
+        up = omega arith;
+        below = omega (arith, grown .one);
+        space = handed ∙ space-same chars (treeOf ns₁ ats₁ bs₁ taken) (k .nodes);
+      }
 
-        module _ (ns₃ bs₃ : List ℕ)
-            (trimmed : treeOf ns₃ ats₂ bs₃ last ≡ trimTextNodes chars (k .nodes) (treeOf ns₂ ats₂ bs₂ last)) where
-          pub label-done : done (treeOf ns₃ ats₂ bs₃ last) ≡ labelled
-          label-done =
-              ap (λ (r : Tree). done r) trimmed ∙ ap (λ (o : Out Tree). then o (λ q. done (trimTextNodes chars (k .nodes) q))) (ends .same)
-              ∙ so-far
+      so-far : then (insideOf script chars (k .nodes) (eventsAt script chars behind) (k .nodes) (treeOf ns₁ ats₁ bs₁ taken))
+          (λ q. done (trimTextNodes chars (k .nodes) q)) ≡ labelled
+      so-far =
+          ap (λ ys. then (insideOf script chars (k .nodes) ys (k .nodes) (treeOf ns₁ ats₁ bs₁ taken))
+          (λ q. done (trimTextNodes chars (k .nodes) q))) (nodes .events)
+          ∙ ap (λ (o : Out Tree). then o follows) told
 
-          pub label-leaves : Labelled script chars x (treeOf ns₃ ats₂ bs₃ last) c
-          label-leaves = record {
-            fit = ends .within .fit;
-            later = omega (arith, nodes .later, ends .later);
-            behind = ends .behind (leave 0 xs) (record { deep = 0; up = refl; left = ap (leave 0) (nodes .events) });
-            tidy = rw trimmed (tidy-trimmed (length chars) chars (k .nodes) (treeOf ns₂ ats₂ bs₂ last) (ends .within .below)
-                (ends .within .sound .tidy));
-            few = ends .within .sound .few;
+      pub inside-refused : (j : ℕ) → refused j ≡ whole script chars (k .nodes) ns₁ ats₁ bs₁ first ns₁ ats₁ bs₁ → refused j ≡ labelled
+      inside-refused j h = ap (λ (o : Out Tree). then o (λ q. done (trimTextNodes chars (k .nodes) q))) h ∙ so-far
+
+      module _ (ns₂ ats₂ bs₂ : List ℕ) where
+        module _ (last : Counts) (c : Cursor) (ends : Ends script chars (k .nodes) ns₁ ats₁ bs₁ first ns₂ ats₂ bs₂ last c) where
+          pub label-trims : Trimmable chars (treeOf ns₂ ats₂ bs₂ last) (k .nodes)
+          label-trims = record {
+            kept = ends .sound .tidy .kept;
+            small = ends .sound .few .0;
+            inside = ends .below;
+            under = ends .sound .under;
           }
+
+          module _ (ns₃ bs₃ : List ℕ)
+              (trimmed : treeOf ns₃ ats₂ bs₃ last ≡ trimTextNodes chars (k .nodes) (treeOf ns₂ ats₂ bs₂ last)) where
+            pub label-done : done (treeOf ns₃ ats₂ bs₃ last) ≡ labelled
+            label-done =
+                ap (λ (r : Tree). done r) trimmed
+                ∙ ap (λ (o : Out Tree). then o (λ q. done (trimTextNodes chars (k .nodes) q))) (ends .same)
+                ∙ so-far
+
+            pub label-leaves : Labelled script chars x (treeOf ns₃ ats₂ bs₃ last) c
+            label-leaves = record {
+              fit = ends .fit;
+              later = omega (arith, nodes .later, ends .later);
+              behind = ends .behind (leave 0 xs) (record { deep = 0; up = refl; left = ap (leave 0) (nodes .events) });
+              tidy = rw trimmed (tidy-trimmed (length chars) chars (k .nodes) (treeOf ns₂ ats₂ bs₂ last) (ends .below)
+                  (ends .sound .tidy));
+              few = ends .sound .few;
+            }
 
 -- What the walk inside comes to.
 module _ (script chars : List ℕ) (e : ℕ) (ns ats bs : List ℕ) (s : State) (ns′ ats′ bs′ : List ℕ) (r : Parsed)

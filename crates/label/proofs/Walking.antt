@@ -1,7 +1,7 @@
 -- The turns of the walk inside a text element. Assumes nothing.
-use Prim.Native.Nat.{ℕ, zero, suc, _+_, _-_, _*_, _≤_, _<_}
+use Prim.Native.Nat.{ℕ, zero, suc, _+_, _-_, _≤_, _<_}
 use mathlib.Core.Path.{_≡_, refl, sym, ap, _∙_, subst}
-use mathlib.Core.Bool.{Bool, true, false}
+use mathlib.Core.Bool.{true, false}
 use mathlib.Core.List.{List, [], _∷_}
 use native.Mathlib.Omega.{arith}
 use borrow.Author.Tests.{eq-eqb, ne-eqb}
@@ -10,27 +10,30 @@ use lib.ListN.{length}
 use Rattle.model.specs.Base.{pick}
 use Rattle.model.specs.EId
 use Rattle.model.specs.Names.{isElement}
-use Rattle.model.specs.Check.{mostBytes}
 use Rattle.model.specs.Drawing as model
 use Rattle.model.specs.Drawing.{Element, Event, Source, begin, close, events, quoted}
 use Rattle.model.specs.Tables.{Tree, Out, refused, done, then, word}
 use Rattle.model.specs.Element.{parseSvgElement}
-use Rattle.model.specs.Text.{appendText}
+use Rattle.model.specs.Text.{appendText, getXmlspace, spaceOf}
 use Rattle.model.specs.Parse.{Ops, inside, plain, isTextContent, textTagOf}
-use Rattle.model.specs.Theorems.Inside.{LiesElement, LiesText}
+use Rattle.model.specs.Theorems.Inside.{LiesText}
 use Rattle.script.specs.declared.cursor.Cursor.{Cursor}
 use Rattle.script.specs.Step.{Fit}
 use Rattle.walk.specs.declared.node.Opened.{Opened}
-use Rattle.walk.specs.Nodes.{elementOf, leave, Standing, Further}
+use Rattle.walk.specs.Nodes.{elementOf, leave, Further}
 use Rattle.walk.specs.Values.{eventsAt, SameNodes}
 use Rattle.tree.specs.declared.Counts.{Counts}
-use Rattle.tree.specs.Lent.{treeOf}
+use Rattle.tree.specs.Lent.{treeOf, readOf}
+use Rattle.text.specs.declared.XmlSpace.{XmlSpace}
+use Rattle.text.specs.Spaces.{spaceIn}
+use Rattle.text.proofs.Entire.{space-same}
 use Rattle.element.specs.Runs.{InAttributes, InDeclarations, Ready}
 use Rattle.element.proofs.Keeping.{kept-ready}
 use Rattle.label.specs.declared.State.{State}
 use Rattle.label.specs.declared.Turn.{Turn}
-use Rattle.label.specs.Walk.{Holding, quoteOf, Lies, Sound, Within, Up, Way, insideOf, Opening, whole, Goes, Ends, TurnFit}
+use Rattle.label.specs.Walk.{Holding, quoteOf, Lies, Within, Up, Way, insideOf, Opening, whole, Goes, Ends, TurnFit}
 use Rattle.label.proofs.Contents.{tag-element}
+use Rattle.label.proofs.Handing.{spaceFrom, space-from, space-step, old-space}
 use Rattle.label.proofs.Growing.{Onward, Under, onward-none, onward-then, element-under, text-onward, quote-onward}
 
 -- NODES THAT ARE PASSED OVER
@@ -107,11 +110,21 @@ module _ (script chars : List ℕ) (e : ℕ) (ns ats bs : List ℕ) (s : State) 
   }
 
   -- Another place, another node, in tables that have grown.
-  elsewhere : (ns′ ats′ bs′ : List ℕ) (k : Counts) → Onward (length chars) e t (treeOf ns′ ats′ bs′ k) → (c : Cursor) (p : ℕ) →
-      Fit script c → Lies chars (eventsAt script chars c) → e ≤ p → p < k .nodes →
-      Within script chars ns′ ats′ bs′ e (record { c = c; p = p; counts = k })
-  elsewhere ns′ ats′ bs′ k g c p f l u b =
-      record { fit = f; all = w .all; lies = l; small = w .small; sound = g .sound; up = u; below = b }
+  elsewhere : (ns′ ats′ bs′ : List ℕ) (k : Counts) → Onward (length chars) e t (treeOf ns′ ats′ bs′ k) → (c : Cursor) (p : ℕ)
+      (sp : XmlSpace) → Fit script c → Lies chars (eventsAt script chars c) → e ≤ p → p < k .nodes →
+      spaceIn sp ≡ spaceOf chars (treeOf ns′ ats′ bs′ k) p →
+      Within script chars ns′ ats′ bs′ e (record { c = c; p = p; counts = k; space = sp })
+  elsewhere ns′ ats′ bs′ k g c p sp f l u b q =
+      record { fit = f; all = w .all; lies = l; small = w .small; sound = g .sound; up = u; below = b; space = q }
+
+  -- The open node hands down the same space in tables that have grown.
+  space-on : (ns′ ats′ bs′ : List ℕ) (k : Counts) → Onward (length chars) e t (treeOf ns′ ats′ bs′ k) →
+      spaceIn (s .space) ≡ spaceOf chars (treeOf ns′ ats′ bs′ k) (s .p)
+  space-on ns′ ats′ bs′ k g =
+      w .space ∙ sym (old-space chars t (treeOf ns′ ats′ bs′ k) (s .counts .nodes) (g .says chars) (g .old) falls (s .p) (w .below))
+
+  pub space-read : spaceIn (s .space) ≡ spaceOf chars (readOf ns ats) (s .p)
+  space-read = w .space ∙ sym (space-same chars t (s .p))
 
   none : Onward (length chars) e t t
   none = onward-none (length chars) e t (w .sound)
@@ -123,12 +136,12 @@ module _ (script chars : List ℕ) (e : ℕ) (ns ats bs : List ℕ) (s : State) 
     there = eventsAt script chars c
 
     pub goes-other : model.Event.other ∷ there ≡ here →
-        Goes script chars e ns ats bs s ns ats bs (record { c = c; p = s .p; counts = s .counts }) × (s .c .at < c .at)
+        Goes script chars e ns ats bs s ns ats bs (record { c = c; p = s .p; counts = s .counts; space = s .space }) × (s .c .at < c .at)
     unfolding leave
     goes-other q = (
       record {
-        within = elsewhere ns ats bs (s .counts) none c (s .p) (f .fit)
-            (let h : Lies chars (model.Event.other ∷ there) = subst (Lies chars) (sym q) (w .lies) in h) (w .up) (w .below);
+        within = elsewhere ns ats bs (s .counts) none c (s .p) (s .space) (f .fit)
+            (let h : Lies chars (model.Event.other ∷ there) = subst (Lies chars) (sym q) (w .lies) in h) (w .up) (w .below) (w .space);
         later = omega (arith, f .further);
         same = ap (λ xs. insideOf script chars e xs (s .p) t) q;
         way = λ rest v. way-on ns ats bs (s .counts) none here there rest (λ d l. ap (leave d) q ∙ l) v;
@@ -143,7 +156,9 @@ module _ (script chars : List ℕ) (e : ℕ) (ns ats bs : List ℕ) (s : State) 
       pub ends-close : s .p ≡ e → Ends script chars e ns ats bs s ns ats bs (s .counts) c
       unfolding leave
       ends-close h = record {
-        within = elsewhere ns ats bs (s .counts) none c e (f .fit) closed-lies (omega arith) (omega (arith, w .below));
+        fit = f .fit;
+        sound = w .sound;
+        below = omega (arith, w .below);
         later = omega (arith, f .further);
         same = (let z : done t ≡ insideOf script chars e (close ∷ there) (s .p) t = rw (eq-eqb (s .p) e h) refl in z)
             ∙ ap (λ xs. insideOf script chars e xs (s .p) t) q;
@@ -154,15 +169,18 @@ module _ (script chars : List ℕ) (e : ℕ) (ns ats bs : List ℕ) (s : State) 
           out rest zero u l = l
           out rest (suc d) u l = absurd (omega (arith, u .0))
 
-      pub goes-up : (s .p ≡ e → ⊥) → (m : ℕ) → m ≡ word ns (s .p) 1 →
-          Goes script chars e ns ats bs s ns ats bs (record { c = c; p = m - 1; counts = s .counts }) × (s .c .at < c .at)
+      pub goes-up : (s .p ≡ e → ⊥) → (m : ℕ) → m ≡ word ns (s .p) 1 → (sp : XmlSpace) →
+          spaceIn sp ≡ spaceOf chars (readOf ns ats) (m - 1) →
+          Goes script chars e ns ats bs s ns ats bs (record { c = c; p = m - 1; counts = s .counts; space = sp }) × (s .c .at < c .at)
       unfolding leave
-      goes-up h m z =
+      goes-up h m z sp y =
           let less : e < s .p = omega (arith, w .up, h) in
+          let v : spaceIn sp ≡ spaceOf chars t (word ns (s .p) 1 - 1) =
+          y ∙ space-same chars t (m - 1) ∙ ap (λ k. spaceOf chars t (k - 1)) z in
           rw z (
             record {
-              within = elsewhere ns ats bs (s .counts) none c (word ns (s .p) 1 - 1) (f .fit) closed-lies
-                  (omega (arith, w .sound .under (s .p) less (w .below))) (omega (arith, falls (s .p) (w .below), w .below));
+              within = elsewhere ns ats bs (s .counts) none c (word ns (s .p) 1 - 1) sp (f .fit) closed-lies
+                  (omega (arith, w .sound .under (s .p) less (w .below))) (omega (arith, falls (s .p) (w .below), w .below)) v;
               later = omega (arith, f .further);
               same = (let y : insideOf script chars e there (word ns (s .p) 1 - 1) t ≡ insideOf script chars e (close ∷ there) (s .p) t =
                   rw (ne-eqb (s .p) e h) refl in y) ∙ ap (λ xs. insideOf script chars e xs (s .p) t) q;
@@ -192,12 +210,13 @@ module _ (script chars : List ℕ) (e : ℕ) (ns ats bs : List ℕ) (s : State) 
       text-refused k h = ap (λ (o : Out Tree). then o onFrom) h ∙ ap (λ xs. insideOf script chars e xs (s .p) t) q
 
       pub goes-text : (ns′ bs′ : List ℕ) (k : Counts) → done (treeOf ns′ ats bs′ k) ≡ appendText chars (a ∷ []) (s .p) t →
-          Goes script chars e ns ats bs s ns′ ats bs′ (record { c = c; p = s .p; counts = k }) × (s .c .at < c .at)
+          Goes script chars e ns ats bs s ns′ ats bs′ (record { c = c; p = s .p; counts = k; space = s .space }) × (s .c .at < c .at)
       unfolding leave
       goes-text ns′ bs′ k h =
           let g = text-onward (length chars) e t (w .sound) (s .p) (w .up) (w .below) chars (a ∷ []) (treeOf ns′ ats bs′ k) h in (
             record {
-              within = elsewhere ns′ ats bs′ k g c (s .p) (f .fit) (spoken-lies .1) (w .up) (omega (arith, w .below, g .more));
+              within = elsewhere ns′ ats bs′ k g c (s .p) (s .space) (f .fit) (spoken-lies .1) (w .up) (omega (arith, w .below, g .more))
+                  (space-on ns′ ats bs′ k g);
               later = omega (arith, f .further);
               same = ap (λ (o : Out Tree). then o onFrom) h ∙ ap (λ xs. insideOf script chars e xs (s .p) t) q;
               way = λ rest v. way-on ns′ ats bs′ k g here there rest (λ d l. ap (leave d) q ∙ l) v;
@@ -208,7 +227,9 @@ module _ (script chars : List ℕ) (e : ℕ) (ns ats bs : List ℕ) (s : State) 
   pub ends-none : [] ≡ here → Ends script chars e ns ats bs s ns ats bs (s .counts) (s .c)
   unfolding leave
   ends-none q = record {
-    within = elsewhere ns ats bs (s .counts) none (s .c) e (w .fit) (w .lies) (omega arith) (omega (arith, w .up, w .below));
+    fit = w .fit;
+    sound = w .sound;
+    below = omega (arith, w .up, w .below);
     later = omega arith;
     same = ap (λ xs. insideOf script chars e xs (s .p) t) q;
     behind = λ rest v. sym q ∙ ap (leave (v .deep)) q ∙ v .left;
@@ -238,13 +259,14 @@ module _ (script chars : List ℕ) (e : ℕ) (ns ats bs : List ℕ) (s : State) 
     -- An element that is not read here.
     pub goes-past : isTextContent X (eqb (s .p) e) ≡ false → (c : Cursor) → eventsAt script chars c ≡ leave 0 xs → Fit script c →
         x .inside .at ≤ c .at →
-        Goes script chars e ns ats bs s ns ats bs (record { c = c; p = s .p; counts = s .counts }) × (s .c .at < c .at)
+        Goes script chars e ns ats bs s ns ats bs (record { c = c; p = s .p; counts = s .counts; space = s .space }) × (s .c .at < c .at)
     unfolding leave
     goes-past unread c q f l =
         let y : inside (plain chars) (events script chars) e xs 1 (s .p) t ≡ insideOf script chars e (begin X ∷ xs) (s .p) t =
         rw unread refl in (
           record {
-            within = elsewhere ns ats bs (s .counts) none c (s .p) f (rw q (lies-leave chars 0 xs (o .lies))) (w .up) (w .below);
+            within = elsewhere ns ats bs (s .counts) none c (s .p) (s .space) f (rw q (lies-leave chars 0 xs (o .lies))) (w .up) (w .below)
+                (w .space);
             later = omega (arith, o .further .further);
             same = ap (λ ys. insideOf script chars e ys (s .p) t) q
                 ∙ sym (inside-past (plain chars) (events script chars) e 0 xs (s .p) t) ∙ y ∙ opened;
@@ -285,17 +307,30 @@ module _ (script chars : List ℕ) (e : ℕ) (ns ats bs : List ℕ) (s : State) 
         so-far : inner (treeOf ns₁ ats₁ bs₁ k) ≡ whole script chars e ns ats bs s ns ats bs
         so-far = ap (λ (y : Out Tree). then y inner) told ∙ content
 
+        -- The space of its node.
+        pub new-space : (sp : XmlSpace) → spaceIn sp ≡ getXmlspace chars (readOf ns₁ ats₁) (s .counts .nodes) (spaceIn (s .space)) →
+            spaceIn sp ≡ spaceOf chars (readOf ns₁ ats₁) (s .counts .nodes)
+        new-space sp q =
+            q
+            ∙ ap (getXmlspace chars (readOf ns₁ ats₁) (s .counts .nodes)) (space-on ns₁ ats₁ bs₁ k (grown .onward)
+            ∙ sym (space-same chars (treeOf ns₁ ats₁ bs₁ k) (s .p)) ∙ space-from chars (readOf ns₁ ats₁) (s .p)
+            ∙ ap (spaceFrom chars (readOf ns₁ ats₁)) (sym (grown .new)))
+            ∙ sym (space-step chars (readOf ns₁ ats₁) (s .counts .nodes)
+            (λ j b. grown .onward .sound .tidy .kept .nodes j (omega (arith, grown .one)) .falls))
+
         -- Its inside comes next.
-        pub goes-in : (X .code ≡ EId.Tref → ⊥) →
-            Goes script chars e ns ats bs s ns₁ ats₁ bs₁ (record { c = behind; p = s .counts .nodes; counts = k })
+        pub goes-in : (sp : XmlSpace) → spaceIn sp ≡ getXmlspace chars (readOf ns₁ ats₁) (s .counts .nodes) (spaceIn (s .space)) →
+            (X .code ≡ EId.Tref → ⊥) →
+            Goes script chars e ns ats bs s ns₁ ats₁ bs₁ (record { c = behind; p = s .counts .nodes; counts = k; space = sp })
             × (s .c .at < behind .at)
         unfolding leave
-        goes-in plain-text =
+        goes-in sp sq plain-text =
             let y : insideOf script chars e xs (s .counts .nodes) (treeOf ns₁ ats₁ bs₁ k) ≡ inner (treeOf ns₁ ats₁ bs₁ k) =
             rw (ne-eqb (X .code) EId.Tref plain-text) refl in (
               record {
-                within = elsewhere ns₁ ats₁ bs₁ k (grown .onward) behind (s .counts .nodes) (nodes .fit) (rw (nodes .events) (o .lies))
-                    (omega (arith, w .up, w .below)) (omega (arith, grown .one));
+                within = elsewhere ns₁ ats₁ bs₁ k (grown .onward) behind (s .counts .nodes) sp (nodes .fit)
+                    (rw (nodes .events) (o .lies)) (omega (arith, w .up, w .below)) (omega (arith, grown .one))
+                    (new-space sp sq ∙ space-same chars (treeOf ns₁ ats₁ bs₁ k) (s .counts .nodes));
                 later = omega (arith, o .further .further, nodes .later);
                 same = ap (λ ys. insideOf script chars e ys (s .counts .nodes) (treeOf ns₁ ats₁ bs₁ k)) (nodes .events) ∙ y ∙ so-far;
                 way = λ rest v. record {
@@ -336,7 +371,7 @@ module _ (script chars : List ℕ) (e : ℕ) (ns ats bs : List ℕ) (s : State) 
           pub goes-tref : (ns₂ bs₂ : List ℕ) (m : Counts) →
               done (treeOf ns₂ ats₁ bs₂ m) ≡ quoteOf chars (quoted (events script chars) X) (s .counts .nodes) (treeOf ns₁ ats₁ bs₁ k) →
               (c : Cursor) → eventsAt script chars c ≡ leave 0 (eventsAt script chars behind) → Fit script c → behind .at ≤ c .at →
-              Goes script chars e ns ats bs s ns₂ ats₁ bs₂ (record { c = c; p = s .p; counts = m }) × (s .c .at < c .at)
+              Goes script chars e ns ats bs s ns₂ ats₁ bs₂ (record { c = c; p = s .p; counts = m; space = s .space }) × (s .c .at < c .at)
           unfolding leave
           goes-tref ns₂ bs₂ m h c q f l =
               let g = onward-then (length chars) e t (treeOf ns₁ ats₁ bs₁ k) (treeOf ns₂ ats₁ bs₂ m) (grown .onward)
@@ -345,8 +380,8 @@ module _ (script chars : List ℕ) (e : ℕ) (ns ats bs : List ℕ) (s : State) 
               (treeOf ns₂ ats₁ bs₂ m) h) in
               let past : eventsAt script chars c ≡ leave 0 xs = q ∙ ap (leave 0) (nodes .events) in (
                 record {
-                  within = elsewhere ns₂ ats₁ bs₂ m g c (s .p) f (rw past (lies-leave chars 0 xs (o .lies))) (w .up)
-                      (omega (arith, w .below, g .more));
+                  within = elsewhere ns₂ ats₁ bs₂ m g c (s .p) (s .space) f (rw past (lies-leave chars 0 xs (o .lies))) (w .up)
+                      (omega (arith, w .below, g .more)) (space-on ns₂ ats₁ bs₂ m g);
                   later = omega (arith, o .further .further, nodes .later);
                   same = ap (λ ys. insideOf script chars e ys (s .p) (treeOf ns₂ ats₁ bs₂ m)) past
                       ∙ sym (inside-past (plain chars) (events script chars) e 0 xs (s .p) (treeOf ns₂ ats₁ bs₂ m))
@@ -376,7 +411,9 @@ module _ (script chars : List ℕ) (e : ℕ) (ns₀ ats₀ bs₀ : List ℕ) (fi
   pub ends-on : (k : Counts) (c : Cursor) → Ends script chars e ns ats bs s ns′ ats′ bs′ k c →
       Ends script chars e ns₀ ats₀ bs₀ first ns′ ats′ bs′ k c
   ends-on k c h = record {
-    within = h .within;
+    fit = h .fit;
+    sound = h .sound;
+    below = h .below;
     later = omega (arith, g .later, h .later);
     same = h .same ∙ g .same;
     behind = λ rest v. h .behind rest (g .way rest v);

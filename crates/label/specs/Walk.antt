@@ -8,7 +8,7 @@ use Rattle.model.specs.Base.{pick}
 use Rattle.model.specs.Check.{mostBytes}
 use Rattle.model.specs.Drawing.{Event, Source, begin, events}
 use Rattle.model.specs.Tables.{Tree, Out, refused, done, most, word}
-use Rattle.model.specs.Text.{totalSize, appendText}
+use Rattle.model.specs.Text.{totalSize, appendText, spaceOf}
 use Rattle.model.specs.Parse.{inside, plain}
 use Rattle.model.specs.Theorems.Sim.{Events}
 use Rattle.model.specs.Theorems.Inside.{LiesElement, LiesText}
@@ -20,6 +20,7 @@ use Rattle.walk.specs.Nodes.{elementOf, leave, Standing, Further}
 use Rattle.walk.specs.Values.{eventsAt}
 use Rattle.tree.specs.declared.Counts.{Counts}
 use Rattle.tree.specs.Lent.{treeOf}
+use Rattle.text.specs.Spaces.{spaceIn}
 use Rattle.element.specs.declared.Parsed.{Parsed}
 use Rattle.element.specs.declared.Parsed.the-variants as parsed
 use Rattle.label.specs.declared.State.{State}
@@ -59,6 +60,7 @@ pub record Within (script chars ns ats bs : List ℕ) (e : ℕ) (s : State) : Ty
   pub sound : Sound (length chars) e (treeOf ns ats bs (s .counts))
   pub up : e ≤ s .p
   pub below : s .p < s .counts .nodes
+  pub space : spaceIn (s .space) ≡ spaceOf chars (treeOf ns ats bs (s .counts)) (s .p)
 
 -- The way up from p to e has d steps.
 abbrev pub Up : List ℕ → ℕ → ℕ → ℕ → Type 0
@@ -100,7 +102,9 @@ module _ (script chars : List ℕ) (e : ℕ) (ns ats bs : List ℕ) (s : State) 
 
   -- The walk ends with these counts, and c stands behind the text element.
   pub record Ends (k : Counts) (c : Cursor) : Type 0 where
-    pub within : Within script chars ns′ ats′ bs′ e (record { c = c; p = e; counts = k })
+    pub fit : Fit script c
+    pub sound : Sound (length chars) e (treeOf ns′ ats′ bs′ k)
+    pub below : e < k .nodes
     pub later : s .c .at ≤ c .at
     pub same : done (treeOf ns′ ats′ bs′ k) ≡ whole
     pub behind : (rest : List Event) → Way ns e (s .p) (eventsAt script chars (s .c)) rest → eventsAt script chars c ≡ rest

@@ -13,7 +13,6 @@ use Rattle.script.specs.Step.{Fit}
 use Rattle.walk.specs.declared.node.Opened.{Opened}
 use Rattle.walk.specs.Nodes.{elementOf, leave}
 use Rattle.walk.specs.Values.{eventsAt}
-use Rattle.tree.specs.declared.Counts.{Counts}
 use Rattle.tree.specs.Lent.{treeOf}
 use Rattle.element.specs.declared.Parsed.{Parsed}
 use Rattle.element.specs.declared.Parsed.the-variants as parsed

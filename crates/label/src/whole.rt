@@ -5,6 +5,7 @@ use element::Parsed;
 use element::parse::parse_svg_element;
 use names::eid;
 use text::nodes::trim_text_nodes;
+use text::space::space_of;
 use tree::Counts;
 use walk::node::Opened;
 ghost use mathlib.Core.Path.{_≡_};
@@ -51,10 +52,12 @@ pub fn parse_svg_text_element(
     ) {
         Parsed::Refused(k) => Parsed::Refused(k),
         Parsed::Done(taken, behind) => {
+            let space = space_of(nodes, attributes, characters, e);
             let first = State {
                 c: behind,
                 p: e,
                 counts: taken,
+                space,
             };
             match inside(script, characters, nodes, attributes, text, e, first) {
                 Parsed::Refused(k) => Parsed::Refused(k),

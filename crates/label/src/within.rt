@@ -9,13 +9,17 @@ use element::Parsed;
 use element::parse::parse_svg_element;
 use links::link::FoundElement;
 use links::link::quoted;
+use names::aid;
 use names::eid;
 use script::cursor::Cursor;
 use text::Source;
+use text::XmlSpace;
 use text::append::append_text;
+use text::space::get_xmlspace;
 use text::space::space_of;
 use tree::Counts;
 use tree::Outcome;
+use tree::read::attribute_id;
 use tree::word;
 use tree::word::node_word;
 use walk::node::Item;
@@ -24,15 +28,38 @@ use walk::node::next_item;
 use walk::node::past_element;
 ghost use mathlib.Core.Path.{_≡_};
 ghost use mathlib.Core.List.{[], _∷_};
-ghost use Prim.Native.Nat.{_+_, _≤_, _<_};
+ghost use Prim.Native.Nat.{ℕ, _+_, _≤_};
 ghost use lib.ListN.{length};
 ghost use Rattle.model.specs.Check.{mostBytes};
 ghost use Rattle.model.specs.Drawing.{events, quoted, sourceAt};
-ghost use Rattle.model.specs.Text.{appendText};
+ghost use Rattle.model.specs.Tables.{parentOf};
+ghost use Rattle.model.specs.Text.{appendText, spaceOf};
 ghost use Rattle.script.specs.Step.{markOf};
 ghost use Rattle.walk.specs.Nodes.{elementOf, Standing};
-ghost use Rattle.tree.specs.Lent.{treeOf, outOf};
+ghost use Rattle.tree.specs.Lent.{treeOf, readOf, outOf, ReadableIn, Climbable};
+ghost use Rattle.text.specs.Spaces.{spaceIn};
 ghost use Rattle.label.specs.Walk.{Holding, quoteOf, Lies, Within, Opening, TurnFit, InsideFit};
+
+// The space that the parent q of node p hands down, where p hands down `space`: it is looked for only where p says one itself.
+fn space_above(
+    nodes: &[u32],
+    attributes: &[u32],
+    characters: &[u8],
+    p: u32,
+    q: u32,
+    space: XmlSpace,
+) -> XmlSpace
+    requires { ⌜ Climbable (readOf (now nodes) (now attributes)) p ⌝ }
+    requires { ⌜ ((k : ℕ) → k ≤ p → ReadableIn (length (now characters)) (readOf (now nodes) (now attributes)) k) ⌝ }
+    requires { ⌜ parentOf (readOf (now nodes) (now attributes)) p ≡ q + 1 ⌝ }
+    requires { ⌜ spaceIn space ≡ spaceOf (now characters) (readOf (now nodes) (now attributes)) p ⌝ }
+    ensures { λ r. ⌜ spaceIn r ≡ spaceOf (now (characters .entry)) (readOf (now (nodes .entry)) (now (attributes .entry))) q ⌝ }
+{
+    if attribute_id(nodes, attributes, p, aid::SPACE) == 0 {
+        return space;
+    }
+    space_of(nodes, attributes, characters, q)
+}
 
 // A text node below p, made from the text of the script that stands at `own`.
 fn add_text(
@@ -44,15 +71,16 @@ fn add_text(
     p: u32,
     own: Cursor,
     size: u32,
+    space: XmlSpace,
 ) -> Outcome
     requires { ⌜ Holding (length (now characters)) (treeOf (now nodes) (now attributes) (now text) counts) p ⌝ }
+    requires { ⌜ spaceIn space ≡ spaceOf (now characters) (readOf (now nodes) (now attributes)) p ⌝ }
     requires { ⌜ own .chars + size ≤ length (now characters) ⌝ }
     requires { ⌜ (length (now characters) ≤ mostBytes) × (own .texts ≤ mostBytes) ⌝ }
     ensures { λ r. ⌜ outOf (now (nodes .exit)) (now (attributes .entry)) (now (text .exit)) r
         ≡ appendText (now (characters .entry)) (sourceAt (now (characters .entry)) (markOf own) size ∷ []) p
         (treeOf (now (nodes .entry)) (now (attributes .entry)) (now (text .entry)) counts) ⌝ }
 {
-    let space = space_of(nodes, attributes, characters, p);
     let texts = own.texts as u32;
     let source = Source {
         number: texts + 1,
@@ -72,8 +100,10 @@ fn add_quoted(
     counts: Counts,
     p: u32,
     x: Opened,
+    space: XmlSpace,
 ) -> Outcome
     requires { ⌜ Holding (length (now characters)) (treeOf (now nodes) (now attributes) (now text) counts) p ⌝ }
+    requires { ⌜ spaceIn space ≡ spaceOf (now characters) (readOf (now nodes) (now attributes)) p ⌝ }
     requires { ⌜ Standing (now script) x ⌝ }
     requires { ⌜ Lies (now characters) (events (now script) (now characters)) ⌝ }
     ensures { λ r. ⌜ outOf (now (nodes .exit)) (now (attributes .entry)) (now (text .exit)) r
@@ -83,7 +113,6 @@ fn add_quoted(
 {
     match quoted(script, characters, x) {
         FoundElement::At(l) => {
-            let space = space_of(nodes, attributes, characters, p);
             append_quoted(script, characters, nodes, text, counts, p, l.inside, space)
         }
         FoundElement::Nothing => Outcome::Done(counts),
@@ -109,6 +138,7 @@ fn begin(
 {
     let code = code_of(x.name);
     let counts = s.counts;
+    let handed = s.space;
     let inside = x.inside;
     if !is_text_content(x.name, x.space, s.p == e) {
         let behind = past_element(script, characters, inside);
@@ -116,6 +146,7 @@ fn begin(
             c: behind,
             p: s.p,
             counts,
+            space: handed,
         });
     }
     match parse_svg_element(
@@ -131,11 +162,13 @@ fn begin(
     ) {
         Parsed::Refused(k) => Turn::Refused(k),
         Parsed::Done(taken, behind) => {
+            let space = get_xmlspace(nodes, attributes, characters, counts.nodes, handed);
             if code != eid::TREF {
                 return Turn::On(State {
                     c: behind,
                     p: counts.nodes,
                     counts: taken,
+                    space,
                 });
             }
             match add_quoted(
@@ -147,6 +180,7 @@ fn begin(
                 taken,
                 counts.nodes,
                 x,
+                space,
             ) {
                 Outcome::Refused(k) => Turn::Refused(k),
                 Outcome::Done(more) => {
@@ -155,6 +189,7 @@ fn begin(
                         c: past,
                         p: s.p,
                         counts: more,
+                        space: handed,
                     })
                 }
             }
@@ -178,15 +213,27 @@ fn advance(
 {
     let c = s.c;
     let counts = s.counts;
+    let handed = s.space;
     match next_item(script, characters, c) {
         Item::Begin(x) => begin(script, characters, nodes, attributes, text, e, s, x),
         Item::Text(own, len, n) => {
-            match add_text(nodes, attributes, text, characters, counts, s.p, own, len) {
+            match add_text(
+                nodes,
+                attributes,
+                text,
+                characters,
+                counts,
+                s.p,
+                own,
+                len,
+                handed,
+            ) {
                 Outcome::Refused(k) => Turn::Refused(k),
                 Outcome::Done(more) => Turn::On(State {
                     c: n,
                     p: s.p,
                     counts: more,
+                    space: handed,
                 }),
             }
         }
@@ -194,16 +241,20 @@ fn advance(
             c: n,
             p: s.p,
             counts,
+            space: handed,
         }),
         Item::Close(n) => {
             if s.p == e {
                 return Turn::End(counts, n);
             }
             let parent = node_word(nodes, s.p, word::PARENT);
+            let up = parent - 1;
+            let space = space_above(nodes, attributes, characters, s.p, up, handed);
             Turn::On(State {
                 c: n,
-                p: parent - 1,
+                p: up,
                 counts,
+                space,
             })
         }
         Item::End => Turn::End(counts, c),

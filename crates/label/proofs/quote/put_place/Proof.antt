@@ -3,7 +3,7 @@ use Prim.Native.Nat.{_+_}
 use native.Mathlib.Omega.{arith}
 use Rattle.text.specs.Spaces.{spaceIn}
 use Rattle.label.specs.Quotes.{textsFrom}
-use Rattle.label.proofs.Putting.{quoted-most, place-size, place-back}
+use Rattle.label.proofs.Putting.{quoted-most, place-back}
 use borrow.Author.Needs.{needs}
 use Rattle.label.proofs.quote.put_place.Statement.{statement}
 use Rattle.label.proofs.quote.put_place.Tie as tie

@@ -1,7 +1,7 @@
 use mathlib.Core.Path.{_∙_}
-use native.Mathlib.Omega.{arith}
 use Rattle.label.proofs.Telling.{element-done, element-none, element-behind}
-use Rattle.label.proofs.Trimming.{label-ready, label-values, label-refused, label-within, inside-refused}
+use Rattle.label.proofs.Holders.{climbs, reads}
+use Rattle.label.proofs.Trimming.{label-ready, label-values, label-refused, label-holds, label-within, inside-refused}
 use Rattle.label.proofs.Trimming.{label-trims, label-done, label-leaves, inside-done, inside-none}
 use borrow.Author.Needs.{needs}
 use Rattle.label.proofs.whole.parse_svg_text_element.Statement.{statement}
@@ -21,18 +21,42 @@ enum-known-k c = search needs
 enum-known-taken : tie.Need-enum-known-taken
 enum-known-taken c = search needs
 
+space-of-requires : tie.Need-space-of-requires
+space-of-requires c κs = (
+  climbs _ _ _ _ _ _ (label-holds _ _ _ _ _ _ _ _ (c .before .before .before .before .before .before .before .before .before
+      .before .before .before .before .before .before .before .before .pre)
+      (c .before .before .before .before .before .before .before .before .before .before .before .before .before .before .before
+      .before .before .args .ignored) _ _ _ _ _
+      (element-behind _ _ _ _
+      (c .before .before .before .before .before .before .before .before .before .parse-svg-element .ensures .1) _ _
+      (c .before .before .before .taken .given .1))
+      (element-done _ _ _ _ _ (c .before .before .before .before .before .before .before .before .before .parse-svg-element .ensures
+      .0 (c .before .before .before .before .before .before .before .before .before .before .before .before .before .before .before
+      .before .before .args .text .now)) _ _ (c .before .before .before .taken .given .1))),
+  reads _ _ _ _ _ _ (label-holds _ _ _ _ _ _ _ _ (c .before .before .before .before .before .before .before .before .before
+      .before .before .before .before .before .before .before .before .pre)
+      (c .before .before .before .before .before .before .before .before .before .before .before .before .before .before .before
+      .before .before .args .ignored) _ _ _ _ _
+      (element-behind _ _ _ _
+      (c .before .before .before .before .before .before .before .before .before .parse-svg-element .ensures .1) _ _
+      (c .before .before .before .taken .given .1))
+      (element-done _ _ _ _ _ (c .before .before .before .before .before .before .before .before .before .parse-svg-element .ensures
+      .0 (c .before .before .before .before .before .before .before .before .before .before .before .before .before .before .before
+      .before .before .args .text .now)) _ _ (c .before .before .before .taken .given .1))),
+)
+
 inside-requires : tie.Need-inside-requires
 inside-requires c κs =
     label-within _ _ _ _ _ _ _ _ (c .before .before .before .before .before .before .before .before .before .before .before
-    .before .before .before .before .before .before .before .pre)
+    .before .before .before .before .before .before .before .before .before .before .pre)
     (c .before .before .before .before .before .before .before .before .before .before .before .before .before .before .before
-    .before .before .before .args .ignored) _ _ _ _ _
-    (element-behind _ _ _ _
-    (c .before .before .before .before .before .before .before .before .before .before .parse-svg-element .ensures .1) _ _
-    (c .before .before .before .before .taken .given .1))
-    (element-done _ _ _ _ _
-    (c .before .before .before .before .before .before .before .before .before .before .parse-svg-element .ensures .0 _) _ _
-    (c .before .before .before .before .taken .given .1))
+    .before .before .before .before .before .before .args .ignored) _ _ _ _ _
+    (element-behind _ _ _ _ (c .before .before .before .before .before .before .before .before .before .before .before .before
+    .before .parse-svg-element .ensures .1) _ _ (c .before .before .before .before .before .before .before .taken .given .1))
+    (element-done _ _ _ _ _ (c .before .before .before .before .before .before .before .before .before .before .before .before
+    .before .parse-svg-element .ensures .0 (c .before .before .before .before .before .before .before .before .before .before
+    .before .before .before .before .before .before .before .before .before .before .before .args .text .now)) _ _
+    (c .before .before .before .before .before .before .before .taken .given .1)) _ (c .before .before .before .space-of .ensures)
 
 enum-known-k-2 : tie.Need-enum-known-k-2
 enum-known-k-2 c = search needs
@@ -44,17 +68,23 @@ trim-text-nodes-requires : tie.Need-trim-text-nodes-requires
 trim-text-nodes-requires c κs =
     label-trims _ _ _ _ _ _ _ _ (c .before .before .before .before .before .before .before .before .before .before .before .before
     .before .before .before .before .before .before .before .before .before .before .before .before .before .before .before
-    .before .before .before .before .pre) (c .before .before .before .before .before .before .before .before .before .before
-    .before .before .before .before .before .before .before .before .before .before .before .before .before .before .before
-    .before .before .before .before .before .before .args .ignored) _ _ _ _ _
-    (element-behind _ _ _ _ (c .before .before .before .before .before .before .before .before .before .before .before .before
-    .before .before .before .before .before .before .before .before .before .before .before .parse-svg-element .ensures .1) _ _
+    .before .before .before .before .before .before .before .pre)
     (c .before .before .before .before .before .before .before .before .before .before .before .before .before .before .before
-    .before .before .taken .given .1)) (element-done _ _ _ _ _ (c .before .before .before .before .before .before .before .before
     .before .before .before .before .before .before .before .before .before .before .before .before .before .before .before
-    .parse-svg-element .ensures .0 _) _ _ (c .before .before .before .before .before .before .before .before .before .before
-    .before .before .before .before .before .before .before .taken .given .1)) _ _ _ _ _
-    (inside-done _ _ _ _ _ _ _ _ _ _ _
+    .before .before .before .before .args .ignored) _ _ _ _ _
+    (element-behind _ _ _ _ (c .before .before .before .before .before .before .before .before .before .before .before .before
+    .before .before .before .before .before .before .before .before .before .before .before .before .before .before
+    .parse-svg-element .ensures .1) _ _ (c .before .before .before .before .before .before .before .before .before .before .before
+    .before .before .before .before .before .before .before .before .before .taken .given .1))
+    (element-done _ _ _ _ _ (c .before .before .before .before .before .before .before .before .before .before .before .before
+    .before .before .before .before .before .before .before .before .before .before .before .before .before .before
+    .parse-svg-element .ensures .0 (c .before .before .before .before .before .before .before .before .before .before .before
+    .before .before .before .before .before .before .before .before .before .before .before .before .before .before .before
+    .before .before .before .before .before .before .before .before .args .text .now)) _ _
+    (c .before .before .before .before .before .before .before .before .before .before .before .before .before .before .before
+    .before .before .before .before .before .taken .given .1)) _
+    (c .before .before .before .before .before .before .before .before .before .before .before .before .before .before .before
+    .before .space-of .ensures) _ _ _ _ _ (inside-done _ _ _ _ _ _ _ _ _ _ _
     (c .before .before .before .before .before .before .before .before .before .before .before .before .inside .ensures) _ _
     (c .before .before .before .before .all .given .1))
 
@@ -87,15 +117,22 @@ returns-2 : tie.Need-returns-2
 returns-2 c = (
   inside-refused _ _ _ _ _ _ _ _ (c .before .before .before .before .before .before .before .before .before .before .before
       .before .before .before .before .before .before .before .before .before .before .before .before .before .before .before
-      .before .before .pre) (c .before .before .before .before .before .before .before .before .before .before .before .before
+      .before .before .before .before .before .pre)
+      (c .before .before .before .before .before .before .before .before .before .before .before .before .before .before .before
       .before .before .before .before .before .before .before .before .before .before .before .before .before .before .before
       .before .args .ignored) _ _ _ _ _ (element-behind _ _ _ _ (c .before .before .before .before .before .before .before .before
-      .before .before .before .before .before .before .before .before .before .before .before .before .parse-svg-element .ensures
-      .1) _ _ (c .before .before .before .before .before .before .before .before .before .before .before .before .before .before
-      .taken .given .1)) (element-done _ _ _ _ _ (c .before .before .before .before .before .before .before .before .before .before
-      .before .before .before .before .before .before .before .before .before .before .parse-svg-element .ensures .0 _) _ _
-      (c .before .before .before .before .before .before .before .before .before .before .before .before .before .before .taken
-      .given .1)) _ (inside-none _ _ _ _ _ _ _ _ _ _ _
+      .before .before .before .before .before .before .before .before .before .before .before .before .before .before .before
+      .parse-svg-element .ensures .1) _ _ (c .before .before .before .before .before .before .before .before .before .before .before
+      .before .before .before .before .before .before .taken .given .1))
+      (element-done _ _ _ _ _ (c .before .before .before .before .before .before .before .before .before .before .before .before
+      .before .before .before .before .before .before .before .before .before .before .before .parse-svg-element .ensures .0
+      (c .before .before .before .before .before .before .before .before .before .before .before .before .before .before .before
+      .before .before .before .before .before .before .before .before .before .before .before .before .before .before .before
+      .before .args .text .now)) _ _ (c .before .before .before .before .before .before .before .before .before .before .before
+      .before .before .before .before .before .before .taken .given .1))
+      (c .before .before .before .before .before .before .before .before .before .before .before .before .before .space-of .result)
+      (c .before .before .before .before .before .before .before .before .before .before .before .before .before .space-of .ensures)
+      _ (inside-none _ _ _ _ _ _ _ _ _ _ _
       (c .before .before .before .before .before .before .before .before .before .inside .ensures) _ (c .before .k2 .given .1)),
   tt,
 )
@@ -105,13 +142,15 @@ same-length-6 c =
     c .before .before .before .nodes3 .given ∙ c .before .before .before .before .before .before .before .before .before .before
     .before .before .before .before .before .before .nodes2 .given
     ∙ c .before .before .before .before .before .before .before .before .before .before .before .before .before .before .before
-    .before .before .before .before .before .before .before .before .before .before .before .before .nodes .given
+    .before .before .before .before .before .before .before .before .before .before .before .before .before .before .before .nodes
+    .given
 
 same-length-7 : tie.Need-same-length-7
 same-length-7 c =
     c .before .before .before .before .before .before .before .before .before .before .before .before .before .before .attributes2
     .given ∙ c .before .before .before .before .before .before .before .before .before .before .before .before .before .before
-    .before .before .before .before .before .before .before .before .before .before .before .attributes .given
+    .before .before .before .before .before .before .before .before .before .before .before .before .before .before .attributes
+    .given
 
 same-length-8 : tie.Need-same-length-8
 same-length-8 c = search needs
@@ -120,40 +159,50 @@ returns-3 : tie.Need-returns-3
 returns-3 c = (
   label-done _ _ _ _ _ _ _ _ (c .before .before .before .before .before .before .before .before .before .before .before .before
       .before .before .before .before .before .before .before .before .before .before .before .before .before .before .before
-      .before .before .before .before .before .before .before .before .before .pre)
+      .before .before .before .before .before .before .before .before .before .before .before .before .pre)
       (c .before .before .before .before .before .before .before .before .before .before .before .before .before .before .before
       .before .before .before .before .before .before .before .before .before .before .before .before .before .before .before
-      .before .before .before .before .before .before .args .ignored) _ _ _ _ _
+      .before .before .before .before .before .before .before .before .before .args .ignored) _ _ _ _ _
       (element-behind _ _ _ _ (c .before .before .before .before .before .before .before .before .before .before .before .before
       .before .before .before .before .before .before .before .before .before .before .before .before .before .before .before
-      .before .parse-svg-element .ensures .1) _ _
+      .before .before .before .before .parse-svg-element .ensures .1) _ _
       (c .before .before .before .before .before .before .before .before .before .before .before .before .before .before .before
-      .before .before .before .before .before .before .before .taken .given .1))
+      .before .before .before .before .before .before .before .before .before .before .taken .given .1))
       (element-done _ _ _ _ _ (c .before .before .before .before .before .before .before .before .before .before .before .before
       .before .before .before .before .before .before .before .before .before .before .before .before .before .before .before
-      .before .parse-svg-element .ensures .0 _) _ _
+      .before .before .before .before .parse-svg-element .ensures .0
       (c .before .before .before .before .before .before .before .before .before .before .before .before .before .before .before
-      .before .before .before .before .before .before .before .taken .given .1)) _ _ _ _ _
+      .before .before .before .before .before .before .before .before .before .before .before .before .before .before .before
+      .before .before .before .before .before .before .before .before .before .args .text .now)) _ _
+      (c .before .before .before .before .before .before .before .before .before .before .before .before .before .before .before
+      .before .before .before .before .before .before .before .before .before .before .taken .given .1)) _
+      (c .before .before .before .before .before .before .before .before .before .before .before .before .before .before .before
+      .before .before .before .before .before .before .space-of .ensures) _ _ _ _ _
       (inside-done _ _ _ _ _ _ _ _ _ _ _ (c .before .before .before .before .before .before .before .before .before .before .before
       .before .before .before .before .before .before .inside .ensures) _ _
       (c .before .before .before .before .before .before .before .before .before .all .given .1)) _ _
       (c .before .before .before .before .trim-text-nodes .ensures),
   label-leaves _ _ _ _ _ _ _ _ (c .before .before .before .before .before .before .before .before .before .before .before
       .before .before .before .before .before .before .before .before .before .before .before .before .before .before .before
-      .before .before .before .before .before .before .before .before .before .before .pre)
+      .before .before .before .before .before .before .before .before .before .before .before .before .before .pre)
       (c .before .before .before .before .before .before .before .before .before .before .before .before .before .before .before
       .before .before .before .before .before .before .before .before .before .before .before .before .before .before .before
-      .before .before .before .before .before .before .args .ignored) _ _ _ _ _
+      .before .before .before .before .before .before .before .before .before .args .ignored) _ _ _ _ _
       (element-behind _ _ _ _ (c .before .before .before .before .before .before .before .before .before .before .before .before
       .before .before .before .before .before .before .before .before .before .before .before .before .before .before .before
-      .before .parse-svg-element .ensures .1) _ _
+      .before .before .before .before .parse-svg-element .ensures .1) _ _
       (c .before .before .before .before .before .before .before .before .before .before .before .before .before .before .before
-      .before .before .before .before .before .before .before .taken .given .1))
+      .before .before .before .before .before .before .before .before .before .before .taken .given .1))
       (element-done _ _ _ _ _ (c .before .before .before .before .before .before .before .before .before .before .before .before
       .before .before .before .before .before .before .before .before .before .before .before .before .before .before .before
-      .before .parse-svg-element .ensures .0 _) _ _
+      .before .before .before .before .parse-svg-element .ensures .0
       (c .before .before .before .before .before .before .before .before .before .before .before .before .before .before .before
-      .before .before .before .before .before .before .before .taken .given .1)) _ _ _ _ _
+      .before .before .before .before .before .before .before .before .before .before .before .before .before .before .before
+      .before .before .before .before .before .before .before .before .before .args .text .now)) _ _
+      (c .before .before .before .before .before .before .before .before .before .before .before .before .before .before .before
+      .before .before .before .before .before .before .before .before .before .before .taken .given .1)) _
+      (c .before .before .before .before .before .before .before .before .before .before .before .before .before .before .before
+      .before .before .before .before .before .before .space-of .ensures) _ _ _ _ _
       (inside-done _ _ _ _ _ _ _ _ _ _ _ (c .before .before .before .before .before .before .before .before .before .before .before
       .before .before .before .before .before .before .inside .ensures) _ _
       (c .before .before .before .before .before .before .before .before .before .all .given .1)) _ _
@@ -167,6 +216,7 @@ parse-svg-text-element-spec =
     parse-svg-element-requires
     enum-known-k
     enum-known-taken
+    space-of-requires
     inside-requires
     enum-known-k-2
     enum-known-all

@@ -3,7 +3,7 @@ use mathlib.Core.List.{List}
 use Rattle.model.specs.Drawing.{Source}
 use Rattle.tree.specs.Lent.{treeOf}
 use Rattle.label.specs.Walk.{quoteOf}
-use Rattle.label.proofs.Holders.{climbs, reads, appends, quote-node, found-texts, found-quotes, found-nothing}
+use Rattle.label.proofs.Holders.{appends, quote-node, found-texts, found-quotes, found-nothing}
 use borrow.Author.Needs.{needs}
 use Rattle.label.proofs.within.add_quoted.Statement.{statement}
 use Rattle.label.proofs.within.add_quoted.Tie as tie
@@ -14,20 +14,12 @@ quoted-requires c κs = search needs
 enum-known-l : tie.Need-enum-known-l
 enum-known-l c = search needs
 
-space-of-requires : tie.Need-space-of-requires
-space-of-requires c κs = (
-  climbs _ _ _ _ _ _ (c .before .before .before .before .before .before .before .before .before .before .pre .0),
-  reads _ _ _ _ _ _ (c .before .before .before .before .before .before .before .before .before .before .pre .0),
-)
-
 append-quoted-requires : tie.Need-append-quoted-requires
 append-quoted-requires c κs = (
-  found-quotes _ _ _ _ (c .before .before .before .before .before .before .before .quoted .ensures .0) _
-      (c .before .before .before .before .before .l .given .1)
-      (c .before .before .before .before .before .before .before .quoted .ensures .1)
-      (c .before .before .before .before .before .before .before .before .before .before .before .before .before .pre .1 .1),
-  appends _ _ _ _ _ _
-      (c .before .before .before .before .before .before .before .before .before .before .before .before .before .pre .0),
+  found-quotes _ _ _ _ (c .before .before .before .before .before .quoted .ensures .0) _
+      (c .before .before .before .l .given .1) (c .before .before .before .before .before .quoted .ensures .1)
+      (c .before .before .before .before .before .before .before .before .before .before .before .pre .1 .1 .1),
+  appends _ _ _ _ _ _ (c .before .before .before .before .before .before .before .before .before .before .before .pre .0),
 )
 
 enum-told : tie.Need-enum-told
@@ -41,21 +33,21 @@ same-length-2 c = search needs
 
 returns : tie.Need-returns
 returns c =
-    quote-node _ _ _ _ _ _ _ _ (c .before .before .before .before .before .before .before .space-of .ensures) _ _
-    (c .before .before .before .before .append-quoted .result) (c .before .before .before .before .append-quoted .ensures)
+    quote-node _ _ _ _ _ _ _ _ (c .before .before .before .before .before .before .before .before .before .before .before .before
+    .before .before .before .before .pre .1 .0) _ _ (c .before .before .before .before .append-quoted .result)
+    (c .before .before .before .before .append-quoted .ensures)
     ∙ ap (λ (l : List Source). quoteOf (c .before .before .before .before .before .before .before .before .before .before .before
-    .before .before .before .before .before .before .before .args .characters .now) l
+    .before .before .before .before .before .args .characters .now) l
     (c .before .before .before .before .before .before .before .before .before .before .before .before .before .before .before
-    .before .before .before .args .p) (treeOf (c .before .before .before .before .before .before .before .before .before .before
-    .before .before .before .before .before .before .before .before .args .nodes .now)
+    .before .args .p) (treeOf (c .before .before .before .before .before .before .before .before .before .before .before .before
+    .before .before .before .before .args .nodes .now)
     (c .before .before .before .before .before .before .before .before .before .before .before .before .before .before .before
-    .before .before .before .args .attributes .now)
+    .before .args .attributes .now) (c .before .before .before .before .before .before .before .before .before .before .before
+    .before .before .before .before .before .args .text .now)
     (c .before .before .before .before .before .before .before .before .before .before .before .before .before .before .before
-    .before .before .before .args .text .now)
-    (c .before .before .before .before .before .before .before .before .before .before .before .before .before .before .before
-    .before .before .before .args .counts))) (found-texts _ _ _ _
-    (c .before .before .before .before .before .before .before .before .before .before .before .before .quoted .ensures .0) _
-    (c .before .before .before .before .before .before .before .before .before .before .l .given .1))
+    .before .args .counts))) (found-texts _ _ _ _
+    (c .before .before .before .before .before .before .before .before .before .before .quoted .ensures .0) _
+    (c .before .before .before .before .before .before .before .before .l .given .1))
 
 returns-2 : tie.Need-returns-2
 returns-2 c = found-nothing _ _ _ _ (c .before .before .quoted .ensures .0) (c .enum-told .given .1) _ _
@@ -66,7 +58,6 @@ add-quoted-spec =
     (tie.spec
     quoted-requires
     enum-known-l
-    space-of-requires
     append-quoted-requires
     enum-told
     same-length

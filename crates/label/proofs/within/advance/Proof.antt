@@ -1,7 +1,8 @@
+use Rattle.label.proofs.Holders.{climbs, reads}
 use native.Mathlib.Omega.{arith}
 use Rattle.walk.proofs.Walks.{item-told}
 use Rattle.label.proofs.Telling.{opening, append-done, append-none}
-use Rattle.label.proofs.Walking.{holds, text-lies, text-refused, goes-text, goes-other, ends-close, goes-up, ends-none}
+use Rattle.label.proofs.Walking.{holds, space-read, text-lies, text-refused, goes-text, goes-other, ends-close, goes-up, ends-none}
 use borrow.Author.Needs.{needs}
 use Rattle.label.proofs.within.advance.Statement.{statement}
 use Rattle.label.proofs.within.advance.Tie as tie
@@ -32,13 +33,17 @@ add-text-requires c κs =
       holds _ _ _ _ _ _ _
           (c .before .before .before .before .before .before .before .before .before .before .before .before .before .before .pre),
       (
-        text-lies _ _ _ _ _ _ _
-            (c .before .before .before .before .before .before .before .before .before .before .before .before .before .before .pre) _
-            (spoken .1 .1) _ (spoken .0),
+        space-read _ _ _ _ _ _ _
+            (c .before .before .before .before .before .before .before .before .before .before .before .before .before .before .pre),
         (
-          c .before .before .before .before .before .before .before .before .before .before .before
-              .before .before .before .pre .small,
-          omega (arith, spoken .1 .0 .texts, spoken .1 .0 .at, spoken .1 .0 .size),
+          text-lies _ _ _ _ _ _ _
+              (c .before .before .before .before .before .before .before .before .before .before .before .before .before .before .pre) _
+              (spoken .1 .1) _ (spoken .0),
+          (
+            c .before .before .before .before .before .before .before .before .before .before .before
+                .before .before .before .pre .small,
+            omega (arith, spoken .1 .0 .texts, spoken .1 .0 .at, spoken .1 .0 .size),
+          ),
         ),
       ),
     )
@@ -66,8 +71,8 @@ returns c =
 node-word-requires : tie.Need-node-word-requires
 node-word-requires c κs = search needs
 
-sub-t40 : tie.Need-sub-t40
-sub-t40 c =
+sub-up : tie.Need-sub-up
+sub-up c =
     omega (
       arith,
       c .node-word .ensures,
@@ -83,6 +88,35 @@ sub-t40 c =
           (c .before .before .before .before .before .before .before .before .before .before .before .before .before .before .before
           .pre .below),
     )
+
+space-above-requires : tie.Need-space-above-requires
+space-above-requires c κs = (
+  climbs _ _ _ _ _ _ (holds _ _ _ _ _ _ _ (c .before .before .before .before .before .before .before .before .before .before
+      .before .before .before .before .before .before .before .pre)),
+  (
+    reads _ _ _ _ _ _ (holds _ _ _ _ _ _ _ (c .before .before .before .before .before .before .before .before .before .before
+        .before .before .before .before .before .before .before .pre)),
+    (
+      omega (
+        arith,
+        c .before .before .node-word .ensures,
+        c .before .before .before .before .before .before .before .before .before .before .before .before .before .before .before
+            .before .before .pre .sound .under (c .before .before .before .before .before .before .before .before .before .before .before
+            .before .before .before .before .before .before .args .s .p)
+            (omega (
+              arith,
+              c .before .before .before .before .before .before .before .before .before .before .before .before .before
+                  .before .before .before .before .pre .up,
+              c .before .before .before .before .if1 .left,
+            ))
+            (c .before .before .before .before .before .before .before .before .before .before .before .before .before .before .before
+            .before .before .pre .below),
+      ),
+      space-read _ _ _ _ _ _ _ (c .before .before .before .before .before .before .before .before
+          .before .before .before .before .before .before .before .before .before .pre),
+    ),
+  ),
+)
 
 enum-told : tie.Need-enum-told
 enum-told c = search needs
@@ -148,12 +182,17 @@ returns-5 c =
 same-length-10 : tie.Need-same-length-10
 same-length-10 c = search needs
 
+same-length-11 : tie.Need-same-length-11
+same-length-11 c = search needs
+
 returns-6 : tie.Need-returns-6
 returns-6 c =
-    let closed = item-told _ _ _ _ _ (c .before .before .before .before .before .n2 .given .1)
-    (c .before .before .before .before .before .before .before .next-item .ensures) in
+    let closed = item-told _ _ _ _ _ (c .before .before .before .before .before .before .before .before .n2 .given .1)
+    (c .before .before .before .before .before .before .before .before .before .before .next-item .ensures) in
     goes-up _ _ _ _ _ _ _ (c .before .before .before .before .before .before .before .before .before .before .before .before
-    .before .before .before .pre) _ (closed .1) (closed .0) (c .before .before .if1 .left) _ (c .node-word .ensures)
+    .before .before .before .before .before .before .pre) _ (closed .1) (closed .0)
+    (c .before .before .before .before .before .if1 .left) _ (c .before .before .before .node-word .ensures) _
+    (c .space-above .ensures)
 
 returns-7 : tie.Need-returns-7
 returns-7 c =
@@ -175,7 +214,8 @@ advance-spec =
     enum-known-n-2
     returns
     node-word-requires
-    sub-t40
+    sub-up
+    space-above-requires
     enum-told
     same-length
     same-length-2
@@ -191,5 +231,6 @@ advance-spec =
     returns-4
     returns-5
     same-length-10
+    same-length-11
     returns-6
     returns-7)

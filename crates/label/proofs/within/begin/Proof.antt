@@ -1,3 +1,5 @@
+use native.Mathlib.Omega.{arith}
+use Rattle.label.proofs.Holders.{reads}
 use mathlib.Core.Path.{sym, ap, _∙_}
 use lib.Dec.{eqb}
 use Rattle.walk.specs.Nodes.{elementOf}
@@ -5,7 +7,8 @@ use Rattle.tree.proofs.Bools.{fails, passes}
 use Rattle.label.specs.Content.{tagIn}
 use Rattle.label.proofs.Contents.{content-is}
 use Rattle.label.proofs.Telling.{element-done, element-none, element-behind, append-done, append-none}
-use Rattle.label.proofs.Walking.{ready, in-values, goes-past, element-refused, goes-in, tref-holds, tref-refused, goes-tref}
+use Rattle.label.proofs.Walking.{ready, in-values, goes-past, new-space, element-refused, goes-in}
+use Rattle.label.proofs.Walking.{tref-holds, tref-refused, goes-tref}
 use borrow.Author.Needs.{needs}
 use Rattle.label.proofs.within.begin.Statement.{statement}
 use Rattle.label.proofs.within.begin.Tie as tie
@@ -52,6 +55,36 @@ enum-known-k c = search needs
 enum-known-taken : tie.Need-enum-known-taken
 enum-known-taken c = search needs
 
+get-xmlspace-requires : tie.Need-get-xmlspace-requires
+get-xmlspace-requires c κs =
+    reads _ _ _ _ _ _ (tref-holds _ _ _ _ _ _ _ (c .before .before .before .before .before .before .before .before .before .before
+    .before .before .before .before .before .before .before .before .before .before .before .before .before .before .pre .0) _
+    (c .before .before .before .before .before .before .before .before .before .before .before .before .before .before .before
+    .before .before .before .before .before .before .before .before .before .pre .1)
+    (sym (content-is (elementOf (c .before .before .before .before .before .before .before .before .before .before .before .before
+    .before .before .before .before .before .before .before .before .before .before .before .before .args .script .now)
+    (c .before .before .before .before .before .before .before .before .before .before .before .before .before .before .before
+    .before .before .before .before .before .before .before .before .before .args .characters .now)
+    (c .before .before .before .before .before .before .before .before .before .before .before .before .before .before .before
+    .before .before .before .before .before .before .before .before .before .args .x))
+    (eqb (c .before .before .before .before .before .before .before .before .before .before .before .before .before .before
+    .before .before .before .before .before .before .before .before .before .before .args .s .p)
+    (c .before .before .before .before .before .before .before .before .before .before .before .before .before .before .before
+    .before .before .before .before .before .before .before .before .before .args .e)))
+    ∙ passes (c .before .before .before .before .before .before .before .before .before .before .before .before .before .before
+    .is-text-content .ensures)
+    (c .before .before .before .before .before .before .before .before .before .before .before .before .before .if1 .left)) _
+    (c .before .before .before .before .before .before .before .before .before .before .text-tag-of .ensures
+    ∙ ap tagIn (c .before .before .before .before .before .before .before .before .before .before .before .before .before .before
+    .before .before .before .before .code-of .ensures)) _ _ _ _ _
+    (element-behind _ _ _ _
+    (c .before .before .before .before .before .before .before .before .before .parse-svg-element .ensures .1) _ _
+    (c .before .before .before .taken .given .1))
+    (element-done _ _ _ _ _ (c .before .before .before .before .before .before .before .before .before .parse-svg-element .ensures
+    .0 (c .before .before .before .before .before .before .before .before .before .before .before .before .before .before .before
+    .before .before .before .before .before .before .before .before .before .args .text .now)) _ _
+    (c .before .before .before .taken .given .1))) _ (omega arith)
+
 same-length : tie.Need-same-length
 same-length c = search needs
 
@@ -61,64 +94,108 @@ same-length-2 c = search needs
 returns-2 : tie.Need-returns-2
 returns-2 c =
     goes-in _ _ _ _ _ _ _ (c .before .before .before .before .before .before .before .before .before .before .before .before
-    .before .before .before .before .before .before .before .before .before .before .before .pre .0) _
+    .before .before .before .before .before .before .before .before .before .before .before .before .before .before .pre .0) _
     (c .before .before .before .before .before .before .before .before .before .before .before .before .before .before .before
-    .before .before .before .before .before .before .before .before .pre .1)
+    .before .before .before .before .before .before .before .before .before .before .before .pre .1)
     (sym (content-is (elementOf (c .before .before .before .before .before .before .before .before .before .before .before .before
-    .before .before .before .before .before .before .before .before .before .before .before .args .script .now)
+    .before .before .before .before .before .before .before .before .before .before .before .before .before .before .args .script
+    .now) (c .before .before .before .before .before .before .before .before .before .before .before .before .before .before
+    .before .before .before .before .before .before .before .before .before .before .before .before .args .characters .now)
     (c .before .before .before .before .before .before .before .before .before .before .before .before .before .before .before
-    .before .before .before .before .before .before .before .before .args .characters .now)
-    (c .before .before .before .before .before .before .before .before .before .before .before .before .before .before .before
-    .before .before .before .before .before .before .before .before .args .x))
+    .before .before .before .before .before .before .before .before .before .before .before .args .x))
     (eqb (c .before .before .before .before .before .before .before .before .before .before .before .before .before .before
-    .before .before .before .before .before .before .before .before .before .args .s .p)
+    .before .before .before .before .before .before .before .before .before .before .before .before .args .s .p)
     (c .before .before .before .before .before .before .before .before .before .before .before .before .before .before .before
-    .before .before .before .before .before .before .before .before .args .e)))
-    ∙ passes (c .before .before .before .before .before .before .before .before .before .before .before .before .before
-    .is-text-content .ensures)
-    (c .before .before .before .before .before .before .before .before .before .before .before .before .if1 .left)) _
-    (c .before .before .before .before .before .before .before .before .before .text-tag-of .ensures
-    ∙ ap tagIn (c .before .before .before .before .before .before .before .before .before .before .before .before .before .before
-    .before .before .before .code-of .ensures)) _ _ _ _ _
-    (element-behind _ _ _ _ (c .before .before .before .before .before .before .before .before .parse-svg-element .ensures .1) _ _
-    (c .before .before .taken .given .1)) (element-done _ _ _ _ _
-    (c .before .before .before .before .before .before .before .before .parse-svg-element .ensures .0 _) _ _
-    (c .before .before .taken .given .1)) (λ z. c .if2 .taken (c .before .before .before .before .before .before .before .before
-    .before .before .before .before .before .before .before .before .before .code-of .ensures ∙ z))
+    .before .before .before .before .before .before .before .before .before .before .before .args .e)))
+    ∙ passes (c .before .before .before .before .before .before .before .before .before .before .before .before .before .before
+    .before .before .is-text-content .ensures)
+    (c .before .before .before .before .before .before .before .before .before .before .before .before .before .before .before
+    .if1 .left)) _ (c .before .before .before .before .before .before .before .before .before .before .before .before .text-tag-of
+    .ensures ∙ ap tagIn (c .before .before .before .before .before .before .before .before .before .before .before .before .before
+    .before .before .before .before .before .before .before .code-of .ensures)) _ _ _ _ _
+    (element-behind _ _ _ _
+    (c .before .before .before .before .before .before .before .before .before .before .before .parse-svg-element .ensures .1) _ _
+    (c .before .before .before .before .before .taken .given .1))
+    (element-done _ _ _ _ _ (c .before .before .before .before .before .before .before .before .before .before .before
+    .parse-svg-element .ensures .0 (c .before .before .before .before .before .before .before .before .before .before .before
+    .before .before .before .before .before .before .before .before .before .before .before .before .before .before .before .args
+    .text .now)) _ _ (c .before .before .before .before .before .taken .given .1)) _ (c .before .get-xmlspace .ensures)
+    (λ z. c .if2 .taken (c .before .before .before .before .before .before .before .before .before .before .before .before .before
+    .before .before .before .before .before .before .before .code-of .ensures ∙ z))
 
 add-quoted-requires : tie.Need-add-quoted-requires
 add-quoted-requires c κs = (
   tref-holds _ _ _ _ _ _ _ (c .before .before .before .before .before .before .before .before .before .before .before .before
-      .before .before .before .before .before .before .before .before .before .before .before .before .before .before .pre .0) _
+      .before .before .before .before .before .before .before .before .before .before .before .before .before .before .before
+      .before .before .pre .0) _ (c .before .before .before .before .before .before .before .before .before .before .before .before
+      .before .before .before .before .before .before .before .before .before .before .before .before .before .before .before
+      .before .before .pre .1) (sym (content-is (elementOf (c .before .before .before .before .before .before .before .before
+      .before .before .before .before .before .before .before .before .before .before .before .before .before .before .before
+      .before .before .before .before .before .before .args .script .now)
       (c .before .before .before .before .before .before .before .before .before .before .before .before .before .before .before
-      .before .before .before .before .before .before .before .before .before .before .before .pre .1)
-      (sym (content-is (elementOf (c .before .before .before .before .before .before .before .before .before .before .before .before
-      .before .before .before .before .before .before .before .before .before .before .before .before .before .before .args .script
-      .now) (c .before .before .before .before .before .before .before .before .before .before .before .before .before .before
-      .before .before .before .before .before .before .before .before .before .before .before .before .args .characters .now)
+      .before .before .before .before .before .before .before .before .before .before .before .before .before .before .args
+      .characters .now) (c .before .before .before .before .before .before .before .before .before .before .before .before .before
+      .before .before .before .before .before .before .before .before .before .before .before .before .before .before .before
+      .before .args .x)) (eqb (c .before .before .before .before .before .before .before .before .before .before .before .before
+      .before .before .before .before .before .before .before .before .before .before .before .before .before .before .before
+      .before .before .args .s .p) (c .before .before .before .before .before .before .before .before .before .before .before
+      .before .before .before .before .before .before .before .before .before .before .before .before .before .before .before
+      .before .before .before .args .e))) ∙ passes (c .before .before .before .before .before .before .before .before .before
+      .before .before .before .before .before .before .before .before .before .before .is-text-content .ensures)
       (c .before .before .before .before .before .before .before .before .before .before .before .before .before .before .before
-      .before .before .before .before .before .before .before .before .before .before .before .args .x))
-      (eqb (c .before .before .before .before .before .before .before .before .before .before .before .before .before .before
-      .before .before .before .before .before .before .before .before .before .before .before .before .args .s .p)
+      .before .before .before .if1 .left)) _ (c .before .before .before .before .before .before .before .before .before .before
+      .before .before .before .before .before .text-tag-of .ensures
+      ∙ ap tagIn (c .before .before .before .before .before .before .before .before .before .before .before .before .before .before
+      .before .before .before .before .before .before .before .before .before .code-of .ensures)) _ _ _ _ _
+      (element-behind _ _ _ _ (c .before .before .before .before .before .before .before .before .before .before .before .before
+      .before .before .parse-svg-element .ensures .1) _ _
+      (c .before .before .before .before .before .before .before .before .taken .given .1))
+      (element-done _ _ _ _ _ (c .before .before .before .before .before .before .before .before .before .before .before .before
+      .before .before .parse-svg-element .ensures .0
       (c .before .before .before .before .before .before .before .before .before .before .before .before .before .before .before
-      .before .before .before .before .before .before .before .before .before .before .before .args .e)))
-      ∙ passes (c .before .before .before .before .before .before .before .before .before .before .before .before .before .before
-      .before .before .is-text-content .ensures)
-      (c .before .before .before .before .before .before .before .before .before .before .before .before .before .before .before
-      .if1 .left)) _ (c .before .before .before .before .before .before .before .before .before .before .before .before .text-tag-of
-      .ensures ∙ ap tagIn (c .before .before .before .before .before .before .before .before .before .before .before .before .before
-      .before .before .before .before .before .before .before .code-of .ensures)) _ _ _ _ _
-      (element-behind _ _ _ _
-      (c .before .before .before .before .before .before .before .before .before .before .before .parse-svg-element .ensures .1) _ _
-      (c .before .before .before .before .before .taken .given .1))
-      (element-done _ _ _ _ _
-      (c .before .before .before .before .before .before .before .before .before .before .before .parse-svg-element .ensures .0 _) _
-      _ (c .before .before .before .before .before .taken .given .1)),
+      .before .before .before .before .before .before .before .before .before .before .before .before .before .before .args .text
+      .now)) _ _ (c .before .before .before .before .before .before .before .before .taken .given .1)),
   (
-    c .before .before .before .before .before .before .before .before .before .before .before .before .before .before .before
-        .before .before .before .before .before .before .before .before .before .before .before .pre .1 .standing,
-    c .before .before .before .before .before .before .before .before .before .before .before .before .before .before .before
-        .before .before .before .before .before .before .before .before .before .before .before .pre .0 .all,
+    new-space _ _ _ _ _ _ _ (c .before .before .before .before .before .before .before .before .before .before .before .before
+        .before .before .before .before .before .before .before .before .before .before .before .before .before .before .before
+        .before .before .pre .0) _ (c .before .before .before .before .before .before .before .before .before .before .before .before
+        .before .before .before .before .before .before .before .before .before .before .before .before .before .before .before
+        .before .before .pre .1) (sym (content-is (elementOf (c .before .before .before .before .before .before .before .before
+        .before .before .before .before .before .before .before .before .before .before .before .before .before .before .before
+        .before .before .before .before .before .before .args .script .now)
+        (c .before .before .before .before .before .before .before .before .before .before .before .before .before .before .before
+        .before .before .before .before .before .before .before .before .before .before .before .before .before .before .args
+        .characters .now) (c .before .before .before .before .before .before .before .before .before .before .before .before .before
+        .before .before .before .before .before .before .before .before .before .before .before .before .before .before .before
+        .before .args .x)) (eqb (c .before .before .before .before .before .before .before .before .before .before .before .before
+        .before .before .before .before .before .before .before .before .before .before .before .before .before .before .before
+        .before .before .args .s .p) (c .before .before .before .before .before .before .before .before .before .before .before
+        .before .before .before .before .before .before .before .before .before .before .before .before .before .before .before
+        .before .before .before .args .e))) ∙ passes (c .before .before .before .before .before .before .before .before .before
+        .before .before .before .before .before .before .before .before .before .before .is-text-content .ensures)
+        (c .before .before .before .before .before .before .before .before .before .before .before .before .before .before .before
+        .before .before .before .if1 .left)) _ (c .before .before .before .before .before .before .before .before .before .before
+        .before .before .before .before .before .text-tag-of .ensures
+        ∙ ap tagIn (c .before .before .before .before .before .before .before .before .before .before .before .before .before .before
+        .before .before .before .before .before .before .before .before .before .code-of .ensures)) _ _ _ _ _
+        (element-behind _ _ _ _ (c .before .before .before .before .before .before .before .before .before .before .before .before
+        .before .before .parse-svg-element .ensures .1) _ _
+        (c .before .before .before .before .before .before .before .before .taken .given .1))
+        (element-done _ _ _ _ _ (c .before .before .before .before .before .before .before .before .before .before .before .before
+        .before .before .parse-svg-element .ensures .0
+        (c .before .before .before .before .before .before .before .before .before .before .before .before .before .before .before
+        .before .before .before .before .before .before .before .before .before .before .before .before .before .before .args .text
+        .now)) _ _ (c .before .before .before .before .before .before .before .before .taken .given .1))
+        (c .before .before .before .before .get-xmlspace .result)
+        (c .before .before .before .before .get-xmlspace .ensures),
+    (
+      c .before .before .before .before .before .before .before .before .before .before .before .before .before .before .before
+          .before .before .before .before .before .before .before .before .before .before .before .before .before .before .pre .1
+          .standing,
+      c .before .before .before .before .before .before .before .before .before .before .before .before .before .before
+          .before .before .before .before .before .before .before .before .before .before .before .before .before .before .before .pre
+          .0 .all,
+    ),
   ),
 )
 
@@ -131,9 +208,9 @@ enum-known-more c = search needs
 past-element-requires-2 : tie.Need-past-element-requires-2
 past-element-requires-2 c κs =
     (element-behind _ _ _ _ (c .before .before .before .before .before .before .before .before .before .before .before .before
-    .before .before .before .before .before .before .before .parse-svg-element .ensures .1) _ _
-    (c .before .before .before .before .before .before .before .before .before .before .before .before .before .taken .given .1))
-    .fit
+    .before .before .before .before .before .before .before .before .before .before .parse-svg-element .ensures .1) _ _
+    (c .before .before .before .before .before .before .before .before .before .before .before .before .before .before .before
+    .before .taken .given .1)) .fit
 
 same-length-3 : tie.Need-same-length-3
 same-length-3 c = search needs
@@ -178,49 +255,60 @@ returns-4 : tie.Need-returns-4
 returns-4 c =
     tref-refused _ _ _ _ _ _ _ (c .before .before .before .before .before .before .before .before .before .before .before .before
     .before .before .before .before .before .before .before .before .before .before .before .before .before .before .before
-    .before .before .before .before .before .before .before .pre .0) _
+    .before .before .before .before .before .before .before .before .before .before .pre .0) _
     (c .before .before .before .before .before .before .before .before .before .before .before .before .before .before .before
     .before .before .before .before .before .before .before .before .before .before .before .before .before .before .before
-    .before .before .before .before .pre .1) (sym (content-is (elementOf (c .before .before .before .before .before .before
+    .before .before .before .before .before .before .before .pre .1)
+    (sym (content-is (elementOf (c .before .before .before .before .before .before .before .before .before .before .before .before
     .before .before .before .before .before .before .before .before .before .before .before .before .before .before .before
-    .before .before .before .before .before .before .before .before .before .before .before .before .before .args .script .now)
+    .before .before .before .before .before .before .before .before .before .before .args .script .now)
     (c .before .before .before .before .before .before .before .before .before .before .before .before .before .before .before
     .before .before .before .before .before .before .before .before .before .before .before .before .before .before .before
-    .before .before .before .before .args .characters .now)
+    .before .before .before .before .before .before .before .args .characters .now)
     (c .before .before .before .before .before .before .before .before .before .before .before .before .before .before .before
     .before .before .before .before .before .before .before .before .before .before .before .before .before .before .before
-    .before .before .before .before .args .x))
+    .before .before .before .before .before .before .before .args .x))
     (eqb (c .before .before .before .before .before .before .before .before .before .before .before .before .before .before
     .before .before .before .before .before .before .before .before .before .before .before .before .before .before .before
-    .before .before .before .before .before .args .s .p)
+    .before .before .before .before .before .before .before .before .args .s .p)
     (c .before .before .before .before .before .before .before .before .before .before .before .before .before .before .before
     .before .before .before .before .before .before .before .before .before .before .before .before .before .before .before
-    .before .before .before .before .args .e)))
+    .before .before .before .before .before .before .before .args .e)))
     ∙ passes (c .before .before .before .before .before .before .before .before .before .before .before .before .before .before
-    .before .before .before .before .before .before .before .before .before .before .is-text-content .ensures)
+    .before .before .before .before .before .before .before .before .before .before .before .before .before .is-text-content
+    .ensures) (c .before .before .before .before .before .before .before .before .before .before .before .before .before .before
+    .before .before .before .before .before .before .before .before .before .before .before .before .if1 .left)) _
     (c .before .before .before .before .before .before .before .before .before .before .before .before .before .before .before
-    .before .before .before .before .before .before .before .before .if1 .left)) _
-    (c .before .before .before .before .before .before .before .before .before .before .before .before .before .before .before
-    .before .before .before .before .before .text-tag-of .ensures
+    .before .before .before .before .before .before .before .before .text-tag-of .ensures
     ∙ ap tagIn (c .before .before .before .before .before .before .before .before .before .before .before .before .before .before
-    .before .before .before .before .before .before .before .before .before .before .before .before .before .before .code-of
-    .ensures)) _ _ _ _ _ (element-behind _ _ _ _ (c .before .before .before .before .before .before .before .before .before
+    .before .before .before .before .before .before .before .before .before .before .before .before .before .before .before
+    .before .before .code-of .ensures)) _ _ _ _ _
+    (element-behind _ _ _ _ (c .before .before .before .before .before .before .before .before .before .before .before .before
     .before .before .before .before .before .before .before .before .before .before .parse-svg-element .ensures .1) _ _
-    (c .before .before .before .before .before .before .before .before .before .before .before .before .before .taken .given .1))
-    (element-done _ _ _ _ _ (c .before .before .before .before .before .before .before .before .before .before .before .before
-    .before .before .before .before .before .before .before .parse-svg-element .ensures .0 _) _ _
-    (c .before .before .before .before .before .before .before .before .before .before .before .before .before .taken .given .1))
-    (sym (c .before .before .before .before .before .before .before .before .before .before .before .before .before .before
-    .before .before .before .before .before .before .before .before .before .before .before .before .before .before .code-of
-    .ensures) ∙ c .before .before .before .before .before .before .before .before .before .before .before .if2 .left) _
+    (c .before .before .before .before .before .before .before .before .before .before .before .before .before .before .before
+    .before .taken .given .1)) (element-done _ _ _ _ _ (c .before .before .before .before .before .before .before .before .before
+    .before .before .before .before .before .before .before .before .before .before .before .before .before .parse-svg-element
+    .ensures .0 (c .before .before .before .before .before .before .before .before .before .before .before .before .before .before
+    .before .before .before .before .before .before .before .before .before .before .before .before .before .before .before
+    .before .before .before .before .before .before .before .before .args .text .now)) _ _
+    (c .before .before .before .before .before .before .before .before .before .before .before .before .before .before .before
+    .before .taken .given .1)) (sym (c .before .before .before .before .before .before .before .before .before .before .before
+    .before .before .before .before .before .before .before .before .before .before .before .before .before .before .before
+    .before .before .before .before .before .code-of .ensures)
+    ∙ c .before .before .before .before .before .before .before .before .before .before .before .if2 .left) _
     (append-none _ _ _ _ _ (c .before .before .before .before .before .before .before .add-quoted .ensures) _
     (c .before .k2 .given .1))
 
 same-length-8 : tie.Need-same-length-8
-same-length-8 c = search needs
+same-length-8 c =
+    c .before .before .before .before .before .before .before .nodes2 .given
+    ∙ c .before .before .before .before .before .before .before .before .before .before .before .before .before .before .before
+    .before .before .before .before .before .before .before .nodes .given
 
 same-length-9 : tie.Need-same-length-9
-same-length-9 c = search needs
+same-length-9 c =
+    c .before .before .before .before .before .before .before .before .before .before .before .before .before .before .before
+    .before .before .before .before .before .attributes .given
 
 same-length-10 : tie.Need-same-length-10
 same-length-10 c = search needs
@@ -229,42 +317,46 @@ returns-5 : tie.Need-returns-5
 returns-5 c =
     goes-tref _ _ _ _ _ _ _ (c .before .before .before .before .before .before .before .before .before .before .before .before
     .before .before .before .before .before .before .before .before .before .before .before .before .before .before .before
-    .before .before .before .before .before .before .before .before .pre .0) _
+    .before .before .before .before .before .before .before .before .before .before .before .pre .0) _
     (c .before .before .before .before .before .before .before .before .before .before .before .before .before .before .before
     .before .before .before .before .before .before .before .before .before .before .before .before .before .before .before
-    .before .before .before .before .before .pre .1)
+    .before .before .before .before .before .before .before .before .pre .1)
     (sym (content-is (elementOf (c .before .before .before .before .before .before .before .before .before .before .before .before
     .before .before .before .before .before .before .before .before .before .before .before .before .before .before .before
-    .before .before .before .before .before .before .before .before .args .script .now)
+    .before .before .before .before .before .before .before .before .before .before .before .args .script .now)
     (c .before .before .before .before .before .before .before .before .before .before .before .before .before .before .before
     .before .before .before .before .before .before .before .before .before .before .before .before .before .before .before
-    .before .before .before .before .before .args .characters .now)
+    .before .before .before .before .before .before .before .before .args .characters .now)
     (c .before .before .before .before .before .before .before .before .before .before .before .before .before .before .before
     .before .before .before .before .before .before .before .before .before .before .before .before .before .before .before
-    .before .before .before .before .before .args .x))
+    .before .before .before .before .before .before .before .before .args .x))
     (eqb (c .before .before .before .before .before .before .before .before .before .before .before .before .before .before
     .before .before .before .before .before .before .before .before .before .before .before .before .before .before .before
-    .before .before .before .before .before .before .args .s .p)
+    .before .before .before .before .before .before .before .before .before .args .s .p)
     (c .before .before .before .before .before .before .before .before .before .before .before .before .before .before .before
     .before .before .before .before .before .before .before .before .before .before .before .before .before .before .before
-    .before .before .before .before .before .args .e)))
+    .before .before .before .before .before .before .before .before .args .e)))
     ∙ passes (c .before .before .before .before .before .before .before .before .before .before .before .before .before .before
-    .before .before .before .before .before .before .before .before .before .before .before .is-text-content .ensures)
-    (c .before .before .before .before .before .before .before .before .before .before .before .before .before .before .before
-    .before .before .before .before .before .before .before .before .before .if1 .left)) _
-    (c .before .before .before .before .before .before .before .before .before .before .before .before .before .before .before
-    .before .before .before .before .before .before .text-tag-of .ensures
+    .before .before .before .before .before .before .before .before .before .before .before .before .before .before
+    .is-text-content .ensures) (c .before .before .before .before .before .before .before .before .before .before .before .before
+    .before .before .before .before .before .before .before .before .before .before .before .before .before .before .before .if1
+    .left)) _ (c .before .before .before .before .before .before .before .before .before .before .before .before .before .before
+    .before .before .before .before .before .before .before .before .before .before .text-tag-of .ensures
     ∙ ap tagIn (c .before .before .before .before .before .before .before .before .before .before .before .before .before .before
     .before .before .before .before .before .before .before .before .before .before .before .before .before .before .before
-    .code-of .ensures)) _ _ _ _ _ (element-behind _ _ _ _ (c .before .before .before .before .before .before .before .before
-    .before .before .before .before .before .before .before .before .before .before .before .before .parse-svg-element .ensures
-    .1) _ _ (c .before .before .before .before .before .before .before .before .before .before .before .before .before .before
-    .taken .given .1)) (element-done _ _ _ _ _ (c .before .before .before .before .before .before .before .before .before .before
-    .before .before .before .before .before .before .before .before .before .before .parse-svg-element .ensures .0 _) _ _
-    (c .before .before .before .before .before .before .before .before .before .before .before .before .before .before .taken
-    .given .1)) (sym (c .before .before .before .before .before .before .before .before .before .before .before .before .before
+    .before .before .before .code-of .ensures)) _ _ _ _ _
+    (element-behind _ _ _ _ (c .before .before .before .before .before .before .before .before .before .before .before .before
+    .before .before .before .before .before .before .before .before .before .before .before .parse-svg-element .ensures .1) _ _
+    (c .before .before .before .before .before .before .before .before .before .before .before .before .before .before .before
+    .before .before .taken .given .1)) (element-done _ _ _ _ _ (c .before .before .before .before .before .before .before .before
     .before .before .before .before .before .before .before .before .before .before .before .before .before .before .before
-    .before .code-of .ensures)
+    .parse-svg-element .ensures .0 (c .before .before .before .before .before .before .before .before .before .before .before
+    .before .before .before .before .before .before .before .before .before .before .before .before .before .before .before
+    .before .before .before .before .before .before .before .before .before .before .before .before .args .text .now)) _ _
+    (c .before .before .before .before .before .before .before .before .before .before .before .before .before .before .before
+    .before .before .taken .given .1)) (sym (c .before .before .before .before .before .before .before .before .before .before
+    .before .before .before .before .before .before .before .before .before .before .before .before .before .before .before
+    .before .before .before .before .before .before .before .code-of .ensures)
     ∙ c .before .before .before .before .before .before .before .before .before .before .before .before .if2 .left) _ _ _
     (append-done _ _ _ _ _ (c .before .before .before .before .before .before .before .before .add-quoted .ensures) _
     (c .before .before .more .given .1)) _ (c .past-element2 .ensures .0) (c .past-element2 .ensures .1 .0)
@@ -282,6 +374,7 @@ begin-spec =
     parse-svg-element-requires
     enum-known-k
     enum-known-taken
+    get-xmlspace-requires
     same-length
     same-length-2
     returns-2
