@@ -34,7 +34,7 @@ Events G H (other ∷ xs) = Events G H xs
 Events G H (close ∷ xs) = Events G H xs
 
 module _ (G : Element → Type 0) (H : Source → Type 0) where
-  events-children : (k : ℕ) (xs : List Event) → Events G H xs → Every (Events G H) (childrenFrom k xs)
+  pub events-children : (k : ℕ) (xs : List Event) → Events G H xs → Every (Events G H) (childrenFrom k xs)
   unfolding childrenFrom
   events-children k [] h = tt
   events-children zero (begin e ∷ xs) h = (h, events-children 1 xs (h .1))
@@ -93,7 +93,7 @@ module _ (G : Element → Type 0) (H : Source → Type 0) where
   events-copied all e origin (other ∷ xs) h = tt
   events-copied all e origin (close ∷ xs) h = tt
 
-  events-target : (all : List Event) (e : Element) (origin : ℕ) → Events G H all → Events G H (useTarget all e origin)
+  pub events-target : (all : List Event) (e : Element) (origin : ℕ) → Events G H all → Events G H (useTarget all e origin)
   unfolding useTarget
   events-target all e origin h = events-copied all e origin (linkedBy all (useHref e)) (events-linked all (useHref e) h)
 
