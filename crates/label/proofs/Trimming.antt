@@ -32,7 +32,7 @@ use Rattle.text.proofs.Entire.{space-same}
 use Rattle.text.proofs.Steps.{cut-words}
 use Rattle.label.specs.declared.State.{State}
 use Rattle.label.specs.Walk.{Holding, Within, insideOf, whole, Ends, InsideFit}
-use Rattle.label.specs.Whole.{Beginning, Labelled}
+use Rattle.label.specs.Whole.{Beginning, Closed}
 use Rattle.label.proofs.Growing.{made-element}
 
 -- A TRIMMING KEEPS THE TABLES TIDY
@@ -82,12 +82,12 @@ module _ (script chars ns ats bs : List ℕ) (k : Counts) (p : ℕ) (x : Opened)
   follows r = then (insideOf script chars (k .nodes) xs (k .nodes) r) (λ q. done (trimTextNodes chars (k .nodes) q))
 
   pub label-ready : Ready ns ats k p
-  label-ready = kept-ready (length chars) ns ats bs k (b .tidy .kept) (b .few .0, b .few .1) p (b .below)
+  label-ready = kept-ready (length chars) ns ats bs k (b .inside .tidy .kept) (b .inside .few .0, b .inside .few .1) p (b .inside .below)
 
   pub label-values : InAttributes script chars (x .inside) × InDeclarations script chars (x .inside)
   label-values = (
-    record { fit = b .fit; lie = b .element .0; small = b .small },
-    record { fit = b .fit; lie = b .element .1; small = b .small },
+    record { fit = b .inside .fit; lie = b .element .0; small = b .inside .small },
+    record { fit = b .inside .fit; lie = b .element .1; small = b .inside .small },
   )
 
   pub label-refused : (j : ℕ) → refused j ≡ parseSvgElement X EId.Text ignored p t → refused j ≡ labelled
@@ -101,16 +101,19 @@ module _ (script chars ns ats bs : List ℕ) (k : Counts) (p : ℕ) (x : Opened)
 
     grown : Grown (length chars) t (treeOf ns₁ ats₁ bs₁ taken)
     grown =
-        element-grown (length chars) t (b .tidy) EId.Text is-element p (b .below) ignored X (b .element) (treeOf ns₁ ats₁ bs₁ taken)
-        told
+        element-grown (length chars) t (b .inside .tidy) EId.Text is-element p (b .inside .below) ignored X (b .element)
+        (treeOf ns₁ ats₁ bs₁ taken) told
 
     texts : taken .text ≡ k .text
     unfolding addElement
     texts = ap (λ (v : Tree). v .textCount) (made-element t p EId.Text ignored X (treeOf ns₁ ats₁ bs₁ taken) told .0)
 
     pub label-holds : Holding (length chars) (treeOf ns₁ ats₁ bs₁ taken) (k .nodes)
-    label-holds =
-        record { kept = grown .tidy .kept; few = (grown .few .0, omega (arith, texts, b .few .2)); below = omega (arith, grown .one) }
+    label-holds = record {
+      kept = grown .tidy .kept;
+      few = (grown .few .0, omega (arith, texts, b .inside .few .2));
+      below = omega (arith, grown .one);
+    }
 
     module _ (sp : XmlSpace) (handed : spaceIn sp ≡ spaceOf chars (readOf ns₁ ats₁) (k .nodes)) where
       abbrev first : State
@@ -119,12 +122,12 @@ module _ (script chars ns ats bs : List ℕ) (k : Counts) (p : ℕ) (x : Opened)
       pub label-within : Within script chars ns₁ ats₁ bs₁ (k .nodes) first
       label-within = record {
         fit = nodes .fit;
-        all = b .all;
-        lies = rw (nodes .events) (b .lies);
-        small = b .small;
+        all = b .inside .all;
+        lies = rw (nodes .events) (b .inside .lies);
+        small = b .inside .small;
         sound = record {
           tidy = grown .tidy;
-          few = (grown .few .0, grown .few .1, omega (arith, texts, b .few .2));
+          few = (grown .few .0, grown .few .1, omega (arith, texts, b .inside .few .2));
           under = λ i l h. absurd (omega (arith, grown .one));
         };
         up = omega arith;
@@ -160,7 +163,7 @@ module _ (script chars ns ats bs : List ℕ) (k : Counts) (p : ℕ) (x : Opened)
                 ∙ ap (λ (o : Out Tree). then o (λ q. done (trimTextNodes chars (k .nodes) q))) (ends .same)
                 ∙ so-far
 
-            pub label-leaves : Labelled script chars x (treeOf ns₃ ats₂ bs₃ last) c
+            pub label-leaves : Closed script chars (x .inside) (k .nodes) (treeOf ns₃ ats₂ bs₃ last) c
             label-leaves = record {
               fit = ends .fit;
               later = omega (arith, nodes .later, ends .later);
@@ -168,6 +171,7 @@ module _ (script chars ns ats bs : List ℕ) (k : Counts) (p : ℕ) (x : Opened)
               tidy = rw trimmed (tidy-trimmed (length chars) chars (k .nodes) (treeOf ns₂ ats₂ bs₂ last) (ends .below)
                   (ends .sound .tidy));
               few = ends .sound .few;
+              more = omega (arith, ends .below);
             }
 
 -- What the walk inside comes to.

@@ -39,7 +39,7 @@ use Rattle.label.proofs.Growing.{Onward, Under, onward-none, onward-the
 -- NODES THAT ARE PASSED OVER
 
 -- Behind an element lies what lies behind its beginning.
-lies-leave : (chars : List ℕ) (k : ℕ) (xs : List Event) → Lies chars xs → Lies chars (leave k xs)
+pub lies-leave : (chars : List ℕ) (k : ℕ) (xs : List Event) → Lies chars xs → Lies chars (leave k xs)
 unfolding leave
 lies-leave chars k [] h = tt
 lies-leave chars k (begin e ∷ xs) h = lies-leave chars (suc k) xs (h .1)
@@ -73,7 +73,7 @@ leave-more d zero (close ∷ xs) = refl
 leave-more d (suc k) (close ∷ xs) = leave-more d k xs
 
 -- What stands behind d elements more.
-leave-past : (d : ℕ) (xs : List Event) → leave (suc d) xs ≡ leave d (leave 0 xs)
+pub leave-past : (d : ℕ) (xs : List Event) → leave (suc d) xs ≡ leave d (leave 0 xs)
 leave-past d xs = leave-more d 0 xs
 
 -- THE WAY UP

@@ -22,25 +22,30 @@ use Rattle.label.specs.Walk.{Lies}
 abbrev pub Counted : Tree → Type 0
 Counted t = (t .nodeCount ≤ most) × (t .attributeCount ≤ most) × (t .textCount ≤ most)
 
--- The element x can be built below p.
-pub record Beginning (script chars : List ℕ) (t : Tree) (p : ℕ) (x : Opened) : Type 0 where
-  pub fit : Fit script (x .inside)
+-- The nodes from the cursor on can be built below p.
+pub record Underway (script chars : List ℕ) (t : Tree) (p : ℕ) (from : Cursor) : Type 0 where
+  pub fit : Fit script from
   pub all : Lies chars (events script chars)
-  pub element : LiesElement (length chars) (elementOf script chars x)
-  pub lies : Lies chars (eventsAt script chars (x .inside))
+  pub lies : Lies chars (eventsAt script chars from)
   pub small : length chars ≤ mostBytes
   pub tidy : Tidy (length chars) t
   pub few : Counted t
   pub below : p < t .nodeCount
 
--- The cursor c stands behind it, and the tables are as a build has them.
-pub record Labelled (script chars : List ℕ) (x : Opened) (t : Tree) (c : Cursor) : Type 0 where
+-- The element x can be built below p.
+pub record Beginning (script chars : List ℕ) (t : Tree) (p : ℕ) (x : Opened) : Type 0 where
+  pub inside : Underway script chars t p (x .inside)
+  pub element : LiesElement (length chars) (elementOf script chars x)
+
+-- The cursor c stands behind the element inside which `from` stands, and the tables are as a build has them, with no fewer than n nodes.
+pub record Closed (script chars : List ℕ) (from : Cursor) (n : ℕ) (t : Tree) (c : Cursor) : Type 0 where
   pub fit : Fit script c
-  pub later : x .inside .at ≤ c .at
-  pub behind : eventsAt script chars c ≡ leave 0 (eventsAt script chars (x .inside))
+  pub later : from .at ≤ c .at
+  pub behind : eventsAt script chars c ≡ leave 0 (eventsAt script chars from)
   pub tidy : Tidy (length chars) t
   pub few : Counted t
+  pub more : n ≤ t .nodeCount
 
-abbrev pub LabelFit : List ℕ → List ℕ → Opened → List ℕ → List ℕ → List ℕ → Parsed → Type 0
-LabelFit script chars x ns ats bs (parsed.Refused k) = Unit {0}
-LabelFit script chars x ns ats bs (parsed.Done k c) = Labelled script chars x (treeOf ns ats bs k) c
+abbrev pub ClosedFit : List ℕ → List ℕ → Cursor → ℕ → List ℕ → List ℕ → List ℕ → Parsed → Type 0
+ClosedFit script chars from n ns ats bs (parsed.Refused k) = Unit {0}
+ClosedFit script chars from n ns ats bs (parsed.Done k c) = Closed script chars from n (treeOf ns ats bs k) c

@@ -15,7 +15,7 @@ ghost use Rattle.walk.specs.Nodes.{elementOf};
 ghost use Rattle.walk.specs.Values.{eventsAt};
 ghost use Rattle.tree.specs.Lent.{treeOf};
 ghost use Rattle.element.specs.Runs.{parsedOf};
-ghost use Rattle.label.specs.Whole.{Beginning, LabelFit};
+ghost use Rattle.label.specs.Whole.{Beginning, ClosedFit};
 
 // `parse_svg_element` of a text element below `parent`, then `parse_svg_text_element`. The answer has the cursor behind it.
 pub fn parse_svg_text_element(
@@ -35,8 +35,8 @@ pub fn parse_svg_text_element(
         (elementOf (now (script .entry)) (now (characters .entry)) x)
         (eventsAt (now (script .entry)) (now (characters .entry)) (x .inside)) ignored parent
         (treeOf (now (nodes .entry)) (now (attributes .entry)) (now (text .entry)) counts) ⌝ }
-    ensures behind { λ r. ⌜ LabelFit (now (script .entry)) (now (characters .entry)) x (now (nodes .exit)) (now (attributes .exit))
-        (now (text .exit)) r ⌝ }
+    ensures behind { λ r. ⌜ ClosedFit (now (script .entry)) (now (characters .entry)) (x .inside) (counts .nodes)
+        (now (nodes .exit)) (now (attributes .exit)) (now (text .exit)) r ⌝ }
 {
     let e = counts.nodes;
     match parse_svg_element(
