@@ -128,7 +128,7 @@ pub struct Image {
 }
 
 // The node that the feImage i leads to, where one of that node's filters leads to i's parent.
-fn image_of(
+pub fn image_of(
     script: &[u8],
     characters: &[u8],
     nodes: &[u32],

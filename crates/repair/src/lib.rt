@@ -3,6 +3,7 @@ pub mod back;
 pub mod below;
 pub mod cut;
 pub mod image;
+pub mod images;
 pub mod last;
 pub mod lead;
 pub mod link;
