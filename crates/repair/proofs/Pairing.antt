@@ -98,7 +98,7 @@ module _ (script chars ns es : List ℕ) (c : Counts) (aim : Aim) (w : Aimed cha
 
 -- ONE PAIR AFTER ANOTHER
 
-applied-more : (t : Tree) (cs ds : List Cut) → applied t (cs ++ ds) ≡ applied (applied t cs) ds
+pub applied-more : (t : Tree) (cs ds : List Cut) → applied t (cs ++ ds) ≡ applied (applied t cs) ds
 unfolding applied
 applied-more t [] ds = refl
 applied-more t (c ∷ cs) ds = applied-more (applyCut t c) cs ds

@@ -36,7 +36,7 @@ last-element (suc (suc (suc (suc (suc zero))))) f l a b = refl
 last-element (suc (suc (suc (suc (suc (suc k)))))) f l a b = absurd (omega arith)
 
 -- Cuts leave the table as long as it was.
-applied-long : (cs : List Cut) (t : Tree) → length (applied t cs .attributes) ≡ length (t .attributes)
+pub applied-long : (cs : List Cut) (t : Tree) → length (applied t cs .attributes) ≡ length (t .attributes)
 unfolding applied applyCut setNone
 applied-long [] t = refl
 applied-long (c ∷ cs) t = applied-long cs (applyCut t c) ∙ go (eqb (cutEntry t (c .pass) (c .node)) 0)

@@ -9,3 +9,4 @@ pub mod lead;
 pub mod link;
 pub mod pair;
 pub mod pass;
+pub mod whole;
