@@ -1,5 +1,5 @@
 -- All passes, one after another, and the text table that they do not read. Assumes nothing.
-use mathlib.Core.Path.{_≡_, refl, sym, ap, _∙_, subst}
+use mathlib.Core.Path.{_≡_, refl, sym, ap, _∙_}
 use mathlib.Core.Bool.{Bool, true, false}
 use mathlib.Core.List.{List, [], _∷_}
 use Prim.Native.Nat.{ℕ, _-_, _≤_}
@@ -14,10 +14,8 @@ use Rattle.model.specs.Tables.{Tree, entryAt, attributeId, setNone}
 use Rattle.model.specs.Repair.{Cut, cutName, applyCut, applied, repairs, repaired}
 use Rattle.model.specs.Theorems.Unused.{replicate-zero}
 use Rattle.model.specs.Theorems.Inside.{all-inside}
-use Rattle.model.specs.Theorems.Same.{Same}
 use Rattle.model.specs.Theorems.SameRepair.{repairs-same}
 use Rattle.model.specs.Theorems.Kept.{KeptNode, Tidy}
-use Rattle.model.specs.Theorems.Whole.{cuts-tidy}
 use Rattle.model.specs.Theorems.Images.{passOn, passesOn, repairs-going-on, values-bare}
 use Rattle.script.specs.declared.cursor.Cursor.{Cursor}
 use Rattle.script.specs.Step.{Fit, atStart}
@@ -27,8 +25,7 @@ use Rattle.tree.specs.Lent.{treeOf}
 use Rattle.tree.proofs.Alike.{id-same}
 use Rattle.repair.specs.Links.{valuesOf}
 use Rattle.repair.specs.Passes.{seenOf, Mendable}
-use Rattle.repair.proofs.Pairing.{applied-more}
-use Rattle.repair.proofs.Passing.{applied-long}
+use Rattle.repair.proofs.Writing.{applied-more, mend-on, long-on}
 
 -- THE TEXT TABLE
 
@@ -162,11 +159,8 @@ module _ (script chars ns : List ℕ) (c : Counts) (es₀ : List ℕ) where
       let vs : List Value = valuesOf script chars in
       let cs : List Cut = passOn chars vs k t in
       record {
-        mendable = record {
-          drawn = record { checked = q .mendable .drawn .checked; fit = f };
-          tidy = subst (Tidy (length chars)) (sym e) (cuts-tidy (length chars) t cs (q .mendable .tidy));
-        };
-        long = ap (λ (u : Tree). length (u .attributes)) e ∙ applied-long cs t ∙ q .long;
+        mendable = mend-on script chars ns es c cs es′ e hint (q .mendable) n f;
+        long = long-on script chars ns es c cs es′ e ∙ q .long;
         same =
             ap (λ (u : Tree). applied u (passesOn chars vs ks u)) e
             ∙ sym (applied-more t cs (passesOn chars vs ks (applied t cs)))
@@ -178,7 +172,8 @@ module _ (script chars ns : List ℕ) (c : Counts) (es₀ : List ℕ) where
       → treeOf ns es bs c ≡ repaired chars (valuesOf script chars) (treeOf ns es₀ bs c)
   unfolding passesOn applied repaired
   before-none h g es hint q bs =
+      let t : Tree = seenOf ns es₀ c in
+      let vs : List Value = valuesOf script chars in
       let bare = values-bare (length chars) (events script chars) (all-inside script chars h) in
-      ap (withText bs)
-      (q .same ∙ ap (applied (seenOf ns es₀ c)) (sym (repairs-going-on (length chars) chars (valuesOf script chars) bare (seenOf ns es₀ c) g)))
-      ∙ sym (repaired-text bs chars (valuesOf script chars) (seenOf ns es₀ c))
+      ap (withText bs) (q .same ∙ ap (applied t) (sym (repairs-going-on (length chars) chars vs bare t g)))
+      ∙ sym (repaired-text bs chars vs t)

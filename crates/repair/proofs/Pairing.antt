@@ -1,7 +1,7 @@
 -- An element and the nodes below it, pair by pair. Assumes nothing.
 use mathlib.Core.Path.{_≡_, refl, sym, ap, _∙_, subst}
 use mathlib.Core.Bool.{Bool, true, false}
-use mathlib.Core.List.{List, [], _∷_, _++_}
+use mathlib.Core.List.{List, [], _∷_}
 use mathlib.Core.Option.{Option, none, some}
 use Prim.Native.Nat.{ℕ, _+_, _-_, _<_, _≤_}
 use borrow.Author.Tests.{ne-eqb}
@@ -24,7 +24,8 @@ use Rattle.tree.proofs.Alike.{last-same}
 use Rattle.repair.specs.declared.lead.Aim.{Aim}
 use Rattle.repair.specs.Links.{valuesOf, counted}
 use Rattle.repair.specs.Passes.{seenOf, Mendable, Aimed, cutBack, cutNodes, cutPairs}
-use Rattle.repair.proofs.Turning.{by-func, no-id, link-seen, cut-tidy, cut-long, cut-aimed}
+use Rattle.repair.proofs.Writing.{applied-more, mend-on, long-on}
+use Rattle.repair.proofs.Turning.{by-func, no-id, link-seen, cut-tidy, cut-aimed}
 use Rattle.repair.proofs.Descending.{up-step, up-none, descendants-alike}
 
 -- Where the link of a node leads.
@@ -98,24 +99,7 @@ module _ (script chars ns es : List ℕ) (c : Counts) (aim : Aim) (w : Aimed cha
 
 -- ONE PAIR AFTER ANOTHER
 
-pub applied-more : (t : Tree) (cs ds : List Cut) → applied t (cs ++ ds) ≡ applied (applied t cs) ds
-unfolding applied
-applied-more t [] ds = refl
-applied-more t (c ∷ cs) ds = applied-more (applyCut t c) cs ds
-
 module _ (size : ℕ) (chars : List ℕ) (values : List Value) (bare : readingsOf 0 values ≡ []) (k : ℕ) (other : cutName k ≡ AId.Id → ⊥) where
-  pub nodes-tidy : (ms : List ℕ) (t : Tree) → Tidy size t → Tidy size (cutNodes chars values k t ms)
-  unfolding cutsAlong applied
-  nodes-tidy [] t g = g
-  nodes-tidy (m ∷ ms) t g = nodes-tidy ms (applyCut t (cutAt t k m)) (cut-tidy size chars values bare k other t g m)
-
-  pub nodes-long : (ms : List ℕ) (t : Tree) → Tidy size t → length (cutNodes chars values k t ms .attributes) ≡ length (t .attributes)
-  unfolding cutsAlong applied
-  nodes-long [] t g = refl
-  nodes-long (m ∷ ms) t g =
-      nodes-long ms (applyCut t (cutAt t k m)) (cut-tidy size chars values bare k other t g m)
-      ∙ cut-long size chars values bare k other t g m
-
   pub nodes-aimed : (aim : Aim) (ms : List ℕ) (t : Tree) → Tidy size t → Aimed chars t aim → Aimed chars (cutNodes chars values k t ms) aim
   unfolding cutsAlong applied
   nodes-aimed aim [] t g w = w
@@ -171,16 +155,13 @@ module _ (script chars ns : List ℕ) (c : Counts) (aim : Aim) (i end : ℕ) (es
       let other = no-id (aim .pass) (q .aimed .last) in
       let g = q .mendable .tidy in
       let ms : List ℕ = nodesAt chars vs (aim .pass) t (aim .element) j in
+      let cs : List Cut = cutsAlong chars vs (aim .pass) t ms in
       record {
-        mendable = record {
-          drawn = record { checked = q .mendable .drawn .checked; fit = f };
-          tidy = subst (Tidy (length chars)) (sym e) (nodes-tidy (length chars) chars vs bare (aim .pass) other ms t g);
-        };
+        mendable = mend-on script chars ns es c cs es′ e hint (q .mendable) n f;
         aimed = subst (λ (u : Tree). Aimed chars u aim) (sym e)
             (nodes-aimed (length chars) chars vs bare (aim .pass) other aim ms t g (q .aimed));
         inside = q .inside;
-        long = ap (λ (u : Tree). length (u .attributes)) e
-            ∙ nodes-long (length chars) chars vs bare (aim .pass) other ms t g ∙ q .long;
+        long = long-on script chars ns es c cs es′ e ∙ q .long;
         same =
             ap (λ (u : Tree). cutPairs chars vs (aim .pass) u (withEach i (upFrom (j + 1) (end - (j + 1))) []))
             (e ∙ ap (λ (x : ℕ). cutNodes chars vs (aim .pass) t (nodesAt chars vs (aim .pass) t x j)) own)

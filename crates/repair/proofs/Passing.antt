@@ -1,21 +1,18 @@
 -- The elements of a pass, one after another. Assumes nothing.
-use mathlib.Core.Path.{_≡_, refl, sym, ap, _∙_, subst}
+use mathlib.Core.Path.{_≡_, refl, sym, ap, _∙_}
 use mathlib.Core.Bool.{Bool, true, false}
 use mathlib.Core.List.{List, [], _∷_}
-use Prim.Native.Nat.{ℕ, zero, suc, _+_, _-_, _*_, _<_, _≤_}
+use Prim.Native.Nat.{ℕ, zero, suc, _+_, _-_, _<_, _≤_}
 use native.Mathlib.Omega.{arith}
 use borrow.Author.Tests.{eqb-true, eq-eqb, ne-eqb, le-leb}
-use lib.Dec.{eqb, leb}
+use lib.Dec.{eqb}
 use lib.ListN.{length}
-use lib.Seq.{length-sets}
 use Rattle.model.specs.Base.{pick, and, Pair}
 use Rattle.model.specs.EId
 use Rattle.model.specs.Drawing.{Value}
-use Rattle.model.specs.Tables.{Tree, ELEMENT, word, kindOf, isNamed, setNone}
-use Rattle.model.specs.Repair.{upFrom, allNamed, descendants, recursiveFeImage, Cut, cutEntry, cutAt, applyCut, applied}
+use Rattle.model.specs.Tables.{Tree, ELEMENT, word, kindOf, isNamed}
+use Rattle.model.specs.Repair.{upFrom, allNamed, descendants, recursiveFeImage, Cut, cutAt, applyCut, applied}
 use Rattle.model.specs.Theorems.Sim.{and-left}
-use Rattle.model.specs.Theorems.Kept.{Tidy}
-use Rattle.model.specs.Theorems.Whole.{cuts-tidy}
 use Rattle.model.specs.Theorems.GoingOn.{withEach, pairsOf, goingOn, elementOf}
 use Rattle.model.specs.Theorems.Images.{imagesOn, passOn}
 use Rattle.script.specs.declared.cursor.Cursor.{Cursor}
@@ -23,6 +20,7 @@ use Rattle.script.specs.Step.{Fit}
 use Rattle.tree.specs.declared.Counts.{Counts}
 use Rattle.repair.specs.Passes.{seenOf, Mendable, cutPairs, linkCuts, imageCuts}
 use Rattle.repair.proofs.Descending.{up-step, up-none, descendants-alike}
+use Rattle.repair.proofs.Writing.{mend-on, long-on}
 use Rattle.repair.proofs.Pairing.{pairs-first}
 
 -- The last of the passes 1 to 5.
@@ -34,19 +32,6 @@ last-element (suc (suc (suc zero))) f l a b = absurd (a refl)
 last-element (suc (suc (suc (suc zero)))) f l a b = absurd (b refl)
 last-element (suc (suc (suc (suc (suc zero))))) f l a b = refl
 last-element (suc (suc (suc (suc (suc (suc k)))))) f l a b = absurd (omega arith)
-
--- Cuts leave the table as long as it was.
-pub applied-long : (cs : List Cut) (t : Tree) → length (applied t cs .attributes) ≡ length (t .attributes)
-unfolding applied applyCut setNone
-applied-long [] t = refl
-applied-long (c ∷ cs) t = applied-long cs (applyCut t c) ∙ go (eqb (cutEntry t (c .pass) (c .node)) 0)
-  where
-    j : ℕ
-    j = cutEntry t (c .pass) (c .node)
-
-    go : (b : Bool) → length (pick b (λ u. t) (λ u. setNone (j - 1) t) .attributes) ≡ length (t .attributes)
-    go true = refl
-    go false = length-sets (t .attributes) (5 * (j - 1) + 2) (1 ∷ 0 ∷ 0 ∷ [])
 
 -- Which elements there are, and what is below them, is read in the nodes alone.
 module _ (t u : Tree) (e : t .nodes ≡ u .nodes) (n : t .nodeCount ≡ u .nodeCount) where
@@ -204,11 +189,8 @@ module _ (script chars ns : List ℕ) (c : Counts) (f : Tree → List ℕ → Li
         let t : Tree = seenOf ns es c in
         let cs : List Cut = f t (i ∷ []) in
         record {
-          mendable = record {
-            drawn = record { checked = q .mendable .drawn .checked; fit = g };
-            tidy = subst (Tidy (length chars)) (sym e) (cuts-tidy (length chars) t cs (q .mendable .tidy));
-          };
-          long = ap (λ (w : Tree). length (w .attributes)) e ∙ applied-long cs t ∙ q .long;
+          mendable = mend-on script chars ns es c cs es′ e hint (q .mendable) n g;
+          long = long-on script chars ns es c cs es′ e ∙ q .long;
           same =
               sym (o .more t (seenOf ns es′ c) refl refl i (upFrom (i + 1) (c .nodes - (i + 1))) e)
               ∙ ap (λ (is : List ℕ). applied t (f t is)) (sym (up-step i (c .nodes) l))

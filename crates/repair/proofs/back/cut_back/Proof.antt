@@ -1,4 +1,3 @@
-use mathlib.Core.Path.{sym, ap, _∙_}
 use native.Mathlib.Omega.{arith}
 use Rattle.tree.proofs.Facts.{readable, readable-in}
 use Rattle.repair.proofs.Turning.{id-stands, back-told, back-cut, back-kept, lead-fit}

@@ -1,9 +1,6 @@
-use mathlib.Core.Path.{sym, ap, _∙_}
-use mathlib.Core.List.{List}
-use Prim.Native.Nat.{ℕ, _-_}
+use mathlib.Core.Path.{_∙_}
+use Prim.Native.Nat.{_-_}
 use native.Mathlib.Omega.{arith}
-use Rattle.repair.specs.Links.{valuesOf}
-use Rattle.repair.specs.Passes.{seenOf, cutNodes}
 use Rattle.repair.proofs.Turning.{Cutting, cutting-first, cutting-turn, cutting-done, below-seen}
 use Rattle.repair.proofs.back.cut_below.Statement.{statement}
 use Rattle.repair.proofs.back.cut_below.Tie as tie

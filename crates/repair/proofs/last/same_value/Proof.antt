@@ -1,7 +1,6 @@
 use mathlib.Core.Path.{sym, ap, _∙_}
 use mathlib.Core.List.{List}
 use Prim.Native.Nat.{ℕ}
-use native.Mathlib.Omega.{arith}
 use Rattle.model.specs.Base.{sameBytes}
 use Rattle.model.specs.Names.{fixedBytes}
 use Rattle.model.specs.Tables.{entryAt, valueOf}

@@ -1,5 +1,4 @@
 use mathlib.Core.Path.{refl}
-use native.Mathlib.Omega.{arith}
 use Rattle.tree.proofs.Facts.{readable}
 use Rattle.repair.specs.Passes.{seenOf}
 use Rattle.repair.proofs.Aiming.{known-in, aim-pattern, aim-other}

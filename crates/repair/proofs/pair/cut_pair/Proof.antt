@@ -1,4 +1,4 @@
-use mathlib.Core.Path.{sym, ap, _∙_}
+use mathlib.Core.Path.{sym, _∙_}
 use native.Mathlib.Omega.{arith}
 use Rattle.model.specs.Drawing.{partAt}
 use Rattle.tree.proofs.Facts.{readable, readable-in}

@@ -1,5 +1,4 @@
 use mathlib.Core.Path.{_∙_}
-use native.Mathlib.Omega.{arith}
 use Rattle.tree.proofs.Bools.{fails, passes}
 use Rattle.repair.specs.Links.{valuesOf}
 use Rattle.repair.specs.Passes.{seenOf}
