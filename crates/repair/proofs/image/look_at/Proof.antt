@@ -26,20 +26,20 @@ is-id-requires c κs = search needs
 
 returns-2 : tie.Need-returns-2
 returns-2 c =
-    looked-back _ _ _ _ _ (c .before .before .before .before .before .before .before .before .before .before .before .pre .0) _ _
-    _ _ _ (c .before .before .before .before .before .k .given .1)
-    (c .before .before .before .before .before .before .before .next-reading .ensures) (c .before .before .before .if1 .left) _
-    (c .before .before .part-at .ensures) _ (c .before .is-id .ensures) (c .if2 .taken)
+    let at-k = c .before .before .before .before .before in
+    looked-back _ _ _ _ _ (at-k .before .before .before .before .before .before .pre .0) _ _ _ _ _ (at-k .k .given .1)
+    (at-k .before .before .next-reading .ensures) (c .before .before .before .if1 .left) _ (c .before .before .part-at .ensures) _
+    (c .before .is-id .ensures) (c .if2 .taken)
 
 enum-told : tie.Need-enum-told
 enum-told c = search needs
 
 returns-3 : tie.Need-returns-3
 returns-3 c =
-    looked-on _ _ _ _ _ (c .before .before .before .before .before .before .before .before .before .before .before .pre .0) _ _ _
-    _ _ (c .before .before .before .before .before .k .given .1)
-    (c .before .before .before .before .before .before .before .next-reading .ensures) (c .before .before .before .if1 .left) _
-    (c .before .before .part-at .ensures) _ (c .before .is-id .ensures) (c .if2 .left)
+    let at-k = c .before .before .before .before .before in
+    looked-on _ _ _ _ _ (at-k .before .before .before .before .before .before .pre .0) _ _ _ _ _ (at-k .k .given .1)
+    (at-k .before .before .next-reading .ensures) (c .before .before .before .if1 .left) _ (c .before .before .part-at .ensures) _
+    (c .before .is-id .ensures) (c .if2 .left)
 
 returns-4 : tie.Need-returns-4
 returns-4 c =

@@ -12,10 +12,9 @@ abbrev μ-loop : tie.MeasureT-loop
 μ-loop script characters nodes attributes₀ counts pass i aim end c₀ j₀ attributes c j = end - j
 
 aim-at-requires : tie.Need-aim-at-requires Inv-loop μ-loop
-aim-at-requires c κs = (
-  c .before .before .before .before .before .pre .0 .tidy .kept,
-  (c .before .before .before .before .before .pre .1 .0, c .before .before .before .before .before .pre .1 .1),
-)
+aim-at-requires c κs =
+    let pre = c .before .before .before .before .before .pre in
+    (pre .0 .tidy .kept, (pre .1 .0, pre .1 .1))
 
 behind-below-requires : tie.Need-behind-below-requires Inv-loop μ-loop
 behind-below-requires c κs = (
