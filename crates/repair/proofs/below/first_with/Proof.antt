@@ -19,10 +19,9 @@ attribute-id-requires : tie.Need-attribute-id-requires Inv-loop μ-loop
 attribute-id-requires c κs = c .before .before .before .before .pre .1 _ (c .loop-test .taken)
 
 returns : tie.Need-returns Inv-loop μ-loop
-returns c = (
-  (c .before .before .before .loop .inv .low, c .before .before .before .loop .inv .high),
-  c .before .before .before .loop .inv .none,
-)
+returns c =
+    let loop-inv = c .before .before .before .loop .inv in
+    ((loop-inv .low, loop-inv .high), loop-inv .none)
 
 add-m : tie.Need-add-m Inv-loop μ-loop
 add-m c = omega arith

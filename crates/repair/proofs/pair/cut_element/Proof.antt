@@ -24,15 +24,9 @@ same-length c = search needs
 
 returns : tie.Need-returns
 returns c = (
-  element-bare (c .before .before .before .before .before .before .before .before .before .args .script .now)
-      (c .before .before .before .before .before .before .before .before .before .args .characters .now)
-      (c .before .before .before .before .before .before .before .before .before .args .nodes .now)
-      (c .before .before .before .before .before .before .before .before .before .args .attributes .now)
-      (c .before .before .before .before .before .before .before .before .before .args .counts) _
-      (c .before .before .before .before .before .before .before .before .before .args .i) _ _ _
-      (c .before .before .before .behind-below .ensures .0) (c .before .before .before .before .cut-name .ensures)
-      (c .before .first-with .ensures .0 .0) (c .before .first-with .ensures .0 .1) (c .before .first-with .ensures .1)
-      (c .if1 .taken),
+  element-bare _ _ _ _ _ _ _ _ _ _ (c .before .before .before .behind-below .ensures .0)
+      (c .before .before .before .before .cut-name .ensures) (c .before .first-with .ensures .0 .0)
+      (c .before .first-with .ensures .0 .1) (c .before .first-with .ensures .1) (c .if1 .taken),
   c .before .before .before .before .before .before .before .before .before .pre .0 .drawn .fit,
 )
 
@@ -43,24 +37,14 @@ same-length-2 : tie.Need-same-length-2
 same-length-2 c = search needs
 
 returns-2 : tie.Need-returns-2
-returns-2 c = (
-  element-unled
-      (c .before .before .before .before .before .before .before .before .before .before .before .before .before .args .script .now)
-      (c .before .before .before .before .before .before .before .before .before .before .before .before .before .args .characters
-      .now)
-      (c .before .before .before .before .before .before .before .before .before .before .before .before .before .args .nodes .now)
-      (c .before .before .before .before .before .before .before .before .before .before .before .before .before .args .attributes
-      .now)
-      (c .before .before .before .before .before .before .before .before .before .before .before .before .before .args .counts) _
-      (c .before .before .before .before .before .before .before .before .before .before .before .before .before .args .i) _ _ _
-      (c .before .before .before .before .before .before .before .behind-below .ensures .0)
-      (c .before .before .before .before .before .before .before .before .cut-name .ensures)
-      (c .before .before .before .before .before .first-with .ensures .0 .0)
-      (c .before .before .before .before .before .first-with .ensures .0 .1)
-      (c .before .before .before .before .before .first-with .ensures .1) _ (c .before .before .aim-at .ensures .1)
-      (c .before .before .aim-at .ensures .0) (not-true _ (c .if2 .taken)),
-  c .before .before .before .before .before .before .before .before .before .before .before .before .before .pre .0 .drawn .fit,
-)
+returns-2 c =
+    let at-first-with = c .before .before .before .before .before in (
+      element-unled _ _ _ _ _ _ _ _ _ _ (at-first-with .before .before .behind-below .ensures .0)
+          (at-first-with .before .before .before .cut-name .ensures) (at-first-with .first-with .ensures .0 .0)
+          (at-first-with .first-with .ensures .0 .1) (at-first-with .first-with .ensures .1) _ (c .before .before .aim-at .ensures .1)
+          (c .before .before .aim-at .ensures .0) (not-true _ (c .if2 .taken)),
+      at-first-with .before .before .before .before .before .before .before .before .pre .0 .drawn .fit,
+    )
 
 cut-pairs-requires : tie.Need-cut-pairs-requires
 cut-pairs-requires c κs = search needs
@@ -69,25 +53,14 @@ same-length-3 : tie.Need-same-length-3
 same-length-3 c = search needs
 
 returns-3 : tie.Need-returns-3
-returns-3 c = (
-  element-pairs (c .before .before .before .before .before .before .before .before .before .before .before .before .before
-      .before .before .before .before .args .script .now)
-      (c .before .before .before .before .before .before .before .before .before .before .before .before .before .before .before
-      .before .before .args .characters .now) (c .before .before .before .before .before .before .before .before .before .before
-      .before .before .before .before .before .before .before .args .nodes .now)
-      (c .before .before .before .before .before .before .before .before .before .before .before .before .before .before .before
-      .before .before .args .attributes .now) (c .before .before .before .before .before .before .before .before .before .before
-      .before .before .before .before .before .before .before .args .counts) _
-      (c .before .before .before .before .before .before .before .before .before .before .before .before .before .before .before
-      .before .before .args .i) _ _ _
-      (c .before .before .before .before .before .before .before .before .before .before .before .behind-below .ensures .0)
-      (c .before .before .before .before .before .before .before .before .before .before .before .before .cut-name .ensures)
-      (c .before .before .before .before .before .before .before .before .before .first-with .ensures .0 .0)
-      (c .before .before .before .before .before .before .before .before .before .first-with .ensures .0 .1)
-      (c .before .before .before .before .before .before .before .before .before .first-with .ensures .1) _ _
-      (c .before .before .before .before .before .before .aim-at .ensures .1) _ (c .before .before .cut-pairs .ensures .0),
-  c .before .before .cut-pairs .ensures .1,
-)
+returns-3 c =
+    let at-first-with = c .before .before .before .before .before .before .before .before .before in (
+      element-pairs _ _ _ _ (at-first-with .before .before .before .before .before .before .before .before .args .counts) _ _ _ _ _
+          (at-first-with .before .before .behind-below .ensures .0) (at-first-with .before .before .before .cut-name .ensures)
+          (at-first-with .first-with .ensures .0 .0) (at-first-with .first-with .ensures .0 .1) (at-first-with .first-with .ensures .1)
+          _ _ (c .before .before .before .before .before .before .aim-at .ensures .1) _ (c .before .before .cut-pairs .ensures .0),
+      c .before .before .cut-pairs .ensures .1,
+    )
 
 pub cut-element-spec : {M : Type 1} → statement M
 cut-element-spec =

@@ -13,8 +13,8 @@ abbrev μ-loop : tie.MeasureT-loop
 
 loop-holds : tie.Need-loop-holds Inv-loop μ-loop
 loop-holds c =
-    pairs-start _ _ _ _ _ _ _ _ _ (c .before .before .before .before .pre .0) (c .before .before .before .before .pre .1 .0)
-    (c .before .before .before .before .pre .1 .1)
+    let pre = c .before .before .before .before .pre in
+    pairs-start _ _ _ _ _ _ _ _ _ (pre .0) (pre .1 .0) (pre .1 .1)
 
 cut-pair-requires : tie.Need-cut-pair-requires Inv-loop μ-loop
 cut-pair-requires c κs = (
