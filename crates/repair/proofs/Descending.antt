@@ -3,10 +3,11 @@ use mathlib.Core.Path.{_≡_, refl, sym, ap, _∙_}
 use mathlib.Core.List.{List, [], _∷_, _++_, append-assoc, append-nil}
 use Prim.Native.Nat.{ℕ, zero, suc, _+_, _-_, _<_, _≤_}
 use native.Mathlib.Omega.{arith}
+use native.Mathlib.Decide.{ℕ-discrete}
 use borrow.Author.Tests.{le-leb, lt-leb}
 use lib.Dec.{leb}
 use Rattle.model.specs.Base.{pick}
-use Rattle.model.specs.Tables.{Tree, word, parentOf}
+use Rattle.model.specs.Tables.{Tree, word, parentOf, attributeId}
 use Rattle.model.specs.Repair.{upFrom, belowFrom, descendants}
 
 -- One more node at the end.
@@ -90,3 +91,23 @@ descendants-alike t u e n i =
     ap (λ (l : List ℕ). i ∷ l)
     (below-alike t u e i (upFrom (i + 1) (t .nodeCount - (i + 1)))
     ∙ ap (λ (k : ℕ). belowFrom u i (upFrom (i + 1) (k - (i + 1)))) n)
+
+-- From i up to m no node has the attribute.
+pub record Without (t : Tree) (a i end m : ℕ) : Type 0 where
+  pub low : i ≤ m
+  pub high : m ≤ end
+  pub none : (x : ℕ) → i ≤ x → x < m → attributeId t x a ≡ 0
+
+pub without-first : (t : Tree) (a i end : ℕ) → i ≤ end → Without t a i end i
+without-first t a i end h = record { low = omega arith; high = h; none = λ x l g. absurd (omega arith) }
+
+pub without-more : (t : Tree) (a i end m : ℕ) → Without t a i end m → m < end → attributeId t m a ≡ 0 → Without t a i end (m + 1)
+without-more t a i end m w l e = record {
+  low = omega (arith, w .low);
+  high = omega arith;
+  none = λ x p q. go x p q (ℕ-discrete x m);
+}
+  where
+    go : (x : ℕ) → i ≤ x → x < m + 1 → Dec (x ≡ m) → attributeId t x a ≡ 0
+    go x p q (yes d) = ap (λ (y : ℕ). attributeId t y a) d ∙ e
+    go x p q (no d) = w .none x p (omega arith)

@@ -4,6 +4,7 @@ pub mod Descending
 pub mod Imaging
 pub mod Lasting
 pub mod Linking
+pub mod Mending
 pub mod Pairing
 pub mod Passing
 pub mod Turning

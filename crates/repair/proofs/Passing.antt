@@ -1,28 +1,26 @@
 -- The elements of a pass, one after another. Assumes nothing.
-use mathlib.Core.Path.{_≡_, refl, sym, ap, _∙_, subst}
+use mathlib.Core.Path.{_≡_, refl, sym, ap, _∙_}
 use mathlib.Core.Bool.{Bool, true, false}
 use mathlib.Core.List.{List, [], _∷_}
-use Prim.Native.Nat.{ℕ, zero, suc, _+_, _-_, _*_, _<_, _≤_}
+use Prim.Native.Nat.{ℕ, zero, suc, _+_, _-_, _<_, _≤_}
 use native.Mathlib.Omega.{arith}
-use borrow.Author.Tests.{le-leb}
-use lib.Dec.{eqb, leb}
+use borrow.Author.Tests.{eqb-true, eq-eqb, ne-eqb, le-leb}
+use lib.Dec.{eqb}
 use lib.ListN.{length}
-use lib.Seq.{length-sets}
 use Rattle.model.specs.Base.{pick, and, Pair}
 use Rattle.model.specs.EId
 use Rattle.model.specs.Drawing.{Value}
-use Rattle.model.specs.Tables.{Tree, ELEMENT, word, isNamed, setNone}
-use Rattle.model.specs.Repair.{upFrom, allNamed, descendants, Cut, cutEntry, applyCut, applied}
-use Rattle.model.specs.Theorems.Kept.{Tidy}
-use Rattle.model.specs.Theorems.Whole.{cuts-tidy}
+use Rattle.model.specs.Tables.{Tree, ELEMENT, word, kindOf, isNamed}
+use Rattle.model.specs.Repair.{upFrom, allNamed, descendants, recursiveFeImage, Cut, cutAt, applyCut, applied}
+use Rattle.model.specs.Theorems.Sim.{and-left}
 use Rattle.model.specs.Theorems.GoingOn.{withEach, pairsOf, goingOn, elementOf}
-use Rattle.model.specs.Theorems.Images.{passOn}
+use Rattle.model.specs.Theorems.Images.{imagesOn, passOn}
 use Rattle.script.specs.declared.cursor.Cursor.{Cursor}
 use Rattle.script.specs.Step.{Fit}
 use Rattle.tree.specs.declared.Counts.{Counts}
-use Rattle.repair.specs.Links.{valuesOf}
-use Rattle.repair.specs.Passes.{seenOf, Mendable, cutPairs}
+use Rattle.repair.specs.Passes.{seenOf, Mendable, cutPairs, linkCuts, imageCuts}
 use Rattle.repair.proofs.Descending.{up-step, up-none, descendants-alike}
+use Rattle.repair.proofs.Writing.{mend-on, long-on}
 use Rattle.repair.proofs.Pairing.{pairs-first}
 
 -- The last of the passes 1 to 5.
@@ -34,19 +32,6 @@ last-element (suc (suc (suc zero))) f l a b = absurd (a refl)
 last-element (suc (suc (suc (suc zero)))) f l a b = absurd (b refl)
 last-element (suc (suc (suc (suc (suc zero))))) f l a b = refl
 last-element (suc (suc (suc (suc (suc (suc k)))))) f l a b = absurd (omega arith)
-
--- Cuts leave the table as long as it was.
-applied-long : (cs : List Cut) (t : Tree) → length (applied t cs .attributes) ≡ length (t .attributes)
-unfolding applied applyCut setNone
-applied-long [] t = refl
-applied-long (c ∷ cs) t = applied-long cs (applyCut t c) ∙ go (eqb (cutEntry t (c .pass) (c .node)) 0)
-  where
-    j : ℕ
-    j = cutEntry t (c .pass) (c .node)
-
-    go : (b : Bool) → length (pick b (λ u. t) (λ u. setNone (j - 1) t) .attributes) ≡ length (t .attributes)
-    go true = refl
-    go false = length-sets (t .attributes) (5 * (j - 1) + 2) (1 ∷ 0 ∷ 0 ∷ [])
 
 -- Which elements there are, and what is below them, is read in the nodes alone.
 module _ (t u : Tree) (e : t .nodes ≡ u .nodes) (n : t .nodeCount ≡ u .nodeCount) where
@@ -68,85 +53,152 @@ module _ (t u : Tree) (e : t .nodes ≡ u .nodes) (n : t .nodeCount ≡ u .nodeC
   both-alike : (c : ℕ) (is : List ℕ) → pairsOf t (allNamed t c is) ≡ pairsOf u (allNamed u c is)
   both-alike c is = pairs-alike (allNamed t c is) ∙ ap (pairsOf u) (named-alike c is)
 
-module _ (chars : List ℕ) (values : List Value) (k : ℕ) (t : Tree) (code i : ℕ) where
-  -- The first element, and the others in the tree that it leaves.
-  named-first : (xs : List ℕ)
-      → cutPairs chars values k t (pairsOf t (allNamed t code (i ∷ xs)))
-      ≡ cutPairs chars values k (cutPairs chars values k t (pairsOf t (allNamed t code (i ∷ [])))) (pairsOf t (allNamed t code xs))
-  unfolding allNamed pairsOf goingOn applied
-  named-first xs = go (isNamed t code i)
-    where
-      rest : List Pair
-      rest = pairsOf t (allNamed t code xs)
+-- What a pass cuts at a list of nodes, node by node: the first, then the others in the tree that it leaves.
+pub record OneByOne (f : Tree → List ℕ → List Cut) : Type 0 where
+  pub none : (t : Tree) → applied t (f t []) ≡ t
+  pub more : (t u : Tree) → t .nodes ≡ u .nodes → t .nodeCount ≡ u .nodeCount → (i : ℕ) (xs : List ℕ) → u ≡ applied t (f t (i ∷ []))
+      → applied t (f t (i ∷ xs)) ≡ applied u (f u xs)
 
-      go : (b : Bool) → cutPairs chars values k t (pairsOf t (pick b (λ u. i ∷ allNamed t code xs) (λ u. allNamed t code xs)))
-          ≡ cutPairs chars values k (cutPairs chars values k t (pairsOf t (pick b (λ u. i ∷ []) (λ u. [])))) rest
-      go true = pairs-first chars values k i (descendants t i) t rest
+-- THE PASSES 1 TO 5
+
+pub links-each : (chars : List ℕ) (values : List Value) (k code : ℕ) → OneByOne (linkCuts chars values k code)
+unfolding allNamed pairsOf goingOn applied
+links-each chars values k code = record { none = λ t. refl; more = more }
+  where
+    more : (t u : Tree) → t .nodes ≡ u .nodes → t .nodeCount ≡ u .nodeCount → (i : ℕ) (xs : List ℕ)
+        → u ≡ applied t (linkCuts chars values k code t (i ∷ []))
+        → applied t (linkCuts chars values k code t (i ∷ xs)) ≡ applied u (linkCuts chars values k code u xs)
+    more t u e n i xs q =
+        go (isNamed t code i)
+        ∙ ap (λ (w : Tree). cutPairs chars values k w rest) (sym q)
+        ∙ ap (λ (ps : List Pair). cutPairs chars values k u ps) (both-alike t u e n code xs)
+      where
+        rest : List Pair
+        rest = pairsOf t (allNamed t code xs)
+
+        go : (b : Bool) → cutPairs chars values k t (pairsOf t (pick b (λ x. i ∷ allNamed t code xs) (λ x. allNamed t code xs)))
+            ≡ cutPairs chars values k (cutPairs chars values k t (pairsOf t (pick b (λ x. i ∷ []) (λ x. [])))) rest
+        go true = pairs-first chars values k i (descendants t i) t rest
+        go false = refl
+
+module _ (chars : List ℕ) (values : List Value) (k : ℕ) (t : Tree) (code : ℕ) where
+  -- One node alone.
+  pub named-here : (i : ℕ) → isNamed t code i ≡ true
+      → cutPairs chars values k t (withEach i (descendants t i) []) ≡ applied t (linkCuts chars values k code t (i ∷ []))
+  unfolding allNamed pairsOf
+  named-here i e = rw e refl
+
+  pub unnamed-here : (i : ℕ) → isNamed t code i ≡ false → t ≡ applied t (linkCuts chars values k code t (i ∷ []))
+  unfolding allNamed pairsOf goingOn applied
+  unnamed-here i e = rw e refl
+
+  -- All of them.
+  pub links-all : code ≡ elementOf k → k ≤ 5 → linkCuts chars values k code t (upFrom 0 (t .nodeCount)) ≡ passOn chars values k t
+  unfolding passOn
+  links-all z h = ap (λ (x : ℕ). linkCuts chars values k x t (upFrom 0 (t .nodeCount))) z ∙ rw (le-leb k 5 h) refl
+
+-- FEIMAGE
+
+pub named-kind : (t : Tree) (code i : ℕ) → isNamed t code i ≡ true → kindOf t i ≡ ELEMENT
+named-kind t code i e = eqb-true _ _ (and-left _ _ e)
+
+module _ (chars : List ℕ) (values : List Value) where
+  images-first : (t : Tree) (i : ℕ) (is : List ℕ) → applied t (imagesOn chars values t (i ∷ is))
+      ≡ (let u : Tree = applied t (imagesOn chars values t (i ∷ [])) in applied u (imagesOn chars values u is))
+  unfolding imagesOn applied
+  images-first t i is = go (eqb w 0)
+    where
+      w : ℕ
+      w = recursiveFeImage chars values t i
+
+      cut : Cut
+      cut = cutAt t 6 (w - 1)
+
+      go : (b : Bool)
+          → applied t (pick b (λ u. imagesOn chars values t is) (λ u. cut ∷ imagesOn chars values (applyCut t cut) is))
+          ≡ (let u : Tree = applied t (pick b (λ x. []) (λ x. cut ∷ [])) in applied u (imagesOn chars values u is))
+      go true = refl
       go false = refl
 
-  -- One node alone.
-  pub named-here : isNamed t code i ≡ true
-      → cutPairs chars values k t (withEach i (descendants t i) []) ≡ cutPairs chars values k t (pairsOf t (allNamed t code (i ∷ [])))
-  unfolding allNamed pairsOf
-  named-here e = rw e refl
+  pub images-each : OneByOne (imageCuts chars values)
+  unfolding allNamed imagesOn applied
+  images-each = record { none = λ t. refl; more = more }
+    where
+      more : (t u : Tree) → t .nodes ≡ u .nodes → t .nodeCount ≡ u .nodeCount → (i : ℕ) (xs : List ℕ)
+          → u ≡ applied t (imageCuts chars values t (i ∷ []))
+          → applied t (imageCuts chars values t (i ∷ xs)) ≡ applied u (imageCuts chars values u xs)
+      more t u e n i xs q =
+          go (isNamed t EId.FeImage i)
+          ∙ ap (λ (w : Tree). applied w (imagesOn chars values w rest)) (sym q)
+          ∙ ap (λ (is : List ℕ). applied u (imagesOn chars values u is)) (named-alike t u e n EId.FeImage xs)
+        where
+          rest : List ℕ
+          rest = allNamed t EId.FeImage xs
 
-  pub unnamed-here : isNamed t code i ≡ false → t ≡ cutPairs chars values k t (pairsOf t (allNamed t code (i ∷ [])))
-  unfolding allNamed pairsOf goingOn applied
-  unnamed-here e = rw e refl
+          go : (b : Bool) → applied t (imagesOn chars values t (pick b (λ x. i ∷ rest) (λ x. rest)))
+              ≡ (let w : Tree = applied t (imagesOn chars values t (pick b (λ x. i ∷ []) (λ x. []))) in
+              applied w (imagesOn chars values w rest))
+          go true = images-first t i rest
+          go false = refl
+
+  -- One node alone: it is no feImage, it cuts nothing, or it cuts one node.
+  module _ (t : Tree) (i : ℕ) where
+    pub no-image : isNamed t EId.FeImage i ≡ false → t ≡ applied t (imageCuts chars values t (i ∷ []))
+    unfolding allNamed imagesOn applied
+    no-image e = rw e refl
+
+    pub image-uncut : isNamed t EId.FeImage i ≡ true → (w : ℕ) → w ≡ recursiveFeImage chars values t i → w ≡ 0
+        → t ≡ applied t (imageCuts chars values t (i ∷ []))
+    unfolding allNamed imagesOn applied
+    image-uncut e w q z = rw (e, ← q, eq-eqb w 0 z) refl
+
+    pub image-cut : isNamed t EId.FeImage i ≡ true → (w : ℕ) → w ≡ recursiveFeImage chars values t i → (w ≡ 0 → ⊥)
+        → applyCut t (cutAt t 6 (w - 1)) ≡ applied t (imageCuts chars values t (i ∷ []))
+    unfolding allNamed imagesOn applied
+    image-cut e w q z = rw (e, ← q, ne-eqb w 0 z) refl
+
+  pub images-all : (t : Tree) → imageCuts chars values t (upFrom 0 (t .nodeCount)) ≡ passOn chars values 6 t
+  unfolding passOn
+  images-all t = refl
+
+-- THE LOOP
 
 -- In the middle of the nodes: i is next, and what is still to do leaves what all of it leaves.
-pub record Pass (script chars ns : List ℕ) (c : Counts) (k code : ℕ) (es₀ es : List ℕ) (i : ℕ) (hint : Cursor) : Type 0 where
+pub record Pass (script chars ns : List ℕ) (c : Counts) (f : Tree → List ℕ → List Cut) (es₀ es : List ℕ) (i : ℕ) (hint : Cursor)
+    : Type 0 where
   pub mendable : Mendable script chars ns es c hint
   pub long : length es ≡ length es₀
-  pub same : cutPairs chars (valuesOf script chars) k (seenOf ns es c)
-      (pairsOf (seenOf ns es c) (allNamed (seenOf ns es c) code (upFrom i (c .nodes - i))))
-      ≡ cutPairs chars (valuesOf script chars) k (seenOf ns es₀ c)
-      (pairsOf (seenOf ns es₀ c) (allNamed (seenOf ns es₀ c) code (upFrom 0 (c .nodes))))
+  pub same : applied (seenOf ns es c) (f (seenOf ns es c) (upFrom i (c .nodes - i)))
+      ≡ applied (seenOf ns es₀ c) (f (seenOf ns es₀ c) (upFrom 0 (c .nodes)))
 
-pub pass-start : (script chars ns : List ℕ) (c : Counts) (k code : ℕ) (es : List ℕ) (hint : Cursor) → Mendable script chars ns es c hint
-    → Pass script chars ns c k code es es 0 hint
-pass-start script chars ns c k code es hint g =
-    let e : c .nodes - 0 ≡ c .nodes = omega arith in
-    record {
-      mendable = g;
-      long = refl;
-      same = ap (λ (n : ℕ). cutPairs chars (valuesOf script chars) k (seenOf ns es c)
-          (pairsOf (seenOf ns es c) (allNamed (seenOf ns es c) code (upFrom 0 n)))) e;
-    }
-
-module _ (script chars ns : List ℕ) (c : Counts) (k code : ℕ) (es₀ es : List ℕ) (i : ℕ) (hint : Cursor)
-    (q : Pass script chars ns c k code es₀ es i hint) where
-  pub pass-turn : i < c .nodes → (es′ : List ℕ) (n : Cursor)
-      → seenOf ns es′ c ≡ cutPairs chars (valuesOf script chars) k (seenOf ns es c)
-      (pairsOf (seenOf ns es c) (allNamed (seenOf ns es c) code (i ∷ [])))
-      → Fit script n → Pass script chars ns c k code es₀ es′ (i + 1) n
-  pass-turn l es′ n e f =
-      let t : Tree = seenOf ns es c in
-      let u : Tree = seenOf ns es′ c in
-      let vs : List Value = valuesOf script chars in
-      let xs : List ℕ = upFrom (i + 1) (c .nodes - (i + 1)) in
-      let cs : List Cut = goingOn chars vs k t (pairsOf t (allNamed t code (i ∷ []))) in
+module _ (script chars ns : List ℕ) (c : Counts) (f : Tree → List ℕ → List Cut) where
+  pub pass-start : (es : List ℕ) (hint : Cursor) → Mendable script chars ns es c hint → Pass script chars ns c f es es 0 hint
+  pass-start es hint g =
+      let e : c .nodes - 0 ≡ c .nodes = omega arith in
       record {
-        mendable = record {
-          drawn = record { checked = q .mendable .drawn .checked; fit = f };
-          tidy = subst (Tidy (length chars)) (sym e) (cuts-tidy (length chars) t cs (q .mendable .tidy));
-        };
-        long = ap (λ (w : Tree). length (w .attributes)) e ∙ applied-long cs t ∙ q .long;
-        same =
-            ap (λ (ps : List Pair). cutPairs chars vs k u ps) (sym (both-alike t u refl refl code xs))
-            ∙ ap (λ (w : Tree). cutPairs chars vs k w (pairsOf t (allNamed t code xs))) e
-            ∙ sym (named-first chars vs k t code i xs)
-            ∙ ap (λ (is : List ℕ). cutPairs chars vs k t (pairsOf t (allNamed t code is))) (sym (up-step i (c .nodes) l))
-            ∙ q .same;
+        mendable = g;
+        long = refl;
+        same = ap (λ (n : ℕ). applied (seenOf ns es c) (f (seenOf ns es c) (upFrom 0 n))) e;
       }
 
-  pub pass-done : c .nodes ≤ i → code ≡ elementOf k → k ≤ 5
-      → seenOf ns es c ≡ applied (seenOf ns es₀ c) (passOn chars (valuesOf script chars) k (seenOf ns es₀ c))
-  unfolding allNamed pairsOf goingOn applied passOn
-  pass-done l z h =
-      sym (ap (λ (is : List ℕ). cutPairs chars (valuesOf script chars) k (seenOf ns es c)
-      (pairsOf (seenOf ns es c) (allNamed (seenOf ns es c) code is))) (up-none i (c .nodes) l))
-      ∙ q .same
-      ∙ ap (λ (x : ℕ). cutPairs chars (valuesOf script chars) k (seenOf ns es₀ c)
-      (pairsOf (seenOf ns es₀ c) (allNamed (seenOf ns es₀ c) x (upFrom 0 (c .nodes))))) z
-      ∙ rw (le-leb k 5 h) refl
+  module _ (o : OneByOne f) (es₀ es : List ℕ) (i : ℕ) (hint : Cursor) (q : Pass script chars ns c f es₀ es i hint) where
+    pub pass-turn : i < c .nodes → (es′ : List ℕ) (n : Cursor)
+        → seenOf ns es′ c ≡ applied (seenOf ns es c) (f (seenOf ns es c) (i ∷ [])) → Fit script n
+        → Pass script chars ns c f es₀ es′ (i + 1) n
+    pass-turn l es′ n e g =
+        let t : Tree = seenOf ns es c in
+        let cs : List Cut = f t (i ∷ []) in
+        record {
+          mendable = mend-on script chars ns es c cs es′ e hint (q .mendable) n g;
+          long = long-on script chars ns es c cs es′ e ∙ q .long;
+          same =
+              sym (o .more t (seenOf ns es′ c) refl refl i (upFrom (i + 1) (c .nodes - (i + 1))) e)
+              ∙ ap (λ (is : List ℕ). applied t (f t is)) (sym (up-step i (c .nodes) l))
+              ∙ q .same;
+        }
+
+    pub pass-done : c .nodes ≤ i → seenOf ns es c ≡ applied (seenOf ns es₀ c) (f (seenOf ns es₀ c) (upFrom 0 (c .nodes)))
+    pass-done l =
+        sym (o .none (seenOf ns es c))
+        ∙ sym (ap (λ (is : List ℕ). applied (seenOf ns es c) (f (seenOf ns es c) is)) (up-none i (c .nodes) l))
+        ∙ q .same

@@ -3,26 +3,25 @@ use mathlib.Core.Path.{_≡_, refl, sym, ap, _∙_, subst}
 use mathlib.Core.Bool.{Bool, true, false, false≢true}
 use mathlib.Core.List.{List, [], _∷_}
 use mathlib.Core.Option.{Option, none, some}
-use Prim.Native.Nat.{ℕ, zero, suc, _+_, _-_, _*_, _<_, _≤_}
+use Prim.Native.Nat.{ℕ, zero, suc, _+_, _-_, _<_, _≤_}
 use native.Mathlib.Omega.{arith}
 use native.Mathlib.Decide.{ℕ-discrete}
 use borrow.Author.Tests.{eqb-true, eq-eqb, ne-eqb}
 use lib.Dec.{eqb, leb}
 use lib.ListN.{length}
-use lib.Seq.{length-sets}
 use Rattle.model.specs.Base.{pick, and, or, given, sameBytes}
 use Rattle.model.specs.AId
-use Rattle.model.specs.Check.{check}
 use Rattle.model.specs.Drawing.{Part, Value, events, readingOf, readingsOf}
 use Rattle.model.specs.Tables.{Tree, entryWord, entryAt, attributeId, attributeOf, elementById, setNone}
 use Rattle.model.specs.Repair.{upFrom, descendants, linkKind, elementId, readingsOfAttribute, linkOf, paintsWith, nodeAttribute}
-use Rattle.model.specs.Repair.{cutName, cutAt, applyCut, applied}
+use Rattle.model.specs.Repair.{Cut, cutName, cutAt, applyCut, applied}
 use Rattle.model.specs.Theorems.Inside.{all-inside}
 use Rattle.model.specs.Theorems.Images.{values-bare}
+use Rattle.model.specs.Theorems.Whole.{cuts-tidy}
 use Rattle.model.specs.Theorems.Kept.{Tidy, attribute-any}
 use Rattle.model.specs.Theorems.Cuts as cuts
 use Rattle.model.specs.Theorems.Cuts.{by-id-kept, element-id-kept}
-use Rattle.model.specs.Theorems.GoingOn.{passing, Without, leadsTo, cutsAlong, cut-is, leads-without, tidy-cut}
+use Rattle.model.specs.Theorems.GoingOn.{passing, Without, leadsTo, cutsAlong, cut-is, leads-without}
 use Rattle.script.specs.declared.cursor.Cursor.{Cursor}
 use Rattle.script.specs.Step.{Fit}
 use Rattle.tree.specs.declared.Counts.{Counts}
@@ -31,8 +30,9 @@ use Rattle.tree.proofs.Bools.{and-false}
 use Rattle.tree.proofs.Alike.{id-same, attribute-same}
 use Rattle.repair.specs.declared.lead.Aim.{Aim}
 use Rattle.repair.specs.declared.lead.Lead.{Lead}
-use Rattle.repair.specs.Links.{valuesOf, Drawn, Stands, idAt, ledBy, isBack, LeadFit, counted}
+use Rattle.repair.specs.Links.{valuesOf, Stands, idAt, ledBy, isBack, LeadFit, counted}
 use Rattle.repair.specs.Passes.{seenOf, Mendable, Aimed, cutBack, cutNodes}
+use Rattle.repair.proofs.Writing.{mend-on, long-on}
 use Rattle.repair.proofs.Lasting.{compared}
 use Rattle.repair.proofs.Descending.{up-step, up-none, descendants-alike}
 
@@ -190,38 +190,28 @@ uncut t k m z = rw (eq-eqb (attributeId t m (cutName k)) 0 z) refl
 
 module _ (size : ℕ) (chars : List ℕ) (values : List Value) (bare : readingsOf 0 values ≡ []) (k : ℕ) (other : cutName k ≡ AId.Id → ⊥)
     (t : Tree) (g : Tidy size t) (m : ℕ) where
-  -- A fact of trees that holds behind every cut of an entry holds behind the cut of m.
-  module _ (P : Tree → Type 0) (p : P t) (q : (attributeId t m (cutName k) ≡ 0 → ⊥) → P (setNone (attributeId t m (cutName k) - 1) t)) where
-    cut-keeps : P (applyCut t (cutAt t k m))
-    cut-keeps = go (ℕ-discrete (attributeId t m (cutName k)) 0)
-      where
-        go : Dec (attributeId t m (cutName k) ≡ 0) → P (applyCut t (cutAt t k m))
-        go (yes z) = subst P (sym (uncut t k m z)) p
-        go (no h) = subst P (sym (cut-is size chars values bare k other t g m h)) (q h)
-
   pub cut-tidy : Tidy size (applyCut t (cutAt t k m))
-  cut-tidy = cut-keeps (Tidy size) g (tidy-cut size chars values bare k other t g m)
-
-  pub cut-long : length (applyCut t (cutAt t k m) .attributes) ≡ length (t .attributes)
-  unfolding setNone
-  cut-long =
-      cut-keeps (λ (u : Tree). length (u .attributes) ≡ length (t .attributes)) refl
-      (λ h. length-sets (t .attributes) (5 * (attributeId t m (cutName k) - 1) + 2) (1 ∷ 0 ∷ 0 ∷ []))
+  unfolding applied
+  cut-tidy = cuts-tidy size t (cutAt t k m ∷ []) g
 
   pub cut-aimed : (aim : Aim) → Aimed chars t aim → Aimed chars (applyCut t (cutAt t k m)) aim
-  cut-aimed aim w = cut-keeps (λ (u : Tree). Aimed chars u aim) w (λ h. record {
-    first = w .first;
-    last = w .last;
-    name = w .name;
-    kind = w .kind;
-    id = w .id ∙ sym (cuts.id-same (attributeId t m (cutName k) - 1) t (aim .element) AId.Id);
-    led = w .led
-        ∙ ap (λ (id : List ℕ). or (leb (aim .pass) 2) (eqb (elementById chars t id) (aim .element + 1)))
-        (sym (element-id-kept size chars values bare t g m (cutName k) h other (aim .element)))
-        ∙ ap (λ (n : ℕ). or (leb (aim .pass) 2) (eqb n (aim .element + 1)))
-        (sym (by-id-kept size chars values bare t g m (cutName k) h other
-        (elementId chars (setNone (attributeId t m (cutName k) - 1) t) (aim .element))));
-  })
+  cut-aimed aim w = go (ℕ-discrete (attributeId t m (cutName k)) 0)
+    where
+      go : Dec (attributeId t m (cutName k) ≡ 0) → Aimed chars (applyCut t (cutAt t k m)) aim
+      go (yes z) = subst (λ (u : Tree). Aimed chars u aim) (sym (uncut t k m z)) w
+      go (no h) = subst (λ (u : Tree). Aimed chars u aim) (sym (cut-is size chars values bare k other t g m h)) (record {
+        first = w .first;
+        last = w .last;
+        name = w .name;
+        kind = w .kind;
+        id = w .id ∙ sym (cuts.id-same (attributeId t m (cutName k) - 1) t (aim .element) AId.Id);
+        led = w .led
+            ∙ ap (λ (id : List ℕ). or (leb (aim .pass) 2) (eqb (elementById chars t id) (aim .element + 1)))
+            (sym (element-id-kept size chars values bare t g m (cutName k) h other (aim .element)))
+            ∙ ap (λ (n : ℕ). or (leb (aim .pass) 2) (eqb n (aim .element + 1)))
+            (sym (by-id-kept size chars values bare t g m (cutName k) h other
+            (elementId chars (setNone (attributeId t m (cutName k) - 1) t) (aim .element))));
+      })
 
 module _ (size : ℕ) (chars : List ℕ) (values : List Value) (bare : readingsOf 0 values ≡ []) (k i : ℕ) (other : cutName k ≡ AId.Id → ⊥)
     (t : Tree) (g : Tidy size t) (m : ℕ) where
@@ -229,18 +219,12 @@ module _ (size : ℕ) (chars : List ℕ) (values : List Value) (bare : readingsO
   abbrev next : Tree
   next = cutBack chars values k i t m
 
-  pub back-tidy : Tidy size next
-  back-tidy = go (leadsTo chars values k t i m)
+  pub back-cuts : next ≡ applied t (pick (leadsTo chars values k t i m) (λ u. cutAt t k m ∷ []) (λ u. []))
+  unfolding applied
+  back-cuts = go (leadsTo chars values k t i m)
     where
-      go : (b : Bool) → Tidy size (pick b (λ u. applyCut t (cutAt t k m)) (λ u. t))
-      go true = cut-tidy size chars values bare k other t g m
-      go false = g
-
-  pub back-long : length (next .attributes) ≡ length (t .attributes)
-  back-long = go (leadsTo chars values k t i m)
-    where
-      go : (b : Bool) → length (pick b (λ u. applyCut t (cutAt t k m)) (λ u. t) .attributes) ≡ length (t .attributes)
-      go true = cut-long size chars values bare k other t g m
+      go : (b : Bool) → pick b (λ u. applyCut t (cutAt t k m)) (λ u. t) ≡ applied t (pick b (λ u. cutAt t k m ∷ []) (λ u. []))
+      go true = refl
       go false = refl
 
   pub back-aimed : (aim : Aim) → Aimed chars t aim → Aimed chars next aim
@@ -311,17 +295,15 @@ module _ (script chars ns : List ℕ) (c : Counts) (aim : Aim) (w end : ℕ) (es
       let bare = values-bare (length chars) (events script chars) (all-inside script chars (q .mendable .drawn .checked)) in
       let other = no-id (aim .pass) (q .aimed .last) in
       let g = q .mendable .tidy in
+      let cs : List Cut = pick (leadsTo chars vs (aim .pass) t (aim .element) m) (λ u. cutAt t (aim .pass) m ∷ []) (λ u. []) in
+      let d : seenOf ns es′ c ≡ applied t cs = e ∙ back-cuts (length chars) chars vs bare (aim .pass) (aim .element) other t g m in
       record {
-        mendable = record {
-          drawn = record { checked = q .mendable .drawn .checked; fit = f };
-          tidy = subst (Tidy (length chars)) (sym e) (back-tidy (length chars) chars vs bare (aim .pass) (aim .element) other t g m);
-        };
+        mendable = mend-on script chars ns es c cs es′ d hint (q .mendable) n f;
         aimed = subst (λ (u : Tree). Aimed chars u aim) (sym e)
             (back-aimed (length chars) chars vs bare (aim .pass) (aim .element) other t g m aim (q .aimed));
         high = omega arith;
         inside = q .inside;
-        long = ap (λ (u : Tree). length (u .attributes)) e
-            ∙ back-long (length chars) chars vs bare (aim .pass) (aim .element) other t g m ∙ q .long;
+        long = long-on script chars ns es c cs es′ d ∙ q .long;
         same =
             ap (λ (u : Tree). cutNodes chars vs (aim .pass) u
             (passing (leadsTo chars vs (aim .pass) u (aim .element)) (upFrom (m + 1) (end - (m + 1))))) e

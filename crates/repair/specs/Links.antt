@@ -10,14 +10,18 @@ use Rattle.model.specs.Base.{pick, and, given, sameBytes}
 use Rattle.model.specs.Check.{check}
 use Rattle.model.specs.Drawing.{Part, Value, partAt, events, valuesIn}
 use Rattle.model.specs.Tables.{Tree, ELEMENT, kindOf, toOf, entryAt, valueAtEntry}
+use Rattle.model.specs.Repair.{anyReading}
 use Rattle.model.specs.Theorems.Kept.{KeptEntry}
 use Rattle.script.specs.declared.cursor.Cursor.{Cursor}
 use Rattle.script.specs.Step.{Fit, mostStart}
+use Rattle.walk.specs.Values.{readingsIn}
 use Rattle.tree.specs.Lent.{treeOf, Readable, Valued}
 use Rattle.repair.specs.declared.link.FoundLink.{FoundLink}
 use Rattle.repair.specs.declared.link.FoundLink.the-variants as link
 use Rattle.repair.specs.declared.lead.Lead.{Lead}
 use Rattle.repair.specs.declared.lead.Lead.the-variants as lead
+use Rattle.repair.specs.declared.image.Look.{Look}
+use Rattle.repair.specs.declared.image.Look.the-variants as look
 
 -- THE DRAWING
 
@@ -78,6 +82,15 @@ abbrev pub LeadFit : List ℕ → List ℕ → Option Part → Lead → Type 0
 LeadFit script chars o (lead.Back c) = Fit script c
 LeadFit script chars o (lead.On a l c) = (some (partAt chars a l) ≡ o) × ((a ≤ mostStart) × Fit script c)
 LeadFit script chars o (lead.Nowhere c) = (none ≡ o) × Fit script c
+
+-- FILTER LINKS
+
+-- What a look at the next reading says of the filter links of a value that begins at a, from the cursor c on.
+abbrev pub Looked : List ℕ → List ℕ → List ℕ → ℕ → Cursor → Look → Type 0
+Looked script chars id a c look.Back = true ≡ anyReading 4 id (readingsIn script chars a c)
+Looked script chars id a c (look.On n) =
+    (c .at < n .at) × (Fit script n × (anyReading 4 id (readingsIn script chars a n) ≡ anyReading 4 id (readingsIn script chars a c)))
+Looked script chars id a c look.Out = false ≡ anyReading 4 id (readingsIn script chars a c)
 
 -- NODES
 

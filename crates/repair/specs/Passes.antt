@@ -5,12 +5,14 @@ use mathlib.Core.List.{List}
 use lib.Dec.{eqb, leb}
 use lib.ListN.{length, replicate}
 use Rattle.model.specs.Base.{pick, or, Pair}
+use Rattle.model.specs.EId
 use Rattle.model.specs.AId
 use Rattle.model.specs.Drawing.{Value}
 use Rattle.model.specs.Tables.{Tree, attributeId, elementById}
-use Rattle.model.specs.Repair.{elementId, cutName, cutAt, applyCut, applied}
+use Rattle.model.specs.Repair.{allNamed, elementId, Cut, cutName, cutAt, applyCut, applied}
 use Rattle.model.specs.Theorems.Kept.{Tidy}
-use Rattle.model.specs.Theorems.GoingOn.{leadsTo, cutsAlong, goingOn}
+use Rattle.model.specs.Theorems.GoingOn.{leadsTo, cutsAlong, pairsOf, goingOn}
+use Rattle.model.specs.Theorems.Images.{imagesOn}
 use Rattle.script.specs.declared.cursor.Cursor.{Cursor}
 use Rattle.tree.specs.declared.Counts.{Counts}
 use Rattle.tree.specs.Lent.{treeOf}
@@ -46,3 +48,11 @@ cutNodes chars values k t ms = applied t (cutsAlong chars values k t ms)
 -- The tree behind the cuts of pairs, each of an element and a node below it.
 abbrev pub cutPairs : List ℕ → List Value → ℕ → Tree → List Pair → Tree
 cutPairs chars values k t ps = applied t (goingOn chars values k t ps)
+
+-- The cuts of one of the passes 1 to 5 at these nodes, where they are elements with the code that it looks at.
+abbrev pub linkCuts : List ℕ → List Value → ℕ → ℕ → Tree → List ℕ → List Cut
+linkCuts chars values k code t is = goingOn chars values k t (pairsOf t (allNamed t code is))
+
+-- The cuts of the last pass at these nodes, where they are feImages.
+abbrev pub imageCuts : List ℕ → List Value → Tree → List ℕ → List Cut
+imageCuts chars values t is = imagesOn chars values t (allNamed t EId.FeImage is)

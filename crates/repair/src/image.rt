@@ -26,13 +26,49 @@ ghost use Rattle.script.specs.Step.{Fit, mostPlace};
 ghost use Rattle.walk.specs.Values.{readingsIn};
 ghost use Rattle.places.specs.Seeks.{readingsHere};
 ghost use Rattle.tree.specs.Lent.{readOf, entriesOf, ReadableIn};
-ghost use Rattle.repair.specs.Links.{Drawn, valuesOf, Stands, idAt};
+ghost use Rattle.repair.specs.Links.{Drawn, valuesOf, Stands, idAt, Looked};
 ghost use Rattle.repair.specs.Passes.{seenOf, Mendable};
 
 // Do filters lead to an id? And a place in the script from which to look for the next link.
 pub struct Filtered {
     pub back: bool,
     pub hint: Cursor,
+}
+
+// What one reading of a value tells of its filter links: one leads to an id, more readings follow, or there are none.
+pub enum Look {
+    Back,
+    On(Cursor),
+    Out,
+}
+
+// The next reading of a value that begins at start: is it a filter link with the id in the entry whose number plus 1 is j?
+fn look_at(
+    script: &[u8],
+    characters: &[u8],
+    attributes: &[u32],
+    c: Cursor,
+    start: usize,
+    j: u32,
+) -> Look
+    requires { ⌜ Fit (now script) c ⌝ }
+    requires { ⌜ start ≤ mostPlace ⌝ }
+    requires { ⌜ Stands (length (now characters)) (entriesOf (now attributes)) j ⌝ }
+    ensures { λ r. ⌜ Looked (now (script .entry)) (now (characters .entry))
+        (idAt (now (characters .entry)) (entriesOf (now (attributes .entry))) j) start c r ⌝ }
+{
+    match next_reading(script, characters, c, start) {
+        NextReading::At(k, o, len, n) => {
+            if k != 4 {
+                return Look::On(n);
+            }
+            if is_id(attributes, characters, j, part_at(characters, o, len)) {
+                return Look::Back;
+            }
+            Look::On(n)
+        }
+        NextReading::End => Look::Out,
+    }
 }
 
 // Has a value that begins at start, from behind it, a filter link with the id in the entry whose number plus 1 is j?
@@ -52,16 +88,14 @@ fn any_id(
 {
     let mut c = from;
     loop {
-        match next_reading(script, characters, c, start) {
-            NextReading::At(k, o, len, n) => {
-                if k == 4 {
-                    if is_id(attributes, characters, j, part_at(characters, o, len)) {
-                        return true;
-                    }
-                }
-                c = n;
+        match look_at(script, characters, attributes, c, start, j) {
+            Look::Back => {
+                return true;
             }
-            NextReading::End => {
+            Look::On(next) => {
+                c = next;
+            }
+            Look::Out => {
                 return false;
             }
         }
@@ -128,7 +162,7 @@ pub struct Image {
 }
 
 // The node that the feImage i leads to, where one of that node's filters leads to i's parent.
-fn image_of(
+pub fn image_of(
     script: &[u8],
     characters: &[u8],
     nodes: &[u32],

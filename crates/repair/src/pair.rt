@@ -1,6 +1,7 @@
 // An element, and the nodes below it one after another: what leads back to the element is cut, at the node or below where that leads.
 use crate::back::cut_below;
 use crate::below::behind_below;
+use crate::below::first_with;
 use crate::cut::cut;
 use crate::cut::cut_name;
 use crate::last::is_last;
@@ -15,9 +16,9 @@ use tree::read::last_with_id;
 use walk::value::part_at;
 ghost use mathlib.Core.Path.{_≡_};
 ghost use mathlib.Core.List.{[]};
-ghost use Prim.Native.Nat.{_<_, _≤_};
+ghost use Prim.Native.Nat.{_-_, _<_, _≤_};
 ghost use lib.ListN.{length};
-ghost use Rattle.model.specs.Repair.{descendants};
+ghost use Rattle.model.specs.Repair.{upFrom, descendants};
 ghost use Rattle.model.specs.Theorems.Kept.{Kept};
 ghost use Rattle.model.specs.Theorems.GoingOn.{nodesAt, withEach};
 ghost use Rattle.script.specs.Step.{Fit};
@@ -101,7 +102,38 @@ fn aim_at(
     }
 }
 
-// Element i with itself and each node below it.
+// The element that is aimed at with each node from first up to end.
+fn cut_pairs(
+    script: &[u8],
+    characters: &[u8],
+    nodes: &[u32],
+    attributes: &mut [u32],
+    counts: Counts,
+    aim: Aim,
+    first: u32,
+    end: u32,
+    hint: Cursor,
+) -> Cursor
+    requires { ⌜ Mendable (now script) (now characters) (now nodes) (now attributes) counts hint ⌝ }
+    requires { ⌜ Aimed (now characters) (seenOf (now nodes) (now attributes) counts) aim ⌝ }
+    requires { ⌜ end ≤ counts .nodes ⌝ }
+    ensures tables { λ r. ⌜ seenOf (now (nodes .entry)) (now (attributes .exit)) counts
+        ≡ cutPairs (now (characters .entry)) (valuesOf (now (script .entry)) (now (characters .entry))) (aim .pass)
+        (seenOf (now (nodes .entry)) (now (attributes .entry)) counts)
+        (withEach (aim .element) (upFrom first (end - first)) []) ⌝ }
+    ensures fit { λ r. ⌜ Fit (now (script .entry)) r ⌝ }
+{
+    let mut c = hint;
+    let mut j = first;
+    while j < end {
+        c = cut_pair(script, characters, nodes, attributes, counts, aim, j, c);
+        j += 1;
+    }
+    c
+}
+
+// Element i with itself and each node below it. Where none of them has a link, or no link leads to the element, there is nothing to cut:
+// whether it is the last with its id is asked of elements with links alone.
 pub fn cut_element(
     script: &[u8],
     characters: &[u8],
@@ -121,13 +153,25 @@ pub fn cut_element(
         (withEach i (descendants (seenOf (now (nodes .entry)) (now (attributes .entry)) counts) i) []) ⌝ }
     ensures fit { λ r. ⌜ Fit (now (script .entry)) r ⌝ }
 {
-    let aim = aim_at(nodes, attributes, characters, counts, pass, i);
+    let name = cut_name(pass);
     let end = behind_below(nodes, counts.nodes, i);
-    let mut c = hint;
-    let mut j = i;
-    while j < end {
-        c = cut_pair(script, characters, nodes, attributes, counts, aim, j, c);
-        j += 1;
+    let first = first_with(nodes, attributes, name, i, end);
+    if first == end {
+        return hint;
     }
-    c
+    let aim = aim_at(nodes, attributes, characters, counts, pass, i);
+    if !aim.led {
+        return hint;
+    }
+    cut_pairs(
+        script,
+        characters,
+        nodes,
+        attributes,
+        counts,
+        aim,
+        first,
+        end,
+        hint,
+    )
 }

@@ -10,13 +10,13 @@ ghost use mathlib.Core.List.{[], _∷_};
 ghost use Prim.Native.Nat.{_+_, _*_, _<_, _≤_};
 ghost use lib.ListN.{length};
 ghost use Rattle.model.specs.Tables.{isNamed};
-ghost use Rattle.model.specs.Repair.{allNamed, applied};
-ghost use Rattle.model.specs.Theorems.GoingOn.{elementOf, pairsOf};
+ghost use Rattle.model.specs.Repair.{applied};
+ghost use Rattle.model.specs.Theorems.GoingOn.{elementOf};
 ghost use Rattle.model.specs.Theorems.Images.{passOn};
 ghost use Rattle.script.specs.Step.{Fit};
 ghost use Rattle.tree.specs.Lent.{nodesRead};
 ghost use Rattle.repair.specs.Links.{valuesOf};
-ghost use Rattle.repair.specs.Passes.{seenOf, Mendable, cutPairs};
+ghost use Rattle.repair.specs.Passes.{seenOf, Mendable, linkCuts};
 
 // The elements that one of the passes 1 to 5 looks at.
 fn element_code(pass: u32) -> u32
@@ -36,7 +36,7 @@ fn element_code(pass: u32) -> u32
 }
 
 // Is node i an element with that code?
-fn is_named(nodes: &[u32], code: u32, i: u32) -> bool
+pub fn is_named(nodes: &[u32], code: u32, i: u32) -> bool
     requires { ⌜ 8 * i + 7 < length (now nodes) ⌝ }
     ensures { λ r. ⌜ r ≡ isNamed (nodesRead (now (nodes .entry))) code i ⌝ }
 {
@@ -62,10 +62,9 @@ fn cut_named(
     requires { ⌜ (1 ≤ pass) × (pass ≤ 5) ⌝ }
     requires { ⌜ i < counts .nodes ⌝ }
     ensures tables { λ r. ⌜ seenOf (now (nodes .entry)) (now (attributes .exit)) counts
-        ≡ cutPairs (now (characters .entry)) (valuesOf (now (script .entry)) (now (characters .entry))) pass
-        (seenOf (now (nodes .entry)) (now (attributes .entry)) counts)
-        (pairsOf (seenOf (now (nodes .entry)) (now (attributes .entry)) counts)
-        (allNamed (seenOf (now (nodes .entry)) (now (attributes .entry)) counts) code (i ∷ []))) ⌝ }
+        ≡ applied (seenOf (now (nodes .entry)) (now (attributes .entry)) counts)
+        (linkCuts (now (characters .entry)) (valuesOf (now (script .entry)) (now (characters .entry))) pass code
+        (seenOf (now (nodes .entry)) (now (attributes .entry)) counts) (i ∷ [])) ⌝ }
     ensures fit { λ r. ⌜ Fit (now (script .entry)) r ⌝ }
 {
     if !is_named(nodes, code, i) {

@@ -1,9 +1,6 @@
-use mathlib.Core.Path.{sym, ap, _∙_}
-use mathlib.Core.List.{List}
-use Prim.Native.Nat.{ℕ, _-_}
+use mathlib.Core.Path.{_∙_}
+use Prim.Native.Nat.{_-_}
 use native.Mathlib.Omega.{arith}
-use Rattle.repair.specs.Links.{valuesOf}
-use Rattle.repair.specs.Passes.{seenOf, cutNodes}
 use Rattle.repair.proofs.Turning.{Cutting, cutting-first, cutting-turn, cutting-done, below-seen}
 use Rattle.repair.proofs.back.cut_below.Statement.{statement}
 use Rattle.repair.proofs.back.cut_below.Tie as tie
@@ -48,12 +45,12 @@ same-length : tie.Need-same-length Inv-loop μ-loop
 same-length c = c .before .loop .inv .long
 
 returns : tie.Need-returns Inv-loop μ-loop
-returns c = let args = c .before .before .before .before .before .before .before .args in (
-  cutting-done _ _ _ _ _ _ _ _ _ _ _ (c .before .loop .inv) (c .loop-test .left)
-      ∙ below-seen (args .script .now) (args .characters .now) (args .nodes .now) (args .attributes .now)
-      (args .counts) (args .aim) (args .w) _ (c .before .before .behind-below .ensures .0),
-  c .before .loop .inv .mendable .drawn .fit,
-)
+returns c =
+    let args = c .before .before .before .before .before .before .before .args in (
+      cutting-done _ _ _ _ _ _ _ _ _ _ _ (c .before .loop .inv) (c .loop-test .left)
+          ∙ below-seen _ _ _ _ (args .counts) (args .aim) (args .w) _ (c .before .before .behind-below .ensures .0),
+      c .before .loop .inv .mendable .drawn .fit,
+    )
 
 pub cut-below-spec : {M : Type 1} → statement M
 cut-below-spec =

@@ -21,11 +21,12 @@ node-word-requires : tie.Need-node-word-requires Inv-loop μ-loop
 node-word-requires c κs = omega (arith, c .before .before .before .pre .1)
 
 returns : tie.Need-returns Inv-loop μ-loop
-returns c = (
-  passed-stop _ _ _ (c .before .before .before .loop .inv) (c .before .before .loop-test .taken)
-      (omega (arith, c .before .node-word .ensures, c .if1 .taken)),
-  (c .before .before .before .loop .inv .low, c .before .before .before .loop .inv .high),
-)
+returns c =
+    let loop-inv = c .before .before .before .loop .inv in (
+      passed-stop _ _ _ loop-inv (c .before .before .loop-test .taken)
+          (omega (arith, c .before .node-word .ensures, c .if1 .taken)),
+      (loop-inv .low, loop-inv .high),
+    )
 
 add-j-2 : tie.Need-add-j-2 Inv-loop μ-loop
 add-j-2 c = omega arith

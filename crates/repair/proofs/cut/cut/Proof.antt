@@ -1,7 +1,6 @@
 use mathlib.Core.Path.{ap, _∙_}
 use native.Mathlib.Omega.{arith}
 use Rattle.model.specs.Tables.{attributeId}
-use Rattle.tree.specs.Lent.{readOf}
 use Rattle.repair.proofs.Writing.{cut-none, cut-some}
 use borrow.Author.Needs.{needs}
 use Rattle.repair.proofs.cut.cut.Statement.{statement}
@@ -18,10 +17,8 @@ same-length c = search needs
 
 returns : tie.Need-returns
 returns c =
-    cut-none _ _ _ _ (c .before .attribute-id .ensures .0 ∙ ap (attributeId (readOf
-    (c .before .before .before .before .before .before .args .nodes .now)
-    (c .before .before .before .before .before .before .args .attributes .now))
-    (c .before .before .before .before .before .before .args .i)) (c .before .before .before .cut-name .ensures)) (c .if1 .taken)
+    cut-none _ _ _ _ (c .before .attribute-id .ensures .0 ∙ ap (attributeId _ _) (c .before .before .before .cut-name .ensures))
+    (c .if1 .taken)
 
 sub-set-none : tie.Need-sub-set-none
 sub-set-none c = search needs
@@ -42,12 +39,8 @@ same-length-2 c = search needs
 returns-2 : tie.Need-returns-2
 returns-2 c =
     cut-some _ _ _ _ (c .before .before .before .before .before .attribute-id .ensures .0
-    ∙ ap (attributeId (readOf
-    (c .before .before .before .before .before .before .before .before .before .before .args .nodes .now)
-    (c .before .before .before .before .before .before .before .before .before .before .args .attributes .now))
-    (c .before .before .before .before .before .before .before .before .before .before .args .i))
-    (c .before .before .before .before .before .before .before .cut-name .ensures)) (c .before .before .before .before .if1 .left)
-    _ (c .before .before .set-none .ensures)
+    ∙ ap (attributeId _ _) (c .before .before .before .before .before .before .before .cut-name .ensures))
+    (c .before .before .before .before .if1 .left) _ (c .before .before .set-none .ensures)
 
 pub cut-spec : {M : Type 1} → statement M
 cut-spec =

@@ -1,10 +1,8 @@
 use mathlib.Core.Path.{ap, _∙_}
 use Rattle.model.specs.Repair.{anyReading}
-use Rattle.tree.specs.Lent.{entriesOf}
 use Rattle.script.proofs.Commands.{goes}
 use Rattle.walk.proofs.Finding.{fit-chars}
 use Rattle.places.proofs.Seeking.{reads, none-any}
-use Rattle.repair.specs.Links.{idAt}
 use borrow.Author.Needs.{needs}
 use Rattle.repair.proofs.image.any_id_at.Statement.{statement}
 use Rattle.repair.proofs.image.any_id_at.Tie as tie
@@ -16,25 +14,17 @@ enum-known-n : tie.Need-enum-known-n
 enum-known-n c = search needs
 
 any-id-requires : tie.Need-any-id-requires
-any-id-requires c κs = (
-  goes _ _ _ (c .before .n .given .1) (c .before .before .before .next .ensures .1),
-  (
-    fit-chars _ _ (c .before .before .before .before .before .before .before .pre .0),
-    c .before .before .before .before .before .before .before .pre .1,
-  ),
-)
+any-id-requires c κs =
+    let pre = c .before .before .before .before .before .before .before .pre in
+    (goes _ _ _ (c .before .n .given .1) (c .before .before .before .next .ensures .1), (fit-chars _ _ (pre .0), pre .1))
 
 enum-known-n-2 : tie.Need-enum-known-n-2
 enum-known-n-2 c = search needs
 
 any-id-requires-2 : tie.Need-any-id-requires-2
-any-id-requires-2 c κs = (
-  goes _ _ _ (c .before .n2 .given .1) (c .before .before .before .next .ensures .1),
-  (
-    fit-chars _ _ (c .before .before .before .before .before .before .before .pre .0),
-    c .before .before .before .before .before .before .before .pre .1,
-  ),
-)
+any-id-requires-2 c κs =
+    let pre = c .before .before .before .before .before .before .before .pre in
+    (goes _ _ _ (c .before .n2 .given .1) (c .before .before .before .next .ensures .1), (fit-chars _ _ (pre .0), pre .1))
 
 enum-told : tie.Need-enum-told
 enum-told c = search needs
@@ -59,77 +49,34 @@ enum-told-7 c = search needs
 
 returns : tie.Need-returns
 returns c =
-    let id = idAt (c .before .before .before .before .before .before .before .before .args .characters .now)
-    (entriesOf (c .before .before .before .before .before .before .before .before .args .attributes .now))
-    (c .before .before .before .before .before .before .before .before .args .j) in
-    c .any-id .ensures ∙ ap (anyReading 4 id) (reads _
-    (c .before .before .before .before .before .before .before .before .args .characters .now) _ _ _
-    (c .before .before .n .given .1) (c .before .before .before .before .next .ensures .0))
+    c .any-id .ensures
+    ∙ ap (anyReading 4 _) (reads _ _ _ _ _ (c .before .before .n .given .1) (c .before .before .before .before .next .ensures .0))
 
 returns-2 : tie.Need-returns-2
 returns-2 c =
-    let id = idAt (c .before .before .before .before .before .before .before .before .args .characters .now)
-    (entriesOf (c .before .before .before .before .before .before .before .before .args .attributes .now))
-    (c .before .before .before .before .before .before .before .before .args .j) in
-    c .any-id2 .ensures ∙ ap (anyReading 4 id) (reads _
-    (c .before .before .before .before .before .before .before .before .args .characters .now) _ _ _
-    (c .before .before .n2 .given .1) (c .before .before .before .before .next .ensures .0))
+    c .any-id2 .ensures ∙ ap (anyReading 4 _)
+    (reads _ _ _ _ _ (c .before .before .n2 .given .1) (c .before .before .before .before .next .ensures .0))
 
 returns-3 : tie.Need-returns-3
-returns-3 c =
-    let id = idAt (c .before .before .before .before .before .before .args .characters .now)
-    (entriesOf (c .before .before .before .before .before .before .args .attributes .now))
-    (c .before .before .before .before .before .before .args .j) in
-    none-any 4 id _ (reads _ (c .before .before .before .before .before .before .args .characters .now) _ _ _
-    (c .enum-told .given .1) (c .before .before .next .ensures .0))
+returns-3 c = none-any 4 _ _ (reads _ _ _ _ _ (c .enum-told .given .1) (c .before .before .next .ensures .0))
 
 returns-4 : tie.Need-returns-4
-returns-4 c =
-    let id = idAt (c .before .before .before .before .before .before .args .characters .now)
-    (entriesOf (c .before .before .before .before .before .before .args .attributes .now))
-    (c .before .before .before .before .before .before .args .j) in
-    none-any 4 id _ (reads _ (c .before .before .before .before .before .before .args .characters .now) _ _ _
-    (c .enum-told2 .given .1) (c .before .before .next .ensures .0))
+returns-4 c = none-any 4 _ _ (reads _ _ _ _ _ (c .enum-told2 .given .1) (c .before .before .next .ensures .0))
 
 returns-5 : tie.Need-returns-5
-returns-5 c =
-    let id = idAt (c .before .before .before .before .before .before .args .characters .now)
-    (entriesOf (c .before .before .before .before .before .before .args .attributes .now))
-    (c .before .before .before .before .before .before .args .j) in
-    none-any 4 id _ (reads _ (c .before .before .before .before .before .before .args .characters .now) _ _ _
-    (c .enum-told3 .given .1) (c .before .before .next .ensures .0))
+returns-5 c = none-any 4 _ _ (reads _ _ _ _ _ (c .enum-told3 .given .1) (c .before .before .next .ensures .0))
 
 returns-6 : tie.Need-returns-6
-returns-6 c =
-    let id = idAt (c .before .before .before .before .before .before .args .characters .now)
-    (entriesOf (c .before .before .before .before .before .before .args .attributes .now))
-    (c .before .before .before .before .before .before .args .j) in
-    none-any 4 id _ (reads _ (c .before .before .before .before .before .before .args .characters .now) _ _ _
-    (c .enum-told4 .given .1) (c .before .before .next .ensures .0))
+returns-6 c = none-any 4 _ _ (reads _ _ _ _ _ (c .enum-told4 .given .1) (c .before .before .next .ensures .0))
 
 returns-7 : tie.Need-returns-7
-returns-7 c =
-    let id = idAt (c .before .before .before .before .before .before .args .characters .now)
-    (entriesOf (c .before .before .before .before .before .before .args .attributes .now))
-    (c .before .before .before .before .before .before .args .j) in
-    none-any 4 id _ (reads _ (c .before .before .before .before .before .before .args .characters .now) _ _ _
-    (c .enum-told5 .given .1) (c .before .before .next .ensures .0))
+returns-7 c = none-any 4 _ _ (reads _ _ _ _ _ (c .enum-told5 .given .1) (c .before .before .next .ensures .0))
 
 returns-8 : tie.Need-returns-8
-returns-8 c =
-    let id = idAt (c .before .before .before .before .before .before .args .characters .now)
-    (entriesOf (c .before .before .before .before .before .before .args .attributes .now))
-    (c .before .before .before .before .before .before .args .j) in
-    none-any 4 id _ (reads _ (c .before .before .before .before .before .before .args .characters .now) _ _ _
-    (c .enum-told6 .given .1) (c .before .before .next .ensures .0))
+returns-8 c = none-any 4 _ _ (reads _ _ _ _ _ (c .enum-told6 .given .1) (c .before .before .next .ensures .0))
 
 returns-9 : tie.Need-returns-9
-returns-9 c =
-    let id = idAt (c .before .before .before .before .before .before .args .characters .now)
-    (entriesOf (c .before .before .before .before .before .before .args .attributes .now))
-    (c .before .before .before .before .before .before .args .j) in
-    none-any 4 id _ (reads _ (c .before .before .before .before .before .before .args .characters .now) _ _ _
-    (c .enum-told7 .given .1) (c .before .before .next .ensures .0))
+returns-9 c = none-any 4 _ _ (reads _ _ _ _ _ (c .enum-told7 .given .1) (c .before .before .next .ensures .0))
 
 pub any-id-at-spec : {M : Type 1} → statement M
 any-id-at-spec =

@@ -1,7 +1,5 @@
-use Rattle.tree.specs.Lent.{readOf, entriesOf}
 use Rattle.tree.proofs.Alike.{held-value}
 use Rattle.model.specs.AId
-use Rattle.repair.specs.Links.{idAt}
 use Rattle.repair.proofs.Linking.{any-absent, any-fixed, any-there}
 use borrow.Author.Needs.{needs}
 use Rattle.repair.proofs.image.has_filter.Statement.{statement}
@@ -11,17 +9,10 @@ attribute-of-requires : tie.Need-attribute-of-requires
 attribute-of-requires c κs = search needs
 
 returns : tie.Need-returns
-returns c =
-    let id = idAt (c .before .before .before .before .before .before .args .characters .now)
-    (entriesOf (c .before .before .before .before .before .before .args .attributes .now))
-    (c .before .before .before .before .before .before .args .j) in (
-      any-absent (c .before .before .before .before .before .before .args .script .now)
-          (c .before .before .before .before .before .before .args .characters .now)
-          (readOf (c .before .before .before .before .before .before .args .nodes .now)
-          (c .before .before .before .before .before .before .args .attributes .now)) AId.Filter
-          (c .before .before .before .before .before .before .args .m) 4 _ (c .before .attribute-of .ensures .0) id (c .if1 .taken),
-      c .before .before .before .before .before .before .pre .0 .fit,
-    )
+returns c = (
+  any-absent _ _ _ AId.Filter _ 4 _ (c .before .attribute-of .ensures .0) _ (c .if1 .taken),
+  c .before .before .before .before .before .before .pre .0 .fit,
+)
 
 sub-entry-word : tie.Need-sub-entry-word
 sub-entry-word c = search needs
@@ -33,18 +24,10 @@ entry-word-requires c κs =
 
 returns-2 : tie.Need-returns-2
 returns-2 c =
-    let id = idAt (c .before .before .before .before .before .before .before .before .args .characters .now)
-    (entriesOf (c .before .before .before .before .before .before .before .before .args .attributes .now))
-    (c .before .before .before .before .before .before .before .before .args .j) in (
-      any-fixed (c .before .before .before .before .before .before .before .before .args .script .now)
-          (c .before .before .before .before .before .before .before .before .args .characters .now)
-          (readOf (c .before .before .before .before .before .before .before .before .args .nodes .now)
-          (c .before .before .before .before .before .before .before .before .args .attributes .now)) AId.Filter
-          (c .before .before .before .before .before .before .before .before .args .m) 4 _
-          (c .before .before .before .attribute-of .ensures .0)
-          (c .before .before .before .before .before .before .before .before .pre .0 .checked) (c .before .before .if1 .left) _
-          (c .before .entry-word .ensures) id (c .if2 .taken),
-      c .before .before .before .before .before .before .before .before .pre .0 .fit,
+    let pre = c .before .before .before .before .before .before .before .before .pre .0 in (
+      any-fixed _ _ _ AId.Filter _ 4 _ (c .before .before .before .attribute-of .ensures .0) (pre .checked)
+          (c .before .before .if1 .left) _ (c .before .entry-word .ensures) _ (c .if2 .taken),
+      pre .fit,
     )
 
 sub-number : tie.Need-sub-number
@@ -60,21 +43,13 @@ any-id-at-requires : tie.Need-any-id-at-requires
 any-id-at-requires c κs = search needs
 
 returns-3 : tie.Need-returns-3
-returns-3 c =
-    let id = idAt (c .before .before .before .before .before .before .before .before .before .before .args .characters .now)
-    (entriesOf (c .before .before .before .before .before .before .before .before .before .before .args .attributes .now))
-    (c .before .before .before .before .before .before .before .before .before .before .args .j) in (
-      any-there (c .before .before .before .before .before .before .before .before .before .before .args .script .now)
-          (c .before .before .before .before .before .before .before .before .before .before .args .characters .now)
-          (readOf (c .before .before .before .before .before .before .before .before .before .before .args .nodes .now)
-          (c .before .before .before .before .before .before .before .before .before .before .args .attributes .now)) AId.Filter
-          (c .before .before .before .before .before .before .before .before .before .before .args .m) 4 _
-          (c .before .before .before .before .before .attribute-of .ensures .0)
-          (c .before .before .before .before .before .before .before .before .before .before .pre .0 .checked)
-          (c .before .before .before .before .if1 .left) _ (c .before .before .before .entry-word .ensures) id
-          (c .before .before .if2 .left) _ (c .before .seek .ensures .0) _ (c .any-id-at .ensures),
-      c .before .seek .ensures .1,
-    )
+returns-3 c = (
+  any-there _ _ _ AId.Filter _ 4 _ (c .before .before .before .before .before .attribute-of .ensures .0)
+      (c .before .before .before .before .before .before .before .before .before .before .pre .0 .checked)
+      (c .before .before .before .before .if1 .left) _ (c .before .before .before .entry-word .ensures) _
+      (c .before .before .if2 .left) _ (c .before .seek .ensures .0) _ (c .any-id-at .ensures),
+  c .before .seek .ensures .1,
+)
 
 pub has-filter-spec : {M : Type 1} → statement M
 has-filter-spec =

@@ -28,14 +28,12 @@ same-value-requires c κs = (
 returns-2 : tie.Need-returns-2
 unfolding hasIdBytes entryAt
 returns-2 c =
+    let args = c .before .before .before .before .before .before .args in
     rw (some-there (c .before .before .attribute-id .ensures .0) (c .before .if1 .left))
-    (c .same-value .ensures ∙ ap (λ (n : ℕ). sameBytes (valueAtEntry
-    (c .before .before .before .before .before .before .args .characters .now)
-    (readOf (c .before .before .before .before .before .before .args .nodes .now)
-    (c .before .before .before .before .before .before .args .attributes .now)) n)
-    (valueOf (c .before .before .before .before .before .before .args .characters .now)
-    (entryAt (entriesOf (c .before .before .before .before .before .before .args .attributes .now))
-    (c .before .before .before .before .before .before .args .j)))) (c .before .before .attribute-id .ensures .0))
+    (c .same-value .ensures ∙ ap (λ (n : ℕ). sameBytes
+    (valueAtEntry (args .characters .now) (readOf (args .nodes .now) (args .attributes .now)) n)
+    (valueOf (args .characters .now) (entryAt (entriesOf (args .attributes .now)) (args .j))))
+    (c .before .before .attribute-id .ensures .0))
 
 pub has-same-id-spec : {M : Type 1} → statement M
 has-same-id-spec =

@@ -37,24 +37,22 @@ sub-has-same-id-2 : tie.Need-sub-has-same-id-2 Inv-loop μ-loop
 sub-has-same-id-2 c = omega arith
 
 has-same-id-requires : tie.Need-has-same-id-requires Inv-loop μ-loop
-has-same-id-requires c κs = (
-  c .before .before .before .before .before .before .before .pre .0 (c .before .loop .n - 1) (omega arith),
-  known-entry _ _ _ _ (c .before .before .before .before .before .before .before .pre .0 _
-      (c .before .before .before .before .before .before .before .pre .1)) (c .before .before .before .attribute-id .ensures .1)
-      (c .before .before .if1 .left),
-)
+has-same-id-requires c κs =
+    let pre = c .before .before .before .before .before .before .before .pre in (
+      pre .0 _ (omega arith),
+      known-entry _ _ _ _ (pre .0 _ (pre .1)) (c .before .before .before .attribute-id .ensures .1) (c .before .before .if1 .left),
+    )
 
 returns-2 : tie.Need-returns-2 Inv-loop μ-loop
 unfolding entryAt
 returns-2 c =
-    last-other _ _ _ _ _ (c .before .before .before .loop .inv .1 .1) (c .before .before .loop-test .taken)
-    ((ap (λ (x : List ℕ). hasIdBytes
-    (c .before .before .before .before .before .before .before .before .before .args .characters .now)
-    (readOf (c .before .before .before .before .before .before .before .before .before .args .nodes .now)
-    (c .before .before .before .before .before .before .before .before .before .args .attributes .now)) x
-    (c .before .before .before .loop .n - 1))
-    (own-id _ _ _ _ (c .before .before .before .before .before .attribute-id .ensures .0)
-    (c .before .before .before .before .if1 .left)) ∙ sym (c .before .has-same-id .ensures)) ∙ c .if2 .taken)
+    let at-loop = c .before .before .before in
+    let args = at-loop .before .before .before .before .before .before .args in
+    last-other _ _ _ _ _ (at-loop .loop .inv .1 .1) (c .before .before .loop-test .taken)
+    ((ap (λ (x : List ℕ).
+    hasIdBytes (args .characters .now) (readOf (args .nodes .now) (args .attributes .now)) x (at-loop .loop .n - 1))
+    (own-id _ _ _ _ (at-loop .before .before .attribute-id .ensures .0) (at-loop .before .if1 .left))
+    ∙ sym (c .before .has-same-id .ensures)) ∙ c .if2 .taken)
 
 sub-n : tie.Need-sub-n Inv-loop μ-loop
 sub-n c = omega arith
@@ -64,20 +62,19 @@ loop-less c = omega arith
 
 loop-again : tie.Need-loop-again Inv-loop μ-loop
 unfolding entryAt
-loop-again c = (
-  omega (arith, c .before .before .loop-test .taken),
-  (
-    omega (arith, c .before .before .before .loop .inv .1 .0),
-    last-on _ _ _ _ _ (c .before .before .before .loop .inv .1 .1) (c .before .before .loop-test .taken)
-        ((ap (λ (x : List ℕ). hasIdBytes
-        (c .before .before .before .before .before .before .before .before .before .args .characters .now)
-        (readOf (c .before .before .before .before .before .before .before .before .before .args .nodes .now)
-        (c .before .before .before .before .before .before .before .before .before .args .attributes .now)) x
-        (c .before .before .before .loop .n - 1))
-        (own-id _ _ _ _ (c .before .before .before .before .before .attribute-id .ensures .0)
-        (c .before .before .before .before .if1 .left)) ∙ sym (c .before .has-same-id .ensures)) ∙ c .if2 .left),
-  ),
-)
+loop-again c =
+    let at-loop = c .before .before .before in
+    let args = at-loop .before .before .before .before .before .before .args in (
+      omega (arith, c .before .before .loop-test .taken),
+      (
+        omega (arith, at-loop .loop .inv .1 .0),
+        last-on _ _ _ _ _ (at-loop .loop .inv .1 .1) (c .before .before .loop-test .taken)
+            ((ap (λ (x : List ℕ).
+            hasIdBytes (args .characters .now) (readOf (args .nodes .now) (args .attributes .now)) x (at-loop .loop .n - 1))
+            (own-id _ _ _ _ (at-loop .before .before .attribute-id .ensures .0) (at-loop .before .if1 .left))
+            ∙ sym (c .before .has-same-id .ensures)) ∙ c .if2 .left),
+      ),
+    )
 
 returns-3 : tie.Need-returns-3 Inv-loop μ-loop
 returns-3 c =

@@ -1,7 +1,6 @@
 use mathlib.Core.Path.{sym, ap, _∙_}
 use mathlib.Core.List.{List}
 use Prim.Native.Nat.{ℕ}
-use native.Mathlib.Omega.{arith}
 use Rattle.model.specs.Base.{sameBytes}
 use Rattle.model.specs.Names.{fixedBytes}
 use Rattle.model.specs.Tables.{entryAt, valueOf}
@@ -32,14 +31,12 @@ has-value-requires c κs = search needs
 
 returns : tie.Need-returns
 returns c =
-    c .has-value .ensures ∙ ap (λ (l : List ℕ). sameBytes (valueOf
-    (c .before .before .before .before .before .before .before .before .args .characters .now)
-    (entryAt (entriesOf (c .before .before .before .before .before .before .before .before .args .attributes .now))
-    (c .before .before .before .before .before .before .before .before .args .j))) l)
-    (read-part _ (entriesOf (c .before .before .before .before .before .before .before .before .args .attributes .now))
-    (c .before .before .before .before .before .before .before .before .args .k) _
-    (c .before .before .before .before .entry-word2 .ensures) _ (c .before .before .before .before .before .entry-word .ensures)
-    (c .before .before .before .if1 .taken) _ (c .before .before .entry-word3 .ensures) _ (c .before .part-at .ensures))
+    let args = c .before .before .before .before .before .before .before .before .args in
+    c .has-value .ensures ∙ ap
+    (λ (l : List ℕ). sameBytes (valueOf (args .characters .now) (entryAt (entriesOf (args .attributes .now)) (args .j))) l)
+    (read-part _ _ _ _ (c .before .before .before .before .entry-word2 .ensures) _
+    (c .before .before .before .before .before .entry-word .ensures) (c .before .before .before .if1 .taken) _
+    (c .before .before .entry-word3 .ensures) _ (c .before .part-at .ensures))
 
 entry-word-requires-4 : tie.Need-entry-word-requires-4
 entry-word-requires-4 c κs = search needs
@@ -61,33 +58,21 @@ is-fixed-requires c κs = search needs
 
 returns-2 : tie.Need-returns-2
 returns-2 c =
-    c .is-fixed .ensures ∙ ap (λ (l : List ℕ).
-    sameBytes (fixedBytes (c .before .before .before .before .before .before .before .before .entry-word .result)) l)
-    (read-part _
-    (entriesOf (c .before .before .before .before .before .before .before .before .before .before .before .args .attributes .now))
-    (c .before .before .before .before .before .before .before .before .before .before .before .args .j) _
-    (c .before .before .before .before .entry-word5 .ensures) _ (c .before .before .before .before .before .entry-word4 .ensures)
-    (c .before .before .before .if2 .taken) _ (c .before .before .entry-word6 .ensures) _ (c .before .part-at2 .ensures))
-    ∙ ap (λ (l : List ℕ). sameBytes l (valueOf
-    (c .before .before .before .before .before .before .before .before .before .before .before .args .characters .now)
-    (entryAt
-    (entriesOf (c .before .before .before .before .before .before .before .before .before .before .before .args .attributes .now))
-    (c .before .before .before .before .before .before .before .before .before .before .before .args .j))))
-    (sym (read-fixed _
-    (entriesOf (c .before .before .before .before .before .before .before .before .before .before .before .args .attributes .now))
-    (c .before .before .before .before .before .before .before .before .before .before .before .args .k) _
-    (c .before .before .before .before .before .before .before .entry-word2 .ensures) _
-    (c .before .before .before .before .before .before .before .before .entry-word .ensures)
-    (c .before .before .before .before .before .before .if1 .left))) ∙ same-swap _ _
+    let at-if1 = c .before .before .before .before .before .before in
+    let args = at-if1 .before .before .before .before .before .args in
+    c .is-fixed .ensures ∙ ap (λ (l : List ℕ). sameBytes (fixedBytes (at-if1 .before .before .entry-word .result)) l)
+    (read-part _ _ _ _ (c .before .before .before .before .entry-word5 .ensures) _
+    (c .before .before .before .before .before .entry-word4 .ensures) (c .before .before .before .if2 .taken) _
+    (c .before .before .entry-word6 .ensures) _ (c .before .part-at2 .ensures))
+    ∙ ap (λ (l : List ℕ). sameBytes l (valueOf (args .characters .now) (entryAt (entriesOf (args .attributes .now)) (args .j))))
+    (sym (read-fixed _ _ _ _ (at-if1 .before .entry-word2 .ensures) _ (at-if1 .before .before .entry-word .ensures)
+    (at-if1 .if1 .left))) ∙ same-swap _ _
 
 returns-3 : tie.Need-returns-3
 returns-3 c =
-    both-fixed _ _ (entriesOf (c .before .before .before .before .before .before .before .before .args .attributes .now))
-    (c .before .before .before .before .before .before .before .before .args .j)
-    (c .before .before .before .before .before .before .before .before .args .k)
-    (c .before .before .before .before .before .before .before .before .pre .0)
-    (c .before .before .before .before .before .before .before .before .pre .1) _ (c .before .entry-word5 .ensures) (c .if2 .left)
-    _ (c .before .before .before .before .entry-word2 .ensures) (c .before .before .before .if1 .left) _
+    let pre = c .before .before .before .before .before .before .before .before .pre in
+    both-fixed _ _ _ _ _ (pre .0) (pre .1) _ (c .before .entry-word5 .ensures) (c .if2 .left) _
+    (c .before .before .before .before .entry-word2 .ensures) (c .before .before .before .if1 .left) _
     (c .before .before .entry-word4 .ensures) _ (c .before .before .before .before .before .entry-word .ensures)
 
 pub same-value-spec : {M : Type 1} → statement M

@@ -4,8 +4,7 @@ use Prim.Native.Nat.{ℕ}
 use Rattle.model.specs.Base.{sameBytes}
 use Rattle.model.specs.Drawing.{partAt}
 use Rattle.model.specs.Repair.{linkOf}
-use Rattle.repair.specs.Links.{idAt, valuesOf}
-use Rattle.tree.specs.Lent.{readOf, entriesOf}
+use Rattle.repair.specs.Links.{idAt}
 use Rattle.repair.proofs.Linking.{link-told}
 use Rattle.repair.proofs.Comparing.{unled, led-there, led-nowhere}
 use borrow.Author.Needs.{needs}
@@ -20,24 +19,11 @@ enum-known-start c = search needs
 
 returns : tie.Need-returns
 returns c =
-    let told = link-told _ _ _ _ _ (c .before .before .before .start .given .1)
-    (c .before .before .before .before .before .link-of .ensures .0)
-    (c .before .before .before .before .before .link-of .ensures .1) in
-    let id = idAt (c .before .before .before .before .before .before .before .before .before .before .args .characters .now)
-    (entriesOf (c .before .before .before .before .before .before .before .before .before .before .args .attributes .now))
-    (c .before .before .before .before .before .before .before .before .before .before .args .aim .id) in
-    let link = linkOf (c .before .before .before .before .before .before .before .before .before .before .args .characters .now)
-    (valuesOf (c .before .before .before .before .before .before .before .before .before .before .args .script .now)
-    (c .before .before .before .before .before .before .before .before .before .before .args .characters .now))
-    (c .before .before .before .before .before .before .before .before .before .before .args .aim .kind)
-    (readOf (c .before .before .before .before .before .before .before .before .before .before .args .nodes .now)
-    (c .before .before .before .before .before .before .before .before .before .before .args .attributes .now))
-    (c .before .before .before .before .before .before .before .before .before .before .args .aim .name)
-    (c .before .before .before .before .before .before .before .before .before .before .args .m) in (
-      unled (c .before .before .before .before .before .before .before .before .before .before .args .aim .led) id link
-          (c .if1 .taken),
-      told,
-    )
+    let at-link-of = c .before .before .before .before .before in
+    let told = link-told _ _ _ _ _ (c .before .before .before .start .given .1) (at-link-of .link-of .ensures .0)
+    (at-link-of .link-of .ensures .1) in
+    let link = linkOf _ _ _ _ _ _ in
+    (unled (at-link-of .before .before .before .before .before .args .aim .led) _ link (c .if1 .taken), told)
 
 part-at-requires : tie.Need-part-at-requires
 part-at-requires c κs =
@@ -52,28 +38,12 @@ is-id-requires c κs = search needs
 returns-2 : tie.Need-returns-2
 unfolding partAt
 returns-2 c =
+    let at-link-of = c .before .before .before .before .before .before .before .before in
+    let aim = at-link-of .before .before .before .before .before .args .aim in
     let told = link-told _ _ _ _ _ (c .before .before .before .before .before .before .start .given .1)
-    (c .before .before .before .before .before .before .before .before .link-of .ensures .0)
-    (c .before .before .before .before .before .before .before .before .link-of .ensures .1) in
-    let id = idAt (c .before .before .before .before .before .before .before .before .before .before .before .before .before .args
-    .characters .now) (entriesOf (c .before .before .before .before .before .before .before .before .before .before .before
-    .before .before .args .attributes .now))
-    (c .before .before .before .before .before .before .before .before .before .before .before .before .before .args .aim .id) in
-    let link = linkOf (c .before .before .before .before .before .before .before .before .before .before .before .before .before
-    .args .characters .now) (valuesOf
-    (c .before .before .before .before .before .before .before .before .before .before .before .before .before .args .script .now)
-    (c .before .before .before .before .before .before .before .before .before .before .before .before .before .args .characters
-    .now))
-    (c .before .before .before .before .before .before .before .before .before .before .before .before .before .args .aim .kind)
-    (readOf
-    (c .before .before .before .before .before .before .before .before .before .before .before .before .before .args .nodes .now)
-    (c .before .before .before .before .before .before .before .before .before .before .before .before .before .args .attributes
-    .now))
-    (c .before .before .before .before .before .before .before .before .before .before .before .before .before .args .aim .name)
-    (c .before .before .before .before .before .before .before .before .before .before .before .before .before .args .m) in (
-      sym (c .if2 .taken) ∙ led-there
-          (c .before .before .before .before .before .before .before .before .before .before .before .before .before .args .aim .led) id
-          link (c .before .before .before .if1 .left) _ (told .0) _
+    (at-link-of .link-of .ensures .0) (at-link-of .link-of .ensures .1) in
+    let id = idAt _ _ (aim .id) in (
+      sym (c .if2 .taken) ∙ led-there (aim .led) id _ (c .before .before .before .if1 .left) _ (told .0) _
           (c .before .is-id .ensures ∙ ap (λ (l : List ℕ). sameBytes l id) (c .before .before .part-at .ensures)),
       told .1 .1,
     )
@@ -84,28 +54,12 @@ enum-known-c c = search needs
 returns-3 : tie.Need-returns-3
 unfolding partAt
 returns-3 c =
+    let at-link-of = c .before .before .before .before .before .before .before .before in
+    let aim = at-link-of .before .before .before .before .before .args .aim in
     let told = link-told _ _ _ _ _ (c .before .before .before .before .before .before .start .given .1)
-    (c .before .before .before .before .before .before .before .before .link-of .ensures .0)
-    (c .before .before .before .before .before .before .before .before .link-of .ensures .1) in
-    let id = idAt (c .before .before .before .before .before .before .before .before .before .before .before .before .before .args
-    .characters .now) (entriesOf (c .before .before .before .before .before .before .before .before .before .before .before
-    .before .before .args .attributes .now))
-    (c .before .before .before .before .before .before .before .before .before .before .before .before .before .args .aim .id) in
-    let link = linkOf (c .before .before .before .before .before .before .before .before .before .before .before .before .before
-    .args .characters .now) (valuesOf
-    (c .before .before .before .before .before .before .before .before .before .before .before .before .before .args .script .now)
-    (c .before .before .before .before .before .before .before .before .before .before .before .before .before .args .characters
-    .now))
-    (c .before .before .before .before .before .before .before .before .before .before .before .before .before .args .aim .kind)
-    (readOf
-    (c .before .before .before .before .before .before .before .before .before .before .before .before .before .args .nodes .now)
-    (c .before .before .before .before .before .before .before .before .before .before .before .before .before .args .attributes
-    .now))
-    (c .before .before .before .before .before .before .before .before .before .before .before .before .before .args .aim .name)
-    (c .before .before .before .before .before .before .before .before .before .before .before .before .before .args .m) in (
-      sym (c .if2 .left) ∙ led-there
-          (c .before .before .before .before .before .before .before .before .before .before .before .before .before .args .aim .led) id
-          link (c .before .before .before .if1 .left) _ (told .0) _
+    (at-link-of .link-of .ensures .0) (at-link-of .link-of .ensures .1) in
+    let id = idAt _ _ (aim .id) in (
+      sym (c .if2 .left) ∙ led-there (aim .led) id _ (c .before .before .before .if1 .left) _ (told .0) _
           (c .before .is-id .ensures ∙ ap (λ (l : List ℕ). sameBytes l id) (c .before .before .part-at .ensures)),
       told,
     )
@@ -114,20 +68,7 @@ returns-4 : tie.Need-returns-4
 returns-4 c =
     let nothing = link-told _ _ _ _ _ (c .before .c .given .1) (c .before .before .before .link-of .ensures .0)
     (c .before .before .before .link-of .ensures .1) in
-    let id = idAt (c .before .before .before .before .before .before .before .before .args .characters .now)
-    (entriesOf (c .before .before .before .before .before .before .before .before .args .attributes .now))
-    (c .before .before .before .before .before .before .before .before .args .aim .id) in
-    let link = linkOf (c .before .before .before .before .before .before .before .before .args .characters .now)
-    (valuesOf (c .before .before .before .before .before .before .before .before .args .script .now)
-    (c .before .before .before .before .before .before .before .before .args .characters .now))
-    (c .before .before .before .before .before .before .before .before .args .aim .kind)
-    (readOf (c .before .before .before .before .before .before .before .before .args .nodes .now)
-    (c .before .before .before .before .before .before .before .before .args .attributes .now))
-    (c .before .before .before .before .before .before .before .before .args .aim .name)
-    (c .before .before .before .before .before .before .before .before .args .m) in (
-      led-nowhere (c .before .before .before .before .before .before .before .before .args .aim .led) id link (nothing .0),
-      nothing,
-    )
+    (led-nowhere (c .before .before .before .before .before .before .before .before .args .aim .led) _ _ (nothing .0), nothing)
 
 pub lead-of-spec : {M : Type 1} → statement M
 lead-of-spec =

@@ -25,12 +25,12 @@ entry-word-requires c κs =
     held .0
 
 returns-2 : tie.Need-returns-2
-returns-2 c = (
-  link-fixed _ _ _ _ _ _ _ (c .before .before .before .attribute-of .ensures .0)
-      (c .before .before .before .before .before .before .before .before .pre .0 .checked) (c .before .before .if1 .left) _
-      (c .before .entry-word .ensures) (c .if2 .taken),
-  c .before .before .before .before .before .before .before .before .pre .0 .fit,
-)
+returns-2 c =
+    let pre = c .before .before .before .before .before .before .before .before .pre .0 in (
+      link-fixed _ _ _ _ _ _ _ (c .before .before .before .attribute-of .ensures .0) (pre .checked) (c .before .before .if1 .left)
+          _ (c .before .entry-word .ensures) (c .if2 .taken),
+      pre .fit,
+    )
 
 sub-number : tie.Need-sub-number
 sub-number c = search needs
@@ -51,32 +51,26 @@ enum-told : tie.Need-enum-told
 enum-told c = search needs
 
 returns-3 : tie.Need-returns-3
-returns-3 c = (
-  link-there _ _ _ _ _ _ _ (c .before .before .before .before .before .before .before .before .attribute-of .ensures .0)
-      (c .before .before .before .before .before .before .before .before .before .before .before .before .before .pre .0 .checked)
-      (c .before .before .before .before .before .before .before .if1 .left) _
-      (c .before .before .before .before .before .before .entry-word .ensures)
-      (c .before .before .before .before .before .if2 .left) _ (c .before .before .before .before .seek .ensures .0) _
-      (sym (ap (partOf (c .before .before .before .before .before .before .before .before .before .before .before .before .before
-      .args .characters .now)) (c .before .start .given .1)) ∙ c .before .before .before .reading-at .ensures .0),
-  (
-    subst PartFit (c .before .start .given .1) (c .before .before .before .reading-at .ensures .1),
-    c .before .before .before .before .seek .ensures .1,
-  ),
-)
+returns-3 c =
+    let at-seek = c .before .before .before .before in (
+      link-there _ _ _ _ _ _ _ (at-seek .before .before .before .before .attribute-of .ensures .0)
+          (at-seek .before .before .before .before .before .before .before .before .before .pre .0 .checked)
+          (at-seek .before .before .before .if1 .left) _ (at-seek .before .before .entry-word .ensures) (at-seek .before .if2 .left) _
+          (at-seek .seek .ensures .0) _
+          (sym (ap (partOf _) (c .before .start .given .1)) ∙ c .before .before .before .reading-at .ensures .0),
+      (subst PartFit (c .before .start .given .1) (c .before .before .before .reading-at .ensures .1), at-seek .seek .ensures .1),
+    )
 
 returns-4 : tie.Need-returns-4
-returns-4 c = (
-  link-there _ _ _ _ _ _ _ (c .before .before .before .before .before .before .before .attribute-of .ensures .0)
-      (c .before .before .before .before .before .before .before .before .before .before .before .before .pre .0 .checked)
-      (c .before .before .before .before .before .before .if1 .left) _
-      (c .before .before .before .before .before .entry-word .ensures) (c .before .before .before .before .if2 .left) _
-      (c .before .before .before .seek .ensures .0) _
-      (sym (ap (partOf
-      (c .before .before .before .before .before .before .before .before .before .before .before .before .args .characters .now))
-      (c .enum-told .given .1)) ∙ c .before .before .reading-at .ensures .0),
-  c .before .before .before .seek .ensures .1,
-)
+returns-4 c =
+    let at-seek = c .before .before .before in
+    let at-if1 = at-seek .before .before .before in (
+      link-there _ _ _ _ _ _ _ (at-if1 .before .attribute-of .ensures .0)
+          (at-if1 .before .before .before .before .before .before .pre .0 .checked) (at-if1 .if1 .left) _
+          (at-seek .before .before .entry-word .ensures) (at-seek .before .if2 .left) _ (at-seek .seek .ensures .0) _
+          (sym (ap (partOf _) (c .enum-told .given .1)) ∙ c .before .before .reading-at .ensures .0),
+      at-seek .seek .ensures .1,
+    )
 
 pub link-of-spec : {M : Type 1} → statement M
 link-of-spec =

@@ -1,7 +1,5 @@
 use mathlib.Core.Path.{refl}
-use native.Mathlib.Omega.{arith}
 use Rattle.tree.proofs.Facts.{readable}
-use Rattle.repair.specs.Passes.{seenOf}
 use Rattle.repair.proofs.Aiming.{known-in, aim-pattern, aim-other}
 use borrow.Author.Needs.{needs}
 use Rattle.repair.proofs.pair.aim_at.Statement.{statement}
@@ -15,10 +13,7 @@ attribute-id-requires c κs = readable _ _ (c .before .before .before .before .p
 
 returns : tie.Need-returns
 returns c = (
-  aim-pattern _ (seenOf (c .before .before .before .before .before .before .args .nodes .now)
-      (c .before .before .before .before .before .before .args .attributes .now)
-      (c .before .before .before .before .before .before .args .counts)) _ _ _ _
-      (c .before .before .before .before .before .before .pre .1 .0 .0)
+  aim-pattern _ _ _ _ _ _ (c .before .before .before .before .before .before .pre .1 .0 .0)
       (c .before .before .before .before .before .before .pre .1 .0 .1) (c .before .before .cut-name .ensures)
       (c .before .attribute-id .ensures .0) (c .if1 .taken),
   (refl, refl),
@@ -31,15 +26,12 @@ is-last-requires c κs = (
 )
 
 returns-2 : tie.Need-returns-2
-returns-2 c = (
-  aim-other _ (seenOf (c .before .before .before .before .before .before .before .args .nodes .now)
-      (c .before .before .before .before .before .before .before .args .attributes .now)
-      (c .before .before .before .before .before .before .before .args .counts)) _ _ _ _
-      (c .before .before .before .before .before .before .before .pre .1 .0 .0)
-      (c .before .before .before .before .before .before .before .pre .1 .0 .1) (c .before .before .before .cut-name .ensures)
-      (c .before .before .attribute-id .ensures .0) (c .before .if1 .left) _ (c .is-last .ensures),
-  (refl, refl),
-)
+returns-2 c =
+    let pre = c .before .before .before .before .before .before .before .pre .1 .0 in (
+      aim-other _ _ _ _ _ _ (pre .0) (pre .1) (c .before .before .before .cut-name .ensures)
+          (c .before .before .attribute-id .ensures .0) (c .before .if1 .left) _ (c .is-last .ensures),
+      (refl, refl),
+    )
 
 pub aim-at-spec : {M : Type 1} → statement M
 aim-at-spec =

@@ -1,74 +1,79 @@
-use Prim.Native.Nat.{_-_}
 use native.Mathlib.Omega.{arith}
-use Rattle.repair.proofs.Pairing.{Pairs, pairs-start, pairs-turn, pairs-done}
+use borrow.Author.Tests.{not-true}
+use Rattle.tree.proofs.Facts.{readable}
+use Rattle.repair.proofs.Pairing.{element-bare, element-unled, element-pairs}
+use borrow.Author.Needs.{needs}
 use Rattle.repair.proofs.pair.cut_element.Statement.{statement}
 use Rattle.repair.proofs.pair.cut_element.Tie as tie
 
-abbrev Inv-loop : tie.InvT-loop
-Inv-loop script characters nodes attributes₀ counts pass i aim end c₀ j₀ attributes c j =
-    Pairs script characters nodes counts aim i end attributes₀ attributes j c
+cut-name-requires : tie.Need-cut-name-requires
+cut-name-requires c κs = search needs
 
-abbrev μ-loop : tie.MeasureT-loop
-μ-loop script characters nodes attributes₀ counts pass i aim end c₀ j₀ attributes c j = end - j
+behind-below-requires : tie.Need-behind-below-requires
+behind-below-requires c κs = search needs
 
-aim-at-requires : tie.Need-aim-at-requires Inv-loop μ-loop
-aim-at-requires c κs = (
-  c .before .before .before .before .before .pre .0 .tidy .kept,
-  (c .before .before .before .before .before .pre .1 .0, c .before .before .before .before .before .pre .1 .1),
+first-with-requires : tie.Need-first-with-requires
+first-with-requires c κs = (
+  omega (arith, c .before .behind-below .ensures .1 .0),
+  λ m l. readable _ _ (c .before .before .before .before .before .before .before .pre .0 .tidy .kept) m
+      (omega (arith, c .before .behind-below .ensures .1 .1)),
 )
 
-behind-below-requires : tie.Need-behind-below-requires Inv-loop μ-loop
-behind-below-requires c κs = (
-  c .before .before .before .before .before .before .pre .1 .1,
-  c .before .before .before .before .before .before .pre .0 .tidy .kept .fits .nodes,
-)
+same-length : tie.Need-same-length
+same-length c = search needs
 
-loop-holds : tie.Need-loop-holds Inv-loop μ-loop
-loop-holds c =
-    pairs-start _ _ _ _ _ _ _ _ _ (c .before .before .before .before .before .before .before .pre .0)
-    (c .before .aim-at .ensures .0) (c .behind-below .ensures .1 .1)
-
-cut-pair-requires : tie.Need-cut-pair-requires Inv-loop μ-loop
-cut-pair-requires c κs = (
-  c .before .before .loop .inv .mendable,
-  (c .before .before .loop .inv .aimed, omega (arith, c .before .before .loop .inv .inside, c .before .loop-test .taken)),
-)
-
-add-j : tie.Need-add-j Inv-loop μ-loop
-add-j c = omega arith
-
-loop-less : tie.Need-loop-less Inv-loop μ-loop
-loop-less c = omega arith
-
-loop-again : tie.Need-loop-again Inv-loop μ-loop
-loop-again c =
-    pairs-turn _ _ _ _ _ _ _ _ _ _ _ (c .before .before .before .before .before .loop .inv)
-    (c .before .before .before .before .before .before .before .aim-at .ensures .1 .1)
-    (c .before .before .before .before .loop-test .taken) _ _ (c .before .before .cut-pair .ensures .0)
-    (c .before .before .cut-pair .ensures .1)
-
-same-length : tie.Need-same-length Inv-loop μ-loop
-same-length c = c .before .loop .inv .long
-
-returns : tie.Need-returns Inv-loop μ-loop
+returns : tie.Need-returns
 returns c = (
-  pairs-done _ _ _ _ _ _ _ _ _ _ _ (c .before .loop .inv) (c .before .before .before .aim-at .ensures .1 .1)
-      (c .loop-test .left) _ (c .before .before .before .aim-at .ensures .1 .0) (c .before .before .behind-below .ensures .0),
-  c .before .loop .inv .mendable .drawn .fit,
+  element-bare _ _ _ _ _ _ _ _ _ _ (c .before .before .before .behind-below .ensures .0)
+      (c .before .before .before .before .cut-name .ensures) (c .before .first-with .ensures .0 .0)
+      (c .before .first-with .ensures .0 .1) (c .before .first-with .ensures .1) (c .if1 .taken),
+  c .before .before .before .before .before .before .before .before .before .pre .0 .drawn .fit,
 )
+
+aim-at-requires : tie.Need-aim-at-requires
+aim-at-requires c κs = search needs
+
+same-length-2 : tie.Need-same-length-2
+same-length-2 c = search needs
+
+returns-2 : tie.Need-returns-2
+returns-2 c =
+    let at-first-with = c .before .before .before .before .before in (
+      element-unled _ _ _ _ _ _ _ _ _ _ (at-first-with .before .before .behind-below .ensures .0)
+          (at-first-with .before .before .before .cut-name .ensures) (at-first-with .first-with .ensures .0 .0)
+          (at-first-with .first-with .ensures .0 .1) (at-first-with .first-with .ensures .1) _ (c .before .before .aim-at .ensures .1)
+          (c .before .before .aim-at .ensures .0) (not-true _ (c .if2 .taken)),
+      at-first-with .before .before .before .before .before .before .before .before .pre .0 .drawn .fit,
+    )
+
+cut-pairs-requires : tie.Need-cut-pairs-requires
+cut-pairs-requires c κs = search needs
+
+same-length-3 : tie.Need-same-length-3
+same-length-3 c = search needs
+
+returns-3 : tie.Need-returns-3
+returns-3 c =
+    let at-first-with = c .before .before .before .before .before .before .before .before .before in (
+      element-pairs _ _ _ _ (at-first-with .before .before .before .before .before .before .before .before .args .counts) _ _ _ _ _
+          (at-first-with .before .before .behind-below .ensures .0) (at-first-with .before .before .before .cut-name .ensures)
+          (at-first-with .first-with .ensures .0 .0) (at-first-with .first-with .ensures .0 .1) (at-first-with .first-with .ensures .1)
+          _ _ (c .before .before .before .before .before .before .aim-at .ensures .1) _ (c .before .before .cut-pairs .ensures .0),
+      c .before .before .cut-pairs .ensures .1,
+    )
 
 pub cut-element-spec : {M : Type 1} → statement M
 cut-element-spec =
     tie.close
     (tie.spec
-    Inv-loop
-    μ-loop
-    aim-at-requires
+    cut-name-requires
     behind-below-requires
-    loop-holds
-    cut-pair-requires
-    add-j
-    loop-less
-    loop-again
+    first-with-requires
     same-length
-    returns)
+    returns
+    aim-at-requires
+    same-length-2
+    returns-2
+    cut-pairs-requires
+    same-length-3
+    returns-3)

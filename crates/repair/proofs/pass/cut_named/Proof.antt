@@ -1,8 +1,5 @@
 use mathlib.Core.Path.{_∙_}
-use native.Mathlib.Omega.{arith}
 use Rattle.tree.proofs.Bools.{fails, passes}
-use Rattle.repair.specs.Links.{valuesOf}
-use Rattle.repair.specs.Passes.{seenOf}
 use Rattle.repair.proofs.Passing.{named-here, unnamed-here}
 use borrow.Author.Needs.{needs}
 use Rattle.repair.proofs.pass.cut_named.Statement.{statement}
@@ -13,15 +10,7 @@ is-named-requires c κs = search needs
 
 returns : tie.Need-returns
 returns c = (
-  unnamed-here (c .before .before .before .before .before .before .args .characters .now)
-      (valuesOf (c .before .before .before .before .before .before .args .script .now)
-      (c .before .before .before .before .before .before .args .characters .now))
-      (c .before .before .before .before .before .before .args .pass)
-      (seenOf (c .before .before .before .before .before .before .args .nodes .now)
-      (c .before .before .before .before .before .before .args .attributes .now)
-      (c .before .before .before .before .before .before .args .counts))
-      (c .before .before .before .before .before .before .args .code) (c .before .before .before .before .before .before .args .i)
-      (fails (c .before .is-named .ensures) (c .if1 .taken)),
+  unnamed-here _ _ _ _ _ _ (fails (c .before .is-named .ensures) (c .if1 .taken)),
   c .before .before .before .before .before .before .pre .0 .drawn .fit,
 )
 
@@ -34,15 +23,7 @@ same-length c = search needs
 returns-2 : tie.Need-returns-2
 returns-2 c = (
   c .before .before .cut-element .ensures .0
-      ∙ named-here (c .before .before .before .before .before .before .before .before .before .before .args .characters .now)
-      (valuesOf (c .before .before .before .before .before .before .before .before .before .before .args .script .now)
-      (c .before .before .before .before .before .before .before .before .before .before .args .characters .now))
-      (c .before .before .before .before .before .before .before .before .before .before .args .pass)
-      (seenOf (c .before .before .before .before .before .before .before .before .before .before .args .nodes .now)
-      (c .before .before .before .before .before .before .before .before .before .before .args .attributes .now)
-      (c .before .before .before .before .before .before .before .before .before .before .args .counts))
-      (c .before .before .before .before .before .before .before .before .before .before .args .code)
-      (c .before .before .before .before .before .before .before .before .before .before .args .i)
+      ∙ named-here _ _ _ _ _ _
       (passes (c .before .before .before .before .before .is-named .ensures) (c .before .before .before .before .if1 .left)),
   c .before .before .cut-element .ensures .1,
 )
