@@ -10,13 +10,14 @@ struct Built {
     number: u32,
     nodes: u32,
     attributes: u32,
+    text: u32,
 }
 
 extern "C" {
     fn elements_check(script: *const u8, script_len: usize, characters: *const u8, characters_len: usize) -> u32;
     #[rustfmt::skip]
     fn elements_build(script: *const u8, script_len: usize, characters: *const u8, characters_len: usize,
-        nodes: *mut u32, nodes_len: usize, attributes: *mut u32, attributes_len: usize, ignored: bool) -> Built;
+        nodes: *mut u32, nodes_len: usize, attributes: *mut u32, attributes_len: usize, text: *mut u8, text_len: usize, ignored: bool) -> Built;
 }
 
 /// The codes and classes of names, from tools/names.lists.
@@ -377,6 +378,7 @@ fn times(calls: [&mut dyn FnMut(); 4]) -> [f64; 4] {
 fn measure(name: &str, d: &Drawing) {
     let (script, characters) = (&d.script, &d.characters);
     let (mut nodes, mut attributes) = (vec![0u32; 8 * 200_000], vec![0u32; 5 * 400_000]);
+    let mut text: Vec<u8> = vec![];
     // SAFETY: the slices are those of the vectors.
     let mut check = || unsafe {
         assert_eq!(elements_check(script.as_ptr(), script.len(), characters.as_ptr(), characters.len()), 0);
@@ -387,8 +389,8 @@ fn measure(name: &str, d: &Drawing) {
     // SAFETY: the slices are those of the vectors.
     let mut library = || unsafe {
         let b = elements_build(script.as_ptr(), script.len(), characters.as_ptr(), characters.len(), nodes.as_mut_ptr(), node_words,
-            attributes.as_mut_ptr(), attribute_words, false);
-        assert_eq!((b.number, b.nodes as usize, b.attributes as usize), (0, records, entries));
+            attributes.as_mut_ptr(), attribute_words, text.as_mut_ptr(), text.len(), false);
+        assert_eq!((b.number, b.nodes as usize, b.attributes as usize, b.text), (0, records, entries, 0));
     };
     let mut rust = || assert_eq!(Plain::build(d.names, script, characters, true).attributes.len(), entries);
     let mut lean = || assert_eq!(Plain::build(d.names, script, characters, false).attributes.len(), entries);
