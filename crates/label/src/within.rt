@@ -46,8 +46,8 @@ ghost use Rattle.text.specs.Spaces.{spaceIn};
 ghost use Rattle.label.specs.Levels.{Recalled};
 ghost use Rattle.label.specs.Walk.{Holding, quoteOf, Lies, Within, Opening, TurnFit, InsideFit};
 
-// The space that the parent q of node p hands down, where p hands down `space` and nothing is remembered: it is looked for only where p says
-// one itself.
+// The space that the parent q of node p hands down, where p hands down `space` and nothing is remembered: it is looked for only where p
+// says one itself.
 fn space_above(
     nodes: &[u32],
     attributes: &[u32],
