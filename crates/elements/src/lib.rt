@@ -1,7 +1,8 @@
-// The elements of a drawing alone, each with its entries, below the one that it stands in: what tests/elements replays and bench/ measures.
-// Texts, uses, depth and repairs are left out; nothing else uses it.
+// The elements and text elements of a drawing, each below the one that it stands in: what tests/elements replays and bench/ measures.
+// Uses, depth and repairs are left out; nothing else uses it.
 use element::Parsed;
 use element::parse::parse_svg_element;
+use label::whole::parse_svg_text_element;
 use names::eid;
 use names::is_element;
 use script::check::check;
@@ -9,6 +10,7 @@ use script::cursor::Cursor;
 use tree::Counts;
 use tree::word;
 use tree::word::node_word;
+use tree::write::clear_bytes;
 use tree::write::clear_words;
 use tree::write::put_root;
 use walk::node::Item;
@@ -20,7 +22,7 @@ ghost use Prim.Native.Nat.{_+_, _*_, _≤_, _<_};
 ghost use lib.ListN.{length};
 ghost use Rattle.model.specs.Check.{check};
 ghost use Rattle.model.specs.Tables.{word};
-ghost use Rattle.elements.specs.Turns.{isKept, Going, Opening, TurnFit};
+ghost use Rattle.elements.specs.Turns.{isKept, tagIn, Going, Opening, TurnFit};
 
 // A place in the drawing, the node that is open there, and how much of the tables is taken.
 pub struct State {
@@ -36,12 +38,13 @@ pub enum Turn {
     End,
 }
 
-// A number, 0 where nothing stands against the drawing, and how many nodes and entries there are.
+// A number, 0 where nothing stands against the drawing, and how many nodes, entries and bytes of texts there are.
 #[repr(C)]
 pub struct Built {
     pub number: u32,
     pub nodes: u32,
     pub attributes: u32,
+    pub text: u32,
 }
 
 fn code_of(name: u8) -> u32
@@ -63,6 +66,16 @@ fn is_kept(code: u32, space: u8) -> bool
     is_element(code)
 }
 
+// The name in the tree of an element: links are groups.
+fn tag_of(code: u32) -> u32
+    ensures { λ r. ⌜ r ≡ tagIn code ⌝ }
+{
+    if code == eid::A {
+        return eid::G;
+    }
+    code
+}
+
 // The parent of a node; the root's is the root.
 fn above(nodes: &[u32], parent: u32) -> u32
     requires { ⌜ 8 * parent + 7 < length (now nodes) ⌝ }
@@ -76,19 +89,58 @@ fn above(nodes: &[u32], parent: u32) -> u32
     w - 1
 }
 
+// A text element whole; what stands behind it comes next.
+fn begin_text(
+    script: &[u8],
+    characters: &[u8],
+    nodes: &mut [u32],
+    attributes: &mut [u32],
+    text: &mut [u8],
+    ignored: bool,
+    s: State,
+    e: Opened,
+) -> Turn
+    requires { ⌜ Going (now script) (now characters) (now nodes) (now attributes) (now text) s ⌝ }
+    requires { ⌜ Opening (now script) (now characters) s e ⌝ }
+    ensures { λ r. ⌜ TurnFit (now (script .entry)) (now (characters .entry)) (now (nodes .exit)) (now (attributes .exit))
+        (now (text .exit)) s r ⌝ }
+{
+    let counts = s.counts;
+    match parse_svg_text_element(
+        script,
+        characters,
+        nodes,
+        attributes,
+        text,
+        counts,
+        s.parent,
+        ignored,
+        e,
+    ) {
+        Parsed::Refused(k) => Turn::Refused(k),
+        Parsed::Done(taken, behind) => Turn::On(State {
+            c: behind,
+            parent: s.parent,
+            counts: taken,
+        }),
+    }
+}
+
 // An element: its node, and its inside comes next; one that becomes no node is passed over.
 fn begin(
     script: &[u8],
     characters: &[u8],
     nodes: &mut [u32],
     attributes: &mut [u32],
+    text: &mut [u8],
     ignored: bool,
     s: State,
     e: Opened,
 ) -> Turn
-    requires { ⌜ Going (now script) (now characters) (now nodes) (now attributes) s ⌝ }
+    requires { ⌜ Going (now script) (now characters) (now nodes) (now attributes) (now text) s ⌝ }
     requires { ⌜ Opening (now script) (now characters) s e ⌝ }
-    ensures { λ r. ⌜ TurnFit (now (script .entry)) (now (characters .entry)) (now (nodes .exit)) (now (attributes .exit)) s r ⌝ }
+    ensures { λ r. ⌜ TurnFit (now (script .entry)) (now (characters .entry)) (now (nodes .exit)) (now (attributes .exit))
+        (now (text .exit)) s r ⌝ }
 {
     let code = code_of(e.name);
     let counts = s.counts;
@@ -101,6 +153,9 @@ fn begin(
             counts,
         });
     }
+    if code == eid::TEXT {
+        return begin_text(script, characters, nodes, attributes, text, ignored, s, e);
+    }
     match parse_svg_element(
         script,
         characters,
@@ -108,7 +163,7 @@ fn begin(
         attributes,
         counts,
         s.parent,
-        code,
+        tag_of(code),
         ignored,
         e,
     ) {
@@ -127,16 +182,18 @@ fn advance(
     characters: &[u8],
     nodes: &mut [u32],
     attributes: &mut [u32],
+    text: &mut [u8],
     ignored: bool,
     s: State,
 ) -> Turn
-    requires { ⌜ Going (now script) (now characters) (now nodes) (now attributes) s ⌝ }
-    ensures { λ r. ⌜ TurnFit (now (script .entry)) (now (characters .entry)) (now (nodes .exit)) (now (attributes .exit)) s r ⌝ }
+    requires { ⌜ Going (now script) (now characters) (now nodes) (now attributes) (now text) s ⌝ }
+    ensures { λ r. ⌜ TurnFit (now (script .entry)) (now (characters .entry)) (now (nodes .exit)) (now (attributes .exit))
+        (now (text .exit)) s r ⌝ }
 {
     let c = s.c;
     let counts = s.counts;
     match next_item(script, characters, c) {
-        Item::Begin(e) => begin(script, characters, nodes, attributes, ignored, s, e),
+        Item::Begin(e) => begin(script, characters, nodes, attributes, text, ignored, s, e),
         Item::Text(_, _, n) => Turn::On(State {
             c: n,
             parent: s.parent,
@@ -162,14 +219,15 @@ fn run(
     characters: &[u8],
     nodes: &mut [u32],
     attributes: &mut [u32],
+    text: &mut [u8],
     ignored: bool,
     first: State,
 ) -> Built
-    requires { ⌜ Going (now script) (now characters) (now nodes) (now attributes) first ⌝ }
+    requires { ⌜ Going (now script) (now characters) (now nodes) (now attributes) (now text) first ⌝ }
 {
     let mut s = first;
     loop {
-        match advance(script, characters, nodes, attributes, ignored, s) {
+        match advance(script, characters, nodes, attributes, text, ignored, s) {
             Turn::On(n) => {
                 s = n;
             }
@@ -178,6 +236,7 @@ fn run(
                     number: k,
                     nodes: 0,
                     attributes: 0,
+                    text: 0,
                 };
             }
             Turn::End => {
@@ -186,6 +245,7 @@ fn run(
                     number: 0,
                     nodes: counts.nodes,
                     attributes: counts.attributes,
+                    text: counts.text,
                 };
             }
         }
@@ -198,16 +258,18 @@ fn refused(number: u32) -> Built {
         number,
         nodes: 0,
         attributes: 0,
+        text: 0,
     }
 }
 
-// All elements of a drawing; their ids are ignored or not.
+// All elements and text elements of a drawing; their ids are ignored or not.
 #[no_mangle]
 pub extern "C" fn elements_build(
     script: &[u8],
     characters: &[u8],
     nodes: &mut [u32],
     attributes: &mut [u32],
+    text: &mut [u8],
     ignored: bool,
 ) -> Built {
     let number = check(script, characters);
@@ -216,6 +278,7 @@ pub extern "C" fn elements_build(
     }
     clear_words(nodes);
     clear_words(attributes);
+    clear_bytes(text);
     if nodes.len() < 8 {
         return refused(22);
     }
@@ -229,7 +292,7 @@ pub extern "C" fn elements_build(
             text: 0,
         },
     };
-    run(script, characters, nodes, attributes, ignored, first)
+    run(script, characters, nodes, attributes, text, ignored, first)
 }
 
 // Check alone, for what it takes of the time.

@@ -4,6 +4,7 @@ pub mod Quoting
 pub mod Contents
 pub mod Handing
 pub mod Holders
+pub mod Remembering
 pub mod Growing
 pub mod Walking
 pub mod Telling

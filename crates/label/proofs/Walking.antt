@@ -31,9 +31,13 @@ use Rattle.element.specs.Runs.{InAttributes, InDeclarations, Ready}
 use Rattle.element.proofs.Keeping.{kept-ready}
 use Rattle.label.specs.declared.State.{State}
 use Rattle.label.specs.declared.Turn.{Turn}
+use Rattle.label.specs.declared.Levels.{Levels}
+use Rattle.label.specs.declared.Above.the-variants as above
+use Rattle.label.specs.Levels.{Pushed, AboveFit, spaceAbove, Recalled}
 use Rattle.label.specs.Walk.{Holding, quoteOf, Lies, Within, Up, Way, insideOf, Opening, whole, Goes, Ends, TurnFit}
 use Rattle.label.proofs.Contents.{tag-element}
 use Rattle.label.proofs.Handing.{spaceFrom, space-from, space-step, old-space}
+use Rattle.label.proofs.Remembering.{recalled-on, recalled-in}
 use Rattle.label.proofs.Growing.{Onward, Under, onward-none, onward-then, element-under, text-onward, quote-onward}
 
 -- NODES THAT ARE PASSED OVER
@@ -123,6 +127,12 @@ module _ (script chars : List ℕ) (e : ℕ) (ns ats bs : List ℕ) (s : State) 
   space-on ns′ ats′ bs′ k g =
       w .space ∙ sym (old-space chars t (treeOf ns′ ats′ bs′ k) (s .counts .nodes) (g .says chars) (g .old) falls (s .p) (w .below))
 
+  -- What is remembered above the open node stays right in tables that have grown.
+  recalled : (ns′ ats′ bs′ : List ℕ) (k : Counts) → Onward (length chars) e t (treeOf ns′ ats′ bs′ k) → (ws : List ℕ) (v : Levels) →
+      Recalled chars t ws (s .p) v → Recalled chars (treeOf ns′ ats′ bs′ k) ws (s .p) v
+  recalled ns′ ats′ bs′ k g ws v h =
+      recalled-on chars t (treeOf ns′ ats′ bs′ k) (s .counts .nodes) (g .says chars) (g .old) falls ws (s .p) (w .below) v h
+
   pub space-read : spaceIn (s .space) ≡ spaceOf chars (readOf ns ats) (s .p)
   space-read = w .space ∙ sym (space-same chars t (s .p))
 
@@ -194,6 +204,16 @@ module _ (script chars : List ℕ) (e : ℕ) (ns ats bs : List ℕ) (s : State) 
           out rest zero u l = absurd (h u)
           out rest (suc d) u l = record { deep = d; up = u .1; left = l }
 
+      -- The space of the parent is remembered.
+      pub goes-known : (s .p ≡ e → ⊥) → (m : ℕ) → m ≡ word ns (s .p) 1 → (ws : List ℕ) (v : Levels) → Recalled chars t ws (s .p) v →
+          (sp : XmlSpace) (r : Levels) → AboveFit ws v (above.Known sp r) →
+          Goes script chars e ns ats bs s ns ats bs (record { c = c; p = m - 1; counts = s .counts; space = sp }) × (s .c .at < c .at)
+          × Recalled chars t ws (m - 1) r
+      goes-known h m z ws v told sp r fit =
+          let k = fit (spaceAbove chars t (s .p)) told in
+          let g = goes-up h m z sp (k .0 ∙ ap (λ j. spaceOf chars t (j - 1)) (sym z) ∙ sym (space-same chars t (m - 1))) in
+          (g .0, g .1, subst (λ j. Recalled chars t ws (j - 1) r) (sym z) (k .1))
+
     -- A TEXT
 
     module _ (a : Source) (q : model.Event.text a ∷ there ≡ here) where
@@ -223,6 +243,12 @@ module _ (script chars : List ℕ) (e : ℕ) (ns ats bs : List ℕ) (s : State) 
             },
             f .further,
           )
+
+      pub text-recalled : (ns′ bs′ : List ℕ) (k : Counts) → done (treeOf ns′ ats bs′ k) ≡ appendText chars (a ∷ []) (s .p) t →
+          (ws : List ℕ) (v : Levels) → Recalled chars t ws (s .p) v → Recalled chars (treeOf ns′ ats bs′ k) ws (s .p) v
+      text-recalled ns′ bs′ k h ws v m =
+          recalled ns′ ats bs′ k (text-onward (length chars) e t (w .sound) (s .p) (w .up) (w .below) chars (a ∷ [])
+          (treeOf ns′ ats bs′ k) h) ws v m
 
   pub ends-none : [] ≡ here → Ends script chars e ns ats bs s ns ats bs (s .counts) (s .c)
   unfolding leave
@@ -348,6 +374,12 @@ module _ (script chars : List ℕ) (e : ℕ) (ns ats bs : List ℕ) (s : State) 
               omega (arith, o .further .further, nodes .later),
             )
 
+        pub in-recalled : (ws : List ℕ) (v : Levels) → Recalled chars t ws (s .p) v → (ws′ : List ℕ) (r : Levels) →
+            Pushed ws v (spaceIn (s .space)) ws′ r → Recalled chars (treeOf ns₁ ats₁ bs₁ k) ws′ (s .counts .nodes) r
+        in-recalled ws v m ws′ r push =
+            recalled-in chars (treeOf ns₁ ats₁ bs₁ k) ws ws′ (s .p) (s .counts .nodes) v r (spaceIn (s .space)) (grown .new)
+            (space-on ns₁ ats₁ bs₁ k (grown .onward)) (recalled ns₁ ats₁ bs₁ k (grown .onward) ws v m) push
+
         -- A tref quotes below its node.
         pub tref-holds : Holding (length chars) (treeOf ns₁ ats₁ bs₁ k) (s .counts .nodes)
         tref-holds =
@@ -368,16 +400,27 @@ module _ (script chars : List ℕ) (e : ℕ) (ns ats bs : List ℕ) (s : State) 
           tref-refused j h =
               ap (λ (y : Out Tree). then y (λ q. inside (plain chars) (events script chars) e xs 1 (s .p) q)) h ∙ quotes
 
+          tref-onward : (ns₂ bs₂ : List ℕ) (m : Counts) →
+              done (treeOf ns₂ ats₁ bs₂ m) ≡ quoteOf chars (quoted (events script chars) X) (s .counts .nodes) (treeOf ns₁ ats₁ bs₁ k) →
+              Onward (length chars) e t (treeOf ns₂ ats₁ bs₂ m)
+          tref-onward ns₂ bs₂ m h =
+              onward-then (length chars) e t (treeOf ns₁ ats₁ bs₁ k) (treeOf ns₂ ats₁ bs₂ m) (grown .onward)
+              (quote-onward (length chars) e (treeOf ns₁ ats₁ bs₁ k) (grown .onward .sound) (s .counts .nodes)
+              (omega (arith, w .up, w .below)) (omega (arith, grown .one)) chars (quoted (events script chars) X)
+              (treeOf ns₂ ats₁ bs₂ m) h)
+
+          pub tref-recalled : (ns₂ bs₂ : List ℕ) (m : Counts) →
+              done (treeOf ns₂ ats₁ bs₂ m) ≡ quoteOf chars (quoted (events script chars) X) (s .counts .nodes) (treeOf ns₁ ats₁ bs₁ k) →
+              (ws : List ℕ) (v : Levels) → Recalled chars t ws (s .p) v → Recalled chars (treeOf ns₂ ats₁ bs₂ m) ws (s .p) v
+          tref-recalled ns₂ bs₂ m h ws v r = recalled ns₂ ats₁ bs₂ m (tref-onward ns₂ bs₂ m h) ws v r
+
           pub goes-tref : (ns₂ bs₂ : List ℕ) (m : Counts) →
               done (treeOf ns₂ ats₁ bs₂ m) ≡ quoteOf chars (quoted (events script chars) X) (s .counts .nodes) (treeOf ns₁ ats₁ bs₁ k) →
               (c : Cursor) → eventsAt script chars c ≡ leave 0 (eventsAt script chars behind) → Fit script c → behind .at ≤ c .at →
               Goes script chars e ns ats bs s ns₂ ats₁ bs₂ (record { c = c; p = s .p; counts = m; space = s .space }) × (s .c .at < c .at)
           unfolding leave
           goes-tref ns₂ bs₂ m h c q f l =
-              let g = onward-then (length chars) e t (treeOf ns₁ ats₁ bs₁ k) (treeOf ns₂ ats₁ bs₂ m) (grown .onward)
-              (quote-onward (length chars) e (treeOf ns₁ ats₁ bs₁ k) (grown .onward .sound) (s .counts .nodes)
-              (omega (arith, w .up, w .below)) (omega (arith, grown .one)) chars (quoted (events script chars) X)
-              (treeOf ns₂ ats₁ bs₂ m) h) in
+              let g = tref-onward ns₂ bs₂ m h in
               let past : eventsAt script chars c ≡ leave 0 xs = q ∙ ap (leave 0) (nodes .events) in (
                 record {
                   within = elsewhere ns₂ ats₁ bs₂ m g c (s .p) (s .space) f (rw past (lies-leave chars 0 xs (o .lies))) (w .up)
@@ -419,6 +462,6 @@ module _ (script chars : List ℕ) (e : ℕ) (ns₀ ats₀ bs₀ : List ℕ) (fi
     behind = λ rest v. h .behind rest (g .way rest v);
   }
 
-pub turn-told : (script chars : List ℕ) (e : ℕ) (ns ats bs : List ℕ) (s : State) (ns′ ats′ bs′ : List ℕ) (r x : Turn) → r ≡ x →
-    TurnFit script chars e ns ats bs s ns′ ats′ bs′ r → TurnFit script chars e ns ats bs s ns′ ats′ bs′ x
-turn-told script chars e ns ats bs s ns′ ats′ bs′ r x q h = subst (TurnFit script chars e ns ats bs s ns′ ats′ bs′) q h
+pub turn-told : (script chars : List ℕ) (e : ℕ) (ns ats bs : List ℕ) (s : State) (ns′ ats′ bs′ ws : List ℕ) (r x : Turn) → r ≡ x →
+    TurnFit script chars e ns ats bs s ns′ ats′ bs′ ws r → TurnFit script chars e ns ats bs s ns′ ats′ bs′ ws x
+turn-told script chars e ns ats bs s ns′ ats′ bs′ ws r x q h = subst (TurnFit script chars e ns ats bs s ns′ ats′ bs′ ws) q h

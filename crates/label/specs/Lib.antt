@@ -1,4 +1,5 @@
 pub mod Quotes
 pub mod Content
+pub mod Levels
 pub mod Walk
 pub mod Whole

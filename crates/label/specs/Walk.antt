@@ -26,6 +26,7 @@ use Rattle.element.specs.declared.Parsed.the-variants as parsed
 use Rattle.label.specs.declared.State.{State}
 use Rattle.label.specs.declared.Turn.{Turn}
 use Rattle.label.specs.declared.Turn.the-variants as turn
+use Rattle.label.specs.Levels.{Recalled}
 
 -- A TEXT NODE
 
@@ -109,10 +110,11 @@ module _ (script chars : List ℕ) (e : ℕ) (ns ats bs : List ℕ) (s : State) 
     pub same : done (treeOf ns′ ats′ bs′ k) ≡ whole
     pub behind : (rest : List Event) → Way ns e (s .p) (eventsAt script chars (s .c)) rest → eventsAt script chars c ≡ rest
 
-  abbrev pub TurnFit : Turn → Type 0
-  TurnFit (turn.On n) = Goes n × (s .c .at < n .c .at)
-  TurnFit (turn.Refused k) = refused k ≡ whole
-  TurnFit (turn.End k c) = Ends k c
+  -- A turn, behind which the words ws have what is remembered.
+  abbrev pub TurnFit : List ℕ → Turn → Type 0
+  TurnFit ws (turn.On n v) = Goes n × (s .c .at < n .c .at) × Recalled chars (treeOf ns′ ats′ bs′ (n .counts)) ws (n .p) v
+  TurnFit ws (turn.Refused k) = refused k ≡ whole
+  TurnFit ws (turn.End k c) = Ends k c
 
   -- What the whole walk comes to.
   abbrev pub InsideFit : Parsed → Type 0

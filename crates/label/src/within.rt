@@ -1,10 +1,15 @@
 // The inside of a text element (`parse_svg_text_element_impl`), one node after another.
+use crate::Above;
+use crate::Levels;
 use crate::State;
 use crate::Turn;
 use crate::content::code_of;
 use crate::content::is_text_content;
 use crate::content::text_tag_of;
 use crate::quote::append_quoted;
+use crate::remember::nothing;
+use crate::remember::pop;
+use crate::remember::push;
 use element::Parsed;
 use element::parse::parse_svg_element;
 use links::link::FoundElement;
@@ -38,9 +43,11 @@ ghost use Rattle.script.specs.Step.{markOf};
 ghost use Rattle.walk.specs.Nodes.{elementOf, Standing};
 ghost use Rattle.tree.specs.Lent.{treeOf, readOf, outOf, ReadableIn, Climbable};
 ghost use Rattle.text.specs.Spaces.{spaceIn};
+ghost use Rattle.label.specs.Levels.{Recalled};
 ghost use Rattle.label.specs.Walk.{Holding, quoteOf, Lies, Within, Opening, TurnFit, InsideFit};
 
-// The space that the parent q of node p hands down, where p hands down `space`: it is looked for only where p says one itself.
+// The space that the parent q of node p hands down, where p hands down `space` and nothing is remembered: it is looked for only where p
+// says one itself.
 fn space_above(
     nodes: &[u32],
     attributes: &[u32],
@@ -127,14 +134,17 @@ fn begin(
     nodes: &mut [u32],
     attributes: &mut [u32],
     text: &mut [u8],
+    words: &mut [u64; 32],
     e: u32,
     s: State,
+    levels: Levels,
     x: Opened,
 ) -> Turn
     requires { ⌜ Within (now script) (now characters) (now nodes) (now attributes) (now text) e s ⌝ }
     requires { ⌜ Opening (now script) (now characters) s x ⌝ }
+    requires { ⌜ Recalled (now characters) (treeOf (now nodes) (now attributes) (now text) (s .counts)) (now words) (s .p) levels ⌝ }
     ensures { λ r. ⌜ TurnFit (now (script .entry)) (now (characters .entry)) e (now (nodes .entry)) (now (attributes .entry))
-        (now (text .entry)) s (now (nodes .exit)) (now (attributes .exit)) (now (text .exit)) r ⌝ }
+        (now (text .entry)) s (now (nodes .exit)) (now (attributes .exit)) (now (text .exit)) (now (words .exit)) r ⌝ }
 {
     let code = code_of(x.name);
     let counts = s.counts;
@@ -142,12 +152,15 @@ fn begin(
     let inside = x.inside;
     if !is_text_content(x.name, x.space, s.p == e) {
         let behind = past_element(script, characters, inside);
-        return Turn::On(State {
-            c: behind,
-            p: s.p,
-            counts,
-            space: handed,
-        });
+        return Turn::On(
+            State {
+                c: behind,
+                p: s.p,
+                counts,
+                space: handed,
+            },
+            levels,
+        );
     }
     match parse_svg_element(
         script,
@@ -164,12 +177,16 @@ fn begin(
         Parsed::Done(taken, behind) => {
             let space = get_xmlspace(nodes, attributes, characters, counts.nodes, handed);
             if code != eid::TREF {
-                return Turn::On(State {
-                    c: behind,
-                    p: counts.nodes,
-                    counts: taken,
-                    space,
-                });
+                let more = push(words, levels, handed);
+                return Turn::On(
+                    State {
+                        c: behind,
+                        p: counts.nodes,
+                        counts: taken,
+                        space,
+                    },
+                    more,
+                );
             }
             match add_quoted(
                 script,
@@ -185,12 +202,15 @@ fn begin(
                 Outcome::Refused(k) => Turn::Refused(k),
                 Outcome::Done(more) => {
                     let past = past_element(script, characters, behind);
-                    Turn::On(State {
-                        c: past,
-                        p: s.p,
-                        counts: more,
-                        space: handed,
-                    })
+                    Turn::On(
+                        State {
+                            c: past,
+                            p: s.p,
+                            counts: more,
+                            space: handed,
+                        },
+                        levels,
+                    )
                 }
             }
         }
@@ -204,18 +224,32 @@ fn advance(
     nodes: &mut [u32],
     attributes: &mut [u32],
     text: &mut [u8],
+    words: &mut [u64; 32],
     e: u32,
     s: State,
+    levels: Levels,
 ) -> Turn
     requires { ⌜ Within (now script) (now characters) (now nodes) (now attributes) (now text) e s ⌝ }
+    requires { ⌜ Recalled (now characters) (treeOf (now nodes) (now attributes) (now text) (s .counts)) (now words) (s .p) levels ⌝ }
     ensures { λ r. ⌜ TurnFit (now (script .entry)) (now (characters .entry)) e (now (nodes .entry)) (now (attributes .entry))
-        (now (text .entry)) s (now (nodes .exit)) (now (attributes .exit)) (now (text .exit)) r ⌝ }
+        (now (text .entry)) s (now (nodes .exit)) (now (attributes .exit)) (now (text .exit)) (now (words .exit)) r ⌝ }
 {
     let c = s.c;
     let counts = s.counts;
     let handed = s.space;
     match next_item(script, characters, c) {
-        Item::Begin(x) => begin(script, characters, nodes, attributes, text, e, s, x),
+        Item::Begin(x) => begin(
+            script,
+            characters,
+            nodes,
+            attributes,
+            text,
+            words,
+            e,
+            s,
+            levels,
+            x,
+        ),
         Item::Text(own, len, n) => {
             match add_text(
                 nodes,
@@ -229,33 +263,55 @@ fn advance(
                 handed,
             ) {
                 Outcome::Refused(k) => Turn::Refused(k),
-                Outcome::Done(more) => Turn::On(State {
-                    c: n,
-                    p: s.p,
-                    counts: more,
-                    space: handed,
-                }),
+                Outcome::Done(more) => Turn::On(
+                    State {
+                        c: n,
+                        p: s.p,
+                        counts: more,
+                        space: handed,
+                    },
+                    levels,
+                ),
             }
         }
-        Item::Other(n) => Turn::On(State {
-            c: n,
-            p: s.p,
-            counts,
-            space: handed,
-        }),
+        Item::Other(n) => Turn::On(
+            State {
+                c: n,
+                p: s.p,
+                counts,
+                space: handed,
+            },
+            levels,
+        ),
         Item::Close(n) => {
             if s.p == e {
                 return Turn::End(counts, n);
             }
             let parent = node_word(nodes, s.p, word::PARENT);
             let up = parent - 1;
-            let space = space_above(nodes, attributes, characters, s.p, up, handed);
-            Turn::On(State {
-                c: n,
-                p: up,
-                counts,
-                space,
-            })
+            match pop(words, levels) {
+                Above::Known(space, less) => Turn::On(
+                    State {
+                        c: n,
+                        p: up,
+                        counts,
+                        space,
+                    },
+                    less,
+                ),
+                Above::Unknown => {
+                    let space = space_above(nodes, attributes, characters, s.p, up, handed);
+                    Turn::On(
+                        State {
+                            c: n,
+                            p: up,
+                            counts,
+                            space,
+                        },
+                        nothing(),
+                    )
+                }
+            }
         }
         Item::End => Turn::End(counts, c),
     }
@@ -275,11 +331,24 @@ pub fn inside(
     ensures { λ r. ⌜ InsideFit (now (script .entry)) (now (characters .entry)) e (now (nodes .entry)) (now (attributes .entry))
         (now (text .entry)) first (now (nodes .exit)) (now (attributes .exit)) (now (text .exit)) r ⌝ }
 {
+    let mut words = [0u64; 32];
+    let mut levels = nothing();
     let mut s = first;
     loop {
-        match advance(script, characters, nodes, attributes, text, e, s) {
-            Turn::On(n) => {
+        match advance(
+            script,
+            characters,
+            nodes,
+            attributes,
+            text,
+            &mut words,
+            e,
+            s,
+            levels,
+        ) {
+            Turn::On(n, l) => {
                 s = n;
+                levels = l;
             }
             Turn::Refused(k) => {
                 return Parsed::Refused(k);

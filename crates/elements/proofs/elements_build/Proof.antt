@@ -21,6 +21,9 @@ clear-words-requires c κs = search needs
 clear-words-requires-2 : tie.Need-clear-words-requires-2
 clear-words-requires-2 c κs = search needs
 
+clear-bytes-requires : tie.Need-clear-bytes-requires
+clear-bytes-requires c κs = search needs
+
 refused-requires-2 : tie.Need-refused-requires-2
 refused-requires-2 c κs = search needs
 
@@ -29,6 +32,9 @@ same-length c = search needs
 
 same-length-2 : tie.Need-same-length-2
 same-length-2 c = search needs
+
+same-length-3 : tie.Need-same-length-3
+same-length-3 c = search needs
 
 returns-2 : tie.Need-returns-2
 returns-2 c = search needs
@@ -42,22 +48,32 @@ start-requires c κs = search needs
 run-requires : tie.Need-run-requires
 run-requires c κs =
     starting _ _ (length (c .before .before .before .before .before .before .before .before .before .before .before .before
-    .before .before .before .before .before .before .before .before .before .before .args .nodes .now))
-    (length (c .before .before .before .before .before .before .before .before .before .before .before .before .before .before
-    .before .before .before .before .before .before .before .before .args .attributes .now))
+    .before .before .before .before .before .before .before .before .before .before .before .before .before .before .before
+    .before .args .nodes .now)) (length (c .before .before .before .before .before .before .before .before .before .before .before
+    .before .before .before .before .before .before .before .before .before .before .before .before .before .before .before
+    .before .before .args .attributes .now)) (length (c .before .before .before .before .before .before .before .before .before
+    .before .before .before .before .before .before .before .before .before .before .before .before .before .before .before
+    .before .before .before .before .args .text .now))
     (sym (c .before .before .before .before .before .before .before .before .before .before .before .before .before .before
-    .before .before .before .check .ensures) ∙ c .before .before .before .before .before .before .before .before .before .before
+    .before .before .before .before .before .before .before .before .check .ensures)
+    ∙ c .before .before .before .before .before .before .before .before .before .before .before .before .before .before .before
     .before .before .before .before .before .before .if1 .left) _
-    (c .before .before .before .before .before .before .before .before .before .before .before .before .before .before
-    .clear-words .ensures) (c .before .before .before .before .before .before .before .if2 .left) _
-    (c .before .before .start .ensures) _ _ (c .before .before .before .before .before .put-root .ensures)
-    (c .before .before .before .before .before .before .before .before .before .before .clear-words2 .ensures)
-
-same-length-3 : tie.Need-same-length-3
-same-length-3 c = search needs
+    (c .before .before .before .before .before .before .before .before .before .before .before .before .before .before .before
+    .before .before .before .before .clear-words .ensures)
+    (c .before .before .before .before .before .before .before .before .if2 .left) _ (c .before .before .before .start .ensures) _
+    _ _ (c .before .before .before .before .before .before .put-root .ensures)
+    (c .before .before .before .before .before .before .before .before .before .before .before .before .before .before .before
+    .clear-words2 .ensures)
+    (c .before .before .before .before .before .before .before .before .before .before .before .clear-bytes .ensures)
 
 same-length-4 : tie.Need-same-length-4
 same-length-4 c = search needs
+
+same-length-5 : tie.Need-same-length-5
+same-length-5 c = search needs
+
+same-length-6 : tie.Need-same-length-6
+same-length-6 c = search needs
 
 returns-3 : tie.Need-returns-3
 returns-3 c = search needs
@@ -71,13 +87,16 @@ elements-build-spec =
     returns
     clear-words-requires
     clear-words-requires-2
+    clear-bytes-requires
     refused-requires-2
     same-length
     same-length-2
+    same-length-3
     returns-2
     put-root-requires
     start-requires
     run-requires
-    same-length-3
     same-length-4
+    same-length-5
+    same-length-6
     returns-3)

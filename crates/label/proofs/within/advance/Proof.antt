@@ -1,8 +1,10 @@
-use Rattle.label.proofs.Holders.{climbs, reads}
 use native.Mathlib.Omega.{arith}
 use Rattle.walk.proofs.Walks.{item-told}
+use Rattle.label.proofs.Holders.{climbs, reads}
+use Rattle.label.proofs.Remembering.{above-told}
 use Rattle.label.proofs.Telling.{opening, append-done, append-none}
-use Rattle.label.proofs.Walking.{holds, space-read, text-lies, text-refused, goes-text, goes-other, ends-close, goes-up, ends-none}
+use Rattle.label.proofs.Walking.{holds, space-read, text-lies, text-refused, goes-text, text-recalled, goes-other}
+use Rattle.label.proofs.Walking.{ends-close, goes-up, goes-known, ends-none}
 use borrow.Author.Needs.{needs}
 use Rattle.label.proofs.within.advance.Statement.{statement}
 use Rattle.label.proofs.within.advance.Tie as tie
@@ -15,35 +17,29 @@ enum-known-x c = search needs
 
 begin-requires : tie.Need-begin-requires
 begin-requires c κs =
-    let opens = item-told _ _ _ _ _ (c .before .before .before .before .x .given .1)
-    (c .before .before .before .before .before .before .next-item .ensures) in (
-      c .before .before .before .before .before .before .before .before .before .before .before .before .before .before .pre,
-      opening _ _ _ _ (opens .0) (opens .1 .0) (opens .1 .1)
-          (c .before .before .before .before .before .before .before .before .before .before .before .before .before .before .pre
-          .lies),
-    )
+    let within = c .before .before .before .before .before .before .before .before .before .before .before .before .before .before
+    .before .pre .0 in
+    let recalled = c .before .before .before .before .before .before .before .before .before .before .before .before .before
+    .before .before .pre .1 in
+    let opens = item-told _ _ _ _ _ (c .before .before .before .before .before .x .given .1)
+    (c .before .before .before .before .before .before .before .next-item .ensures) in
+    (within, (opening _ _ _ _ (opens .0) (opens .1 .0) (opens .1 .1) (within .lies), recalled))
 
 enum-known-own : tie.Need-enum-known-own
 enum-known-own c = search needs
 
 add-text-requires : tie.Need-add-text-requires
 add-text-requires c κs =
+    let within = c .before .before .before .before .before .before .before .before .before .before .before .before .before .before
+    .pre .0 in
     let spoken = item-told _ _ _ _ _ (c .before .before .before .before .own .given .1)
     (c .before .before .before .before .before .before .next-item .ensures) in (
-      holds _ _ _ _ _ _ _
-          (c .before .before .before .before .before .before .before .before .before .before .before .before .before .before .pre),
+      holds _ _ _ _ _ _ _ within,
       (
-        space-read _ _ _ _ _ _ _
-            (c .before .before .before .before .before .before .before .before .before .before .before .before .before .before .pre),
+        space-read _ _ _ _ _ _ _ within,
         (
-          text-lies _ _ _ _ _ _ _
-              (c .before .before .before .before .before .before .before .before .before .before .before .before .before .before .pre) _
-              (spoken .1 .1) _ (spoken .0),
-          (
-            c .before .before .before .before .before .before .before .before .before .before .before
-                .before .before .before .pre .small,
-            omega (arith, spoken .1 .0 .texts, spoken .1 .0 .at, spoken .1 .0 .size),
-          ),
+          text-lies _ _ _ _ _ _ _ within _ (spoken .1 .1) _ (spoken .0),
+          (within .small, omega (arith, spoken .1 .0 .texts, spoken .1 .0 .at, spoken .1 .0 .size)),
         ),
       ),
     )
@@ -62,64 +58,54 @@ enum-known-n-2 c = search needs
 
 returns : tie.Need-returns
 returns c =
+    let within = c .before .before .before .before .before .before .before .before .before .before .before .before .before .pre
+    .0 in
     let closed = item-told _ _ _ _ _ (c .before .before .before .n2 .given .1)
     (c .before .before .before .before .before .next-item .ensures) in
-    ends-close _ _ _ _ _ _ _
-    (c .before .before .before .before .before .before .before .before .before .before .before .before .before .pre) _ (closed .1)
-    (closed .0) (c .if1 .taken)
+    ends-close _ _ _ _ _ _ _ within _ (closed .1) (closed .0) (c .if1 .taken)
 
 node-word-requires : tie.Need-node-word-requires
 node-word-requires c κs = search needs
 
 sub-up : tie.Need-sub-up
 sub-up c =
-    omega (
-      arith,
-      c .node-word .ensures,
-      c .before .before .before .before .before .before .before .before .before .before .before
-          .before .before .before .before .pre .sound .under
-          (c .before .before .before .before .before .before .before .before .before .before .before .before .before .before .before
-          .args .s .p) (omega (
-            arith,
-            c .before .before .before .before .before .before .before .before .before .before .before .before
-                .before .before .before .pre .up,
-            c .before .before .if1 .left,
-          ))
-          (c .before .before .before .before .before .before .before .before .before .before .before .before .before .before .before
-          .pre .below),
-    )
+    let within = c .before .before .before .before .before .before .before .before .before .before .before .before .before .before
+    .before .pre .0 in
+    let parent = within .sound .under (c .before .before .before .before .before .before .before .before .before .before .before
+    .before .before .before .before .args .s .p) (omega (arith, within .up, c .before .before .if1 .left)) (within .below) in
+    omega (arith, c .node-word .ensures, parent)
 
-space-above-requires : tie.Need-space-above-requires
-space-above-requires c κs = (
-  climbs _ _ _ _ _ _ (holds _ _ _ _ _ _ _ (c .before .before .before .before .before .before .before .before .before .before
-      .before .before .before .before .before .before .before .pre)),
-  (
-    reads _ _ _ _ _ _ (holds _ _ _ _ _ _ _ (c .before .before .before .before .before .before .before .before .before .before
-        .before .before .before .before .before .before .before .pre)),
-    (
-      omega (
-        arith,
-        c .before .before .node-word .ensures,
-        c .before .before .before .before .before .before .before .before .before .before .before .before .before .before .before
-            .before .before .pre .sound .under (c .before .before .before .before .before .before .before .before .before .before .before
-            .before .before .before .before .before .before .args .s .p)
-            (omega (
-              arith,
-              c .before .before .before .before .before .before .before .before .before .before .before .before .before
-                  .before .before .before .before .pre .up,
-              c .before .before .before .before .if1 .left,
-            ))
-            (c .before .before .before .before .before .before .before .before .before .before .before .before .before .before .before
-            .before .before .pre .below),
-      ),
-      space-read _ _ _ _ _ _ _ (c .before .before .before .before .before .before .before .before
-          .before .before .before .before .before .before .before .before .before .pre),
-    ),
-  ),
-)
+pop-requires : tie.Need-pop-requires
+pop-requires c κs = search needs
+
+enum-known-space : tie.Need-enum-known-space
+enum-known-space c = search needs
 
 enum-told : tie.Need-enum-told
 enum-told c = search needs
+
+space-above-requires : tie.Need-space-above-requires
+space-above-requires c κs =
+    let within = c .before .before .before .before .before .before .before .before .before .before .before .before .before .before
+    .before .before .before .before .before .before .before .pre .0 in
+    let parent = within .sound .under (c .before .before .before .before .before .before .before .before .before .before .before
+    .before .before .before .before .before .before .before .before .before .before .args .s .p)
+    (omega (arith, within .up, c .before .before .before .before .before .before .before .before .if1 .left)) (within .below) in (
+      climbs _ _ _ _ _ _ (holds _ _ _ _ _ _ _ within),
+      (
+        reads _ _ _ _ _ _ (holds _ _ _ _ _ _ _ within),
+        (
+          omega (arith, c .before .before .before .before .before .before .node-word .ensures, parent),
+          space-read _ _ _ _ _ _ _ within,
+        ),
+      ),
+    )
+
+nothing-requires : tie.Need-nothing-requires
+nothing-requires c κs = search needs
+
+enum-told-2 : tie.Need-enum-told-2
+enum-told-2 c = search needs
 
 same-length : tie.Need-same-length
 same-length c = search needs
@@ -144,12 +130,13 @@ same-length-6 c = search needs
 
 returns-3 : tie.Need-returns-3
 returns-3 c =
+    let within = c .before .before .before .before .before .before .before .before .before .before .before .before .before .before
+    .before .before .before .before .before .before .before .before .pre .0 in
     let spoken = item-told _ _ _ _ _
     (c .before .before .before .before .before .before .before .before .before .before .before .before .own .given .1)
     (c .before .before .before .before .before .before .before .before .before .before .before .before .before .before .next-item
     .ensures) in
-    text-refused _ _ _ _ _ _ _ (c .before .before .before .before .before .before .before .before .before .before .before .before
-    .before .before .before .before .before .before .before .before .before .before .pre) _ (spoken .1 .1) _ (spoken .0) _
+    text-refused _ _ _ _ _ _ _ within _ (spoken .1 .1) _ (spoken .0) _
     (append-none _ _ _ _ _ (c .before .before .before .before .before .before .before .add-text .ensures) _
     (c .before .k .given .1))
 
@@ -164,40 +151,70 @@ same-length-9 c = search needs
 
 returns-4 : tie.Need-returns-4
 returns-4 c =
+    let within = c .before .before .before .before .before .before .before .before .before .before .before .before .before .before
+    .before .before .before .before .before .before .before .before .pre .0 in
+    let recalled = c .before .before .before .before .before .before .before .before .before .before .before .before .before
+    .before .before .before .before .before .before .before .before .before .pre .1 in
     let spoken = item-told _ _ _ _ _
     (c .before .before .before .before .before .before .before .before .before .before .before .before .own .given .1)
     (c .before .before .before .before .before .before .before .before .before .before .before .before .before .before .next-item
     .ensures) in
-    goes-text _ _ _ _ _ _ _ (c .before .before .before .before .before .before .before .before .before .before .before .before
-    .before .before .before .before .before .before .before .before .before .before .pre) _ (spoken .1 .1) _ (spoken .0) _ _ _
-    (append-done _ _ _ _ _ (c .before .before .before .before .before .before .before .add-text .ensures) _
-    (c .before .more .given .1))
+    let done = append-done _ _ _ _ _ (c .before .before .before .before .before .before .before .add-text .ensures) _
+    (c .before .more .given .1) in
+    let on = goes-text _ _ _ _ _ _ _ within _ (spoken .1 .1) _ (spoken .0) _ _ _ done in
+    (on .0, on .1, text-recalled _ _ _ _ _ _ _ within _ (spoken .1 .1) _ (spoken .0) _ _ _ done _ _ recalled)
 
 returns-5 : tie.Need-returns-5
 returns-5 c =
+    let within = c .before .before .before .before .before .before .before .before .before .before .before .pre .0 in
+    let recalled = c .before .before .before .before .before .before .before .before .before .before .before .pre .1 in
     let passed = item-told _ _ _ _ _ (c .before .n .given .1) (c .before .before .before .next-item .ensures) in
-    goes-other _ _ _ _ _ _ _ (c .before .before .before .before .before .before .before .before .before .before .before .pre) _
-    (passed .1) (passed .0)
+    let on = goes-other _ _ _ _ _ _ _ within _ (passed .1) (passed .0) in
+    (on .0, on .1, recalled)
 
 same-length-10 : tie.Need-same-length-10
 same-length-10 c = search needs
 
+returns-6 : tie.Need-returns-6
+returns-6 c =
+    let within = c .before .before .before .before .before .before .before .before .before .before .before .before .before .before
+    .before .before .before .before .before .before .pre .0 in
+    let recalled = c .before .before .before .before .before .before .before .before .before .before .before .before .before
+    .before .before .before .before .before .before .before .pre .1 in
+    let closed = item-told _ _ _ _ _
+    (c .before .before .before .before .before .before .before .before .before .before .n2 .given .1)
+    (c .before .before .before .before .before .before .before .before .before .before .before .before .next-item .ensures) in
+    goes-known _ _ _ _ _ _ _ within _ (closed .1) (closed .0)
+    (c .before .before .before .before .before .before .before .if1 .left) _
+    (c .before .before .before .before .before .node-word .ensures) _ _ recalled _ _
+    (above-told _ _ _ _ (c .before .space .given .1) (c .before .before .before .pop .ensures))
+
 same-length-11 : tie.Need-same-length-11
 same-length-11 c = search needs
 
-returns-6 : tie.Need-returns-6
-returns-6 c =
-    let closed = item-told _ _ _ _ _ (c .before .before .before .before .before .before .before .before .n2 .given .1)
-    (c .before .before .before .before .before .before .before .before .before .before .next-item .ensures) in
-    goes-up _ _ _ _ _ _ _ (c .before .before .before .before .before .before .before .before .before .before .before .before
-    .before .before .before .before .before .before .pre) _ (closed .1) (closed .0)
-    (c .before .before .before .before .before .if1 .left) _ (c .before .before .before .node-word .ensures) _
-    (c .space-above .ensures)
+same-length-12 : tie.Need-same-length-12
+same-length-12 c = search needs
 
 returns-7 : tie.Need-returns-7
 returns-7 c =
-    let ended = item-told _ _ _ _ _ (c .enum-told .given .1) (c .before .before .next-item .ensures) in
-    ends-none _ _ _ _ _ _ _ (c .before .before .before .before .before .before .before .before .before .before .pre) (ended .0)
+    let within = c .before .before .before .before .before .before .before .before .before .before .before .before .before .before
+    .before .before .before .before .before .before .before .before .before .pre .0 in
+    let recalled = c .before .before .before .before .before .before .before .before .before .before .before .before .before
+    .before .before .before .before .before .before .before .before .before .before .pre .1 in
+    let closed = item-told _ _ _ _ _
+    (c .before .before .before .before .before .before .before .before .before .before .before .before .before .n2 .given .1)
+    (c .before .before .before .before .before .before .before .before .before .before .before .before .before .before .before
+    .next-item .ensures) in
+    let on = goes-up _ _ _ _ _ _ _ within _ (closed .1) (closed .0)
+    (c .before .before .before .before .before .before .before .before .before .before .if1 .left) _
+    (c .before .before .before .before .before .before .before .before .node-word .ensures) _ (c .before .space-above .ensures) in
+    (on .0, on .1, c .nothing .ensures _ (recalled .long) _)
+
+returns-8 : tie.Need-returns-8
+returns-8 c =
+    let within = c .before .before .before .before .before .before .before .before .before .before .pre .0 in
+    let ended = item-told _ _ _ _ _ (c .enum-told2 .given .1) (c .before .before .next-item .ensures) in
+    ends-none _ _ _ _ _ _ _ within (ended .0)
 
 pub advance-spec : {M : Type 1} → statement M
 advance-spec =
@@ -215,8 +232,12 @@ advance-spec =
     returns
     node-word-requires
     sub-up
-    space-above-requires
+    pop-requires
+    enum-known-space
     enum-told
+    space-above-requires
+    nothing-requires
+    enum-told-2
     same-length
     same-length-2
     same-length-3
@@ -231,6 +252,8 @@ advance-spec =
     returns-4
     returns-5
     same-length-10
-    same-length-11
     returns-6
-    returns-7)
+    same-length-11
+    same-length-12
+    returns-7
+    returns-8)

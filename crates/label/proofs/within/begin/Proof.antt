@@ -1,14 +1,14 @@
 use native.Mathlib.Omega.{arith}
-use Rattle.label.proofs.Holders.{reads}
 use mathlib.Core.Path.{sym, ap, _∙_}
 use lib.Dec.{eqb}
 use Rattle.walk.specs.Nodes.{elementOf}
 use Rattle.tree.proofs.Bools.{fails, passes}
 use Rattle.label.specs.Content.{tagIn}
+use Rattle.label.proofs.Holders.{reads}
 use Rattle.label.proofs.Contents.{content-is}
 use Rattle.label.proofs.Telling.{element-done, element-none, element-behind, append-done, append-none}
-use Rattle.label.proofs.Walking.{ready, in-values, goes-past, new-space, element-refused, goes-in}
-use Rattle.label.proofs.Walking.{tref-holds, tref-refused, goes-tref}
+use Rattle.label.proofs.Walking.{ready, in-values, goes-past, new-space, element-refused, goes-in, in-recalled}
+use Rattle.label.proofs.Walking.{tref-holds, tref-refused, goes-tref, tref-recalled}
 use borrow.Author.Needs.{needs}
 use Rattle.label.proofs.within.begin.Statement.{statement}
 use Rattle.label.proofs.within.begin.Tie as tie
@@ -24,30 +24,30 @@ past-element-requires c κs = search needs
 
 returns : tie.Need-returns
 returns c =
-    goes-past _ _ _ _ _ _ _
-    (c .before .before .before .before .before .before .before .before .before .before .before .before .pre .0) _
-    (c .before .before .before .before .before .before .before .before .before .before .before .before .pre .1)
-    (sym (content-is (elementOf
+    let content = content-is (elementOf
     (c .before .before .before .before .before .before .before .before .before .before .before .before .args .script .now)
     (c .before .before .before .before .before .before .before .before .before .before .before .before .args .characters .now)
     (c .before .before .before .before .before .before .before .before .before .before .before .before .args .x))
     (eqb (c .before .before .before .before .before .before .before .before .before .before .before .before .args .s .p)
-    (c .before .before .before .before .before .before .before .before .before .before .before .before .args .e)))
-    ∙ fails (c .before .before .is-text-content .ensures) (c .before .if1 .taken)) _ (c .past-element .ensures .0)
-    (c .past-element .ensures .1 .0) (c .past-element .ensures .1 .1)
+    (c .before .before .before .before .before .before .before .before .before .before .before .before .args .e)) in
+    let within = c .before .before .before .before .before .before .before .before .before .before .before .before .pre .0 in
+    let opens = c .before .before .before .before .before .before .before .before .before .before .before .before .pre .1 .0 in
+    let recalled = c .before .before .before .before .before .before .before .before .before .before .before .before .pre .1 .1 in
+    let on = goes-past _ _ _ _ _ _ _ within _ opens
+    (sym content ∙ fails (c .before .before .is-text-content .ensures) (c .before .if1 .taken)) _ (c .past-element .ensures .0)
+    (c .past-element .ensures .1 .0) (c .past-element .ensures .1 .1) in
+    (on .0, on .1, recalled)
 
 text-tag-of-requires : tie.Need-text-tag-of-requires
 text-tag-of-requires c κs = search needs
 
 parse-svg-element-requires : tie.Need-parse-svg-element-requires
-parse-svg-element-requires c κs = (
-  ready _ _ _ _ _ _ _
-      (c .before .before .before .before .before .before .before .before .before .before .before .before .before .before .pre .0) _
-      (c .before .before .before .before .before .before .before .before .before .before .before .before .before .before .pre .1),
-  in-values _ _ _ _ _ _ _
-      (c .before .before .before .before .before .before .before .before .before .before .before .before .before .before .pre .0) _
-      (c .before .before .before .before .before .before .before .before .before .before .before .before .before .before .pre .1),
-)
+parse-svg-element-requires c κs =
+    let within = c .before .before .before .before .before .before .before .before .before .before .before .before .before .before
+    .pre .0 in
+    let opens = c .before .before .before .before .before .before .before .before .before .before .before .before .before .before
+    .pre .1 .0 in
+    (ready _ _ _ _ _ _ _ within _ opens, in-values _ _ _ _ _ _ _ within _ opens)
 
 enum-known-k : tie.Need-enum-known-k
 enum-known-k c = search needs
@@ -57,12 +57,8 @@ enum-known-taken c = search needs
 
 get-xmlspace-requires : tie.Need-get-xmlspace-requires
 get-xmlspace-requires c κs =
-    reads _ _ _ _ _ _ (tref-holds _ _ _ _ _ _ _ (c .before .before .before .before .before .before .before .before .before .before
-    .before .before .before .before .before .before .before .before .before .before .before .before .before .before .pre .0) _
-    (c .before .before .before .before .before .before .before .before .before .before .before .before .before .before .before
-    .before .before .before .before .before .before .before .before .before .pre .1)
-    (sym (content-is (elementOf (c .before .before .before .before .before .before .before .before .before .before .before .before
-    .before .before .before .before .before .before .before .before .before .before .before .before .args .script .now)
+    let content = content-is (elementOf (c .before .before .before .before .before .before .before .before .before .before .before
+    .before .before .before .before .before .before .before .before .before .before .before .before .before .args .script .now)
     (c .before .before .before .before .before .before .before .before .before .before .before .before .before .before .before
     .before .before .before .before .before .before .before .before .before .args .characters .now)
     (c .before .before .before .before .before .before .before .before .before .before .before .before .before .before .before
@@ -70,20 +66,31 @@ get-xmlspace-requires c κs =
     (eqb (c .before .before .before .before .before .before .before .before .before .before .before .before .before .before
     .before .before .before .before .before .before .before .before .before .before .args .s .p)
     (c .before .before .before .before .before .before .before .before .before .before .before .before .before .before .before
-    .before .before .before .before .before .before .before .before .before .args .e)))
-    ∙ passes (c .before .before .before .before .before .before .before .before .before .before .before .before .before .before
-    .is-text-content .ensures)
-    (c .before .before .before .before .before .before .before .before .before .before .before .before .before .if1 .left)) _
-    (c .before .before .before .before .before .before .before .before .before .before .text-tag-of .ensures
+    .before .before .before .before .before .before .before .before .before .args .e)) in
+    let within = c .before .before .before .before .before .before .before .before .before .before .before .before .before .before
+    .before .before .before .before .before .before .before .before .before .before .pre .0 in
+    let opens = c .before .before .before .before .before .before .before .before .before .before .before .before .before .before
+    .before .before .before .before .before .before .before .before .before .before .pre .1 .0 in
+    let is = sym content ∙ passes (c .before .before .before .before .before .before .before .before .before .before .before
+    .before .before .before .is-text-content .ensures)
+    (c .before .before .before .before .before .before .before .before .before .before .before .before .before .if1 .left) in
+    let named = c .before .before .before .before .before .before .before .before .before .before .text-tag-of .ensures
     ∙ ap tagIn (c .before .before .before .before .before .before .before .before .before .before .before .before .before .before
-    .before .before .before .before .code-of .ensures)) _ _ _ _ _
-    (element-behind _ _ _ _
+    .before .before .before .before .code-of .ensures) in
+    let nodes = element-behind _ _ _ _
     (c .before .before .before .before .before .before .before .before .before .parse-svg-element .ensures .1) _ _
-    (c .before .before .before .taken .given .1))
-    (element-done _ _ _ _ _ (c .before .before .before .before .before .before .before .before .before .parse-svg-element .ensures
-    .0 (c .before .before .before .before .before .before .before .before .before .before .before .before .before .before .before
-    .before .before .before .before .before .before .before .before .before .args .text .now)) _ _
-    (c .before .before .before .taken .given .1))) _ (omega arith)
+    (c .before .before .before .taken .given .1) in
+    let told = element-done _ _ _ _ _ (c .before .before .before .before .before .before .before .before .before
+    .parse-svg-element .ensures .0 (c .before .before .before .before .before .before .before .before .before .before .before
+    .before .before .before .before .before .before .before .before .before .before .before .before .before .args .text .now)) _ _
+    (c .before .before .before .taken .given .1) in
+    reads _ _ _ _ _ _ (tref-holds _ _ _ _ _ _ _ within _ opens is _ named _ _ _ _ _ nodes told) _ (omega arith)
+
+push-requires : tie.Need-push-requires
+push-requires c κs =
+    let recalled = c .before .before .before .before .before .before .before .before .before .before .before .before .before
+    .before .before .before .before .before .before .before .before .before .before .before .before .before .before .pre .1 .1 in
+    recalled .few
 
 same-length : tie.Need-same-length
 same-length c = search needs
@@ -93,111 +100,87 @@ same-length-2 c = search needs
 
 returns-2 : tie.Need-returns-2
 returns-2 c =
-    goes-in _ _ _ _ _ _ _ (c .before .before .before .before .before .before .before .before .before .before .before .before
-    .before .before .before .before .before .before .before .before .before .before .before .before .before .before .pre .0) _
+    let content = content-is (elementOf (c .before .before .before .before .before .before .before .before .before .before .before
+    .before .before .before .before .before .before .before .before .before .before .before .before .before .before .before
+    .before .before .args .script .now) (c .before .before .before .before .before .before .before .before .before .before .before
+    .before .before .before .before .before .before .before .before .before .before .before .before .before .before .before
+    .before .before .args .characters .now) (c .before .before .before .before .before .before .before .before .before .before
+    .before .before .before .before .before .before .before .before .before .before .before .before .before .before .before
+    .before .before .before .args .x)) (eqb (c .before .before .before .before .before .before .before .before .before .before
+    .before .before .before .before .before .before .before .before .before .before .before .before .before .before .before
+    .before .before .before .args .s .p) (c .before .before .before .before .before .before .before .before .before .before
+    .before .before .before .before .before .before .before .before .before .before .before .before .before .before .before
+    .before .before .before .args .e)) in
+    let within = c .before .before .before .before .before .before .before .before .before .before .before .before .before .before
+    .before .before .before .before .before .before .before .before .before .before .before .before .before .before .pre .0 in
+    let opens = c .before .before .before .before .before .before .before .before .before .before .before .before .before .before
+    .before .before .before .before .before .before .before .before .before .before .before .before .before .before .pre .1 .0 in
+    let recalled = c .before .before .before .before .before .before .before .before .before .before .before .before .before
+    .before .before .before .before .before .before .before .before .before .before .before .before .before .before .before .pre
+    .1 .1 in
+    let is = sym content ∙ passes (c .before .before .before .before .before .before .before .before .before .before .before
+    .before .before .before .before .before .before .before .is-text-content .ensures)
     (c .before .before .before .before .before .before .before .before .before .before .before .before .before .before .before
-    .before .before .before .before .before .before .before .before .before .before .before .pre .1)
-    (sym (content-is (elementOf (c .before .before .before .before .before .before .before .before .before .before .before .before
-    .before .before .before .before .before .before .before .before .before .before .before .before .before .before .args .script
-    .now) (c .before .before .before .before .before .before .before .before .before .before .before .before .before .before
-    .before .before .before .before .before .before .before .before .before .before .before .before .args .characters .now)
+    .before .before .if1 .left) in
+    let named = c .before .before .before .before .before .before .before .before .before .before .before .before .before .before
+    .text-tag-of .ensures ∙ ap tagIn (c .before .before .before .before .before .before .before .before .before .before .before
+    .before .before .before .before .before .before .before .before .before .before .before .code-of .ensures) in
+    let nodes = element-behind _ _ _ _ (c .before .before .before .before .before .before .before .before .before .before .before
+    .before .before .parse-svg-element .ensures .1) _ _
+    (c .before .before .before .before .before .before .before .taken .given .1) in
+    let told = element-done _ _ _ _ _ (c .before .before .before .before .before .before .before .before .before .before .before
+    .before .before .parse-svg-element .ensures .0
     (c .before .before .before .before .before .before .before .before .before .before .before .before .before .before .before
-    .before .before .before .before .before .before .before .before .before .before .before .args .x))
-    (eqb (c .before .before .before .before .before .before .before .before .before .before .before .before .before .before
-    .before .before .before .before .before .before .before .before .before .before .before .before .args .s .p)
-    (c .before .before .before .before .before .before .before .before .before .before .before .before .before .before .before
-    .before .before .before .before .before .before .before .before .before .before .before .args .e)))
-    ∙ passes (c .before .before .before .before .before .before .before .before .before .before .before .before .before .before
-    .before .before .is-text-content .ensures)
-    (c .before .before .before .before .before .before .before .before .before .before .before .before .before .before .before
-    .if1 .left)) _ (c .before .before .before .before .before .before .before .before .before .before .before .before .text-tag-of
-    .ensures ∙ ap tagIn (c .before .before .before .before .before .before .before .before .before .before .before .before .before
-    .before .before .before .before .before .before .before .code-of .ensures)) _ _ _ _ _
-    (element-behind _ _ _ _
-    (c .before .before .before .before .before .before .before .before .before .before .before .parse-svg-element .ensures .1) _ _
-    (c .before .before .before .before .before .taken .given .1))
-    (element-done _ _ _ _ _ (c .before .before .before .before .before .before .before .before .before .before .before
-    .parse-svg-element .ensures .0 (c .before .before .before .before .before .before .before .before .before .before .before
-    .before .before .before .before .before .before .before .before .before .before .before .before .before .before .before .args
-    .text .now)) _ _ (c .before .before .before .before .before .taken .given .1)) _ (c .before .get-xmlspace .ensures)
-    (λ z. c .if2 .taken (c .before .before .before .before .before .before .before .before .before .before .before .before .before
-    .before .before .before .before .before .before .before .code-of .ensures ∙ z))
+    .before .before .before .before .before .before .before .before .before .before .before .before .before .args .text .now)) _ _
+    (c .before .before .before .before .before .before .before .taken .given .1) in
+    let on = goes-in _ _ _ _ _ _ _ within _ opens is _ named _ _ _ _ _ nodes told _
+    (c .before .before .before .get-xmlspace .ensures)
+    (λ z. c .before .before .if2 .taken (c .before .before .before .before .before .before .before .before .before .before .before
+    .before .before .before .before .before .before .before .before .before .before .before .code-of .ensures ∙ z)) in
+    (on .0, on .1, in-recalled _ _ _ _ _ _ _ within _ opens is _ named _ _ _ _ _ nodes told _ _ recalled _ _ (c .push .ensures))
 
 add-quoted-requires : tie.Need-add-quoted-requires
-add-quoted-requires c κs = (
-  tref-holds _ _ _ _ _ _ _ (c .before .before .before .before .before .before .before .before .before .before .before .before
-      .before .before .before .before .before .before .before .before .before .before .before .before .before .before .before
-      .before .before .pre .0) _ (c .before .before .before .before .before .before .before .before .before .before .before .before
-      .before .before .before .before .before .before .before .before .before .before .before .before .before .before .before
-      .before .before .pre .1) (sym (content-is (elementOf (c .before .before .before .before .before .before .before .before
-      .before .before .before .before .before .before .before .before .before .before .before .before .before .before .before
-      .before .before .before .before .before .before .args .script .now)
-      (c .before .before .before .before .before .before .before .before .before .before .before .before .before .before .before
-      .before .before .before .before .before .before .before .before .before .before .before .before .before .before .args
-      .characters .now) (c .before .before .before .before .before .before .before .before .before .before .before .before .before
-      .before .before .before .before .before .before .before .before .before .before .before .before .before .before .before
-      .before .args .x)) (eqb (c .before .before .before .before .before .before .before .before .before .before .before .before
-      .before .before .before .before .before .before .before .before .before .before .before .before .before .before .before
-      .before .before .args .s .p) (c .before .before .before .before .before .before .before .before .before .before .before
-      .before .before .before .before .before .before .before .before .before .before .before .before .before .before .before
-      .before .before .before .args .e))) ∙ passes (c .before .before .before .before .before .before .before .before .before
-      .before .before .before .before .before .before .before .before .before .before .is-text-content .ensures)
-      (c .before .before .before .before .before .before .before .before .before .before .before .before .before .before .before
-      .before .before .before .if1 .left)) _ (c .before .before .before .before .before .before .before .before .before .before
-      .before .before .before .before .before .text-tag-of .ensures
-      ∙ ap tagIn (c .before .before .before .before .before .before .before .before .before .before .before .before .before .before
-      .before .before .before .before .before .before .before .before .before .code-of .ensures)) _ _ _ _ _
-      (element-behind _ _ _ _ (c .before .before .before .before .before .before .before .before .before .before .before .before
-      .before .before .parse-svg-element .ensures .1) _ _
-      (c .before .before .before .before .before .before .before .before .taken .given .1))
-      (element-done _ _ _ _ _ (c .before .before .before .before .before .before .before .before .before .before .before .before
-      .before .before .parse-svg-element .ensures .0
-      (c .before .before .before .before .before .before .before .before .before .before .before .before .before .before .before
-      .before .before .before .before .before .before .before .before .before .before .before .before .before .before .args .text
-      .now)) _ _ (c .before .before .before .before .before .before .before .before .taken .given .1)),
-  (
-    new-space _ _ _ _ _ _ _ (c .before .before .before .before .before .before .before .before .before .before .before .before
-        .before .before .before .before .before .before .before .before .before .before .before .before .before .before .before
-        .before .before .pre .0) _ (c .before .before .before .before .before .before .before .before .before .before .before .before
-        .before .before .before .before .before .before .before .before .before .before .before .before .before .before .before
-        .before .before .pre .1) (sym (content-is (elementOf (c .before .before .before .before .before .before .before .before
-        .before .before .before .before .before .before .before .before .before .before .before .before .before .before .before
-        .before .before .before .before .before .before .args .script .now)
-        (c .before .before .before .before .before .before .before .before .before .before .before .before .before .before .before
-        .before .before .before .before .before .before .before .before .before .before .before .before .before .before .args
-        .characters .now) (c .before .before .before .before .before .before .before .before .before .before .before .before .before
-        .before .before .before .before .before .before .before .before .before .before .before .before .before .before .before
-        .before .args .x)) (eqb (c .before .before .before .before .before .before .before .before .before .before .before .before
-        .before .before .before .before .before .before .before .before .before .before .before .before .before .before .before
-        .before .before .args .s .p) (c .before .before .before .before .before .before .before .before .before .before .before
-        .before .before .before .before .before .before .before .before .before .before .before .before .before .before .before
-        .before .before .before .args .e))) ∙ passes (c .before .before .before .before .before .before .before .before .before
-        .before .before .before .before .before .before .before .before .before .before .is-text-content .ensures)
-        (c .before .before .before .before .before .before .before .before .before .before .before .before .before .before .before
-        .before .before .before .if1 .left)) _ (c .before .before .before .before .before .before .before .before .before .before
-        .before .before .before .before .before .text-tag-of .ensures
-        ∙ ap tagIn (c .before .before .before .before .before .before .before .before .before .before .before .before .before .before
-        .before .before .before .before .before .before .before .before .before .code-of .ensures)) _ _ _ _ _
-        (element-behind _ _ _ _ (c .before .before .before .before .before .before .before .before .before .before .before .before
-        .before .before .parse-svg-element .ensures .1) _ _
-        (c .before .before .before .before .before .before .before .before .taken .given .1))
-        (element-done _ _ _ _ _ (c .before .before .before .before .before .before .before .before .before .before .before .before
-        .before .before .parse-svg-element .ensures .0
-        (c .before .before .before .before .before .before .before .before .before .before .before .before .before .before .before
-        .before .before .before .before .before .before .before .before .before .before .before .before .before .before .args .text
-        .now)) _ _ (c .before .before .before .before .before .before .before .before .taken .given .1))
-        (c .before .before .before .before .get-xmlspace .result)
-        (c .before .before .before .before .get-xmlspace .ensures),
-    (
-      c .before .before .before .before .before .before .before .before .before .before .before .before .before .before .before
-          .before .before .before .before .before .before .before .before .before .before .before .before .before .before .pre .1
-          .standing,
-      c .before .before .before .before .before .before .before .before .before .before .before .before .before .before
-          .before .before .before .before .before .before .before .before .before .before .before .before .before .before .before .pre
-          .0 .all,
-    ),
-  ),
-)
+add-quoted-requires c κs =
+    let content = content-is (elementOf (c .before .before .before .before .before .before .before .before .before .before .before
+    .before .before .before .before .before .before .before .before .before .before .before .before .before .before .before
+    .before .before .before .args .script .now)
+    (c .before .before .before .before .before .before .before .before .before .before .before .before .before .before .before
+    .before .before .before .before .before .before .before .before .before .before .before .before .before .before .args
+    .characters .now) (c .before .before .before .before .before .before .before .before .before .before .before .before .before
+    .before .before .before .before .before .before .before .before .before .before .before .before .before .before .before
+    .before .args .x)) (eqb (c .before .before .before .before .before .before .before .before .before .before .before .before
+    .before .before .before .before .before .before .before .before .before .before .before .before .before .before .before
+    .before .before .args .s .p) (c .before .before .before .before .before .before .before .before .before .before .before
+    .before .before .before .before .before .before .before .before .before .before .before .before .before .before .before
+    .before .before .before .args .e)) in
+    let within = c .before .before .before .before .before .before .before .before .before .before .before .before .before .before
+    .before .before .before .before .before .before .before .before .before .before .before .before .before .before .before .pre
+    .0 in
+    let opens = c .before .before .before .before .before .before .before .before .before .before .before .before .before .before
+    .before .before .before .before .before .before .before .before .before .before .before .before .before .before .before .pre
+    .1 .0 in
+    let is = sym content ∙ passes (c .before .before .before .before .before .before .before .before .before .before .before
+    .before .before .before .before .before .before .before .before .is-text-content .ensures)
+    (c .before .before .before .before .before .before .before .before .before .before .before .before .before .before .before
+    .before .before .before .if1 .left) in
+    let named = c .before .before .before .before .before .before .before .before .before .before .before .before .before .before
+    .before .text-tag-of .ensures ∙ ap tagIn (c .before .before .before .before .before .before .before .before .before .before
+    .before .before .before .before .before .before .before .before .before .before .before .before .before .code-of .ensures) in
+    let nodes = element-behind _ _ _ _ (c .before .before .before .before .before .before .before .before .before .before .before
+    .before .before .before .parse-svg-element .ensures .1) _ _
+    (c .before .before .before .before .before .before .before .before .taken .given .1) in
+    let told = element-done _ _ _ _ _ (c .before .before .before .before .before .before .before .before .before .before .before
+    .before .before .before .parse-svg-element .ensures .0
+    (c .before .before .before .before .before .before .before .before .before .before .before .before .before .before .before
+    .before .before .before .before .before .before .before .before .before .before .before .before .before .before .args .text
+    .now)) _ _ (c .before .before .before .before .before .before .before .before .taken .given .1) in (
+      tref-holds _ _ _ _ _ _ _ within _ opens is _ named _ _ _ _ _ nodes told,
+      (
+        new-space _ _ _ _ _ _ _ within _ opens is _ named _ _ _ _ _ nodes told
+            (c .before .before .before .before .get-xmlspace .result) (c .before .before .before .before .get-xmlspace .ensures),
+        (opens .standing, within .all),
+      ),
+    )
 
 enum-known-k-2 : tie.Need-enum-known-k-2
 enum-known-k-2 c = search needs
@@ -207,10 +190,11 @@ enum-known-more c = search needs
 
 past-element-requires-2 : tie.Need-past-element-requires-2
 past-element-requires-2 c κs =
-    (element-behind _ _ _ _ (c .before .before .before .before .before .before .before .before .before .before .before .before
-    .before .before .before .before .before .before .before .before .before .before .parse-svg-element .ensures .1) _ _
+    let nodes = element-behind _ _ _ _ (c .before .before .before .before .before .before .before .before .before .before .before
+    .before .before .before .before .before .before .before .before .before .before .before .parse-svg-element .ensures .1) _ _
     (c .before .before .before .before .before .before .before .before .before .before .before .before .before .before .before
-    .before .taken .given .1)) .fit
+    .before .taken .given .1) in
+    nodes .fit
 
 same-length-3 : tie.Need-same-length-3
 same-length-3 c = search needs
@@ -220,12 +204,8 @@ same-length-4 c = search needs
 
 returns-3 : tie.Need-returns-3
 returns-3 c =
-    element-refused _ _ _ _ _ _ _ (c .before .before .before .before .before .before .before .before .before .before .before
-    .before .before .before .before .before .before .before .before .before .before .before .pre .0) _
-    (c .before .before .before .before .before .before .before .before .before .before .before .before .before .before .before
-    .before .before .before .before .before .before .before .pre .1)
-    (sym (content-is (elementOf (c .before .before .before .before .before .before .before .before .before .before .before .before
-    .before .before .before .before .before .before .before .before .before .before .args .script .now)
+    let content = content-is (elementOf (c .before .before .before .before .before .before .before .before .before .before .before
+    .before .before .before .before .before .before .before .before .before .before .before .args .script .now)
     (c .before .before .before .before .before .before .before .before .before .before .before .before .before .before .before
     .before .before .before .before .before .before .before .args .characters .now)
     (c .before .before .before .before .before .before .before .before .before .before .before .before .before .before .before
@@ -233,14 +213,20 @@ returns-3 c =
     (eqb (c .before .before .before .before .before .before .before .before .before .before .before .before .before .before
     .before .before .before .before .before .before .before .before .args .s .p)
     (c .before .before .before .before .before .before .before .before .before .before .before .before .before .before .before
-    .before .before .before .before .before .before .before .args .e)))
-    ∙ passes
+    .before .before .before .before .before .before .before .args .e)) in
+    let within = c .before .before .before .before .before .before .before .before .before .before .before .before .before .before
+    .before .before .before .before .before .before .before .before .pre .0 in
+    let opens = c .before .before .before .before .before .before .before .before .before .before .before .before .before .before
+    .before .before .before .before .before .before .before .before .pre .1 .0 in
+    let is = sym content ∙ passes
     (c .before .before .before .before .before .before .before .before .before .before .before .before .is-text-content .ensures)
-    (c .before .before .before .before .before .before .before .before .before .before .before .if1 .left)) _
-    (c .before .before .before .before .before .before .before .before .text-tag-of .ensures
+    (c .before .before .before .before .before .before .before .before .before .before .before .if1 .left) in
+    let named = c .before .before .before .before .before .before .before .before .text-tag-of .ensures
     ∙ ap tagIn (c .before .before .before .before .before .before .before .before .before .before .before .before .before .before
-    .before .before .code-of .ensures)) _ (element-none _ _ _ _ _
-    (c .before .before .before .before .before .before .before .parse-svg-element .ensures .0 _) _ (c .before .k .given .1))
+    .before .before .code-of .ensures) in
+    element-refused _ _ _ _ _ _ _ within _ opens is _ named _
+    (element-none _ _ _ _ _ (c .before .before .before .before .before .before .before .parse-svg-element .ensures .0 _) _
+    (c .before .k .given .1))
 
 same-length-5 : tie.Need-same-length-5
 same-length-5 c = search needs
@@ -253,15 +239,9 @@ same-length-7 c = search needs
 
 returns-4 : tie.Need-returns-4
 returns-4 c =
-    tref-refused _ _ _ _ _ _ _ (c .before .before .before .before .before .before .before .before .before .before .before .before
+    let content = content-is (elementOf (c .before .before .before .before .before .before .before .before .before .before .before
     .before .before .before .before .before .before .before .before .before .before .before .before .before .before .before
-    .before .before .before .before .before .before .before .before .before .before .pre .0) _
-    (c .before .before .before .before .before .before .before .before .before .before .before .before .before .before .before
-    .before .before .before .before .before .before .before .before .before .before .before .before .before .before .before
-    .before .before .before .before .before .before .before .pre .1)
-    (sym (content-is (elementOf (c .before .before .before .before .before .before .before .before .before .before .before .before
-    .before .before .before .before .before .before .before .before .before .before .before .before .before .before .before
-    .before .before .before .before .before .before .before .before .before .before .args .script .now)
+    .before .before .before .before .before .before .before .before .before .before .before .args .script .now)
     (c .before .before .before .before .before .before .before .before .before .before .before .before .before .before .before
     .before .before .before .before .before .before .before .before .before .before .before .before .before .before .before
     .before .before .before .before .before .before .before .args .characters .now)
@@ -273,29 +253,39 @@ returns-4 c =
     .before .before .before .before .before .before .before .before .args .s .p)
     (c .before .before .before .before .before .before .before .before .before .before .before .before .before .before .before
     .before .before .before .before .before .before .before .before .before .before .before .before .before .before .before
-    .before .before .before .before .before .before .before .args .e)))
-    ∙ passes (c .before .before .before .before .before .before .before .before .before .before .before .before .before .before
-    .before .before .before .before .before .before .before .before .before .before .before .before .before .is-text-content
-    .ensures) (c .before .before .before .before .before .before .before .before .before .before .before .before .before .before
-    .before .before .before .before .before .before .before .before .before .before .before .before .if1 .left)) _
-    (c .before .before .before .before .before .before .before .before .before .before .before .before .before .before .before
-    .before .before .before .before .before .before .before .before .text-tag-of .ensures
+    .before .before .before .before .before .before .before .args .e)) in
+    let within = c .before .before .before .before .before .before .before .before .before .before .before .before .before .before
+    .before .before .before .before .before .before .before .before .before .before .before .before .before .before .before
+    .before .before .before .before .before .before .before .before .pre .0 in
+    let opens = c .before .before .before .before .before .before .before .before .before .before .before .before .before .before
+    .before .before .before .before .before .before .before .before .before .before .before .before .before .before .before
+    .before .before .before .before .before .before .before .before .pre .1 .0 in
+    let is = sym content ∙ passes (c .before .before .before .before .before .before .before .before .before .before .before
+    .before .before .before .before .before .before .before .before .before .before .before .before .before .before .before
+    .before .is-text-content .ensures) (c .before .before .before .before .before .before .before .before .before .before .before
+    .before .before .before .before .before .before .before .before .before .before .before .before .before .before .before .if1
+    .left) in
+    let named = c .before .before .before .before .before .before .before .before .before .before .before .before .before .before
+    .before .before .before .before .before .before .before .before .before .text-tag-of .ensures
     ∙ ap tagIn (c .before .before .before .before .before .before .before .before .before .before .before .before .before .before
     .before .before .before .before .before .before .before .before .before .before .before .before .before .before .before
-    .before .before .code-of .ensures)) _ _ _ _ _
-    (element-behind _ _ _ _ (c .before .before .before .before .before .before .before .before .before .before .before .before
-    .before .before .before .before .before .before .before .before .before .before .parse-svg-element .ensures .1) _ _
+    .before .before .code-of .ensures) in
+    let nodes = element-behind _ _ _ _ (c .before .before .before .before .before .before .before .before .before .before .before
+    .before .before .before .before .before .before .before .before .before .before .before .parse-svg-element .ensures .1) _ _
     (c .before .before .before .before .before .before .before .before .before .before .before .before .before .before .before
-    .before .taken .given .1)) (element-done _ _ _ _ _ (c .before .before .before .before .before .before .before .before .before
-    .before .before .before .before .before .before .before .before .before .before .before .before .before .parse-svg-element
-    .ensures .0 (c .before .before .before .before .before .before .before .before .before .before .before .before .before .before
-    .before .before .before .before .before .before .before .before .before .before .before .before .before .before .before
-    .before .before .before .before .before .before .before .before .args .text .now)) _ _
+    .before .taken .given .1) in
+    let told = element-done _ _ _ _ _ (c .before .before .before .before .before .before .before .before .before .before .before
+    .before .before .before .before .before .before .before .before .before .before .before .parse-svg-element .ensures .0
     (c .before .before .before .before .before .before .before .before .before .before .before .before .before .before .before
-    .before .taken .given .1)) (sym (c .before .before .before .before .before .before .before .before .before .before .before
     .before .before .before .before .before .before .before .before .before .before .before .before .before .before .before
-    .before .before .before .before .before .code-of .ensures)
-    ∙ c .before .before .before .before .before .before .before .before .before .before .before .if2 .left) _
+    .before .before .before .before .before .before .before .args .text .now)) _ _
+    (c .before .before .before .before .before .before .before .before .before .before .before .before .before .before .before
+    .before .taken .given .1) in
+    let tref = sym (c .before .before .before .before .before .before .before .before .before .before .before .before .before
+    .before .before .before .before .before .before .before .before .before .before .before .before .before .before .before
+    .before .before .before .code-of .ensures)
+    ∙ c .before .before .before .before .before .before .before .before .before .before .before .if2 .left in
+    tref-refused _ _ _ _ _ _ _ within _ opens is _ named _ _ _ _ _ nodes told tref _
     (append-none _ _ _ _ _ (c .before .before .before .before .before .before .before .add-quoted .ensures) _
     (c .before .k2 .given .1))
 
@@ -315,15 +305,9 @@ same-length-10 c = search needs
 
 returns-5 : tie.Need-returns-5
 returns-5 c =
-    goes-tref _ _ _ _ _ _ _ (c .before .before .before .before .before .before .before .before .before .before .before .before
+    let content = content-is (elementOf (c .before .before .before .before .before .before .before .before .before .before .before
     .before .before .before .before .before .before .before .before .before .before .before .before .before .before .before
-    .before .before .before .before .before .before .before .before .before .before .before .pre .0) _
-    (c .before .before .before .before .before .before .before .before .before .before .before .before .before .before .before
-    .before .before .before .before .before .before .before .before .before .before .before .before .before .before .before
-    .before .before .before .before .before .before .before .before .pre .1)
-    (sym (content-is (elementOf (c .before .before .before .before .before .before .before .before .before .before .before .before
-    .before .before .before .before .before .before .before .before .before .before .before .before .before .before .before
-    .before .before .before .before .before .before .before .before .before .before .before .args .script .now)
+    .before .before .before .before .before .before .before .before .before .before .before .before .args .script .now)
     (c .before .before .before .before .before .before .before .before .before .before .before .before .before .before .before
     .before .before .before .before .before .before .before .before .before .before .before .before .before .before .before
     .before .before .before .before .before .before .before .before .args .characters .now)
@@ -335,32 +319,46 @@ returns-5 c =
     .before .before .before .before .before .before .before .before .before .args .s .p)
     (c .before .before .before .before .before .before .before .before .before .before .before .before .before .before .before
     .before .before .before .before .before .before .before .before .before .before .before .before .before .before .before
-    .before .before .before .before .before .before .before .before .args .e)))
-    ∙ passes (c .before .before .before .before .before .before .before .before .before .before .before .before .before .before
-    .before .before .before .before .before .before .before .before .before .before .before .before .before .before
-    .is-text-content .ensures) (c .before .before .before .before .before .before .before .before .before .before .before .before
-    .before .before .before .before .before .before .before .before .before .before .before .before .before .before .before .if1
-    .left)) _ (c .before .before .before .before .before .before .before .before .before .before .before .before .before .before
+    .before .before .before .before .before .before .before .before .args .e)) in
+    let within = c .before .before .before .before .before .before .before .before .before .before .before .before .before .before
+    .before .before .before .before .before .before .before .before .before .before .before .before .before .before .before
+    .before .before .before .before .before .before .before .before .before .pre .0 in
+    let opens = c .before .before .before .before .before .before .before .before .before .before .before .before .before .before
+    .before .before .before .before .before .before .before .before .before .before .before .before .before .before .before
+    .before .before .before .before .before .before .before .before .before .pre .1 .0 in
+    let recalled = c .before .before .before .before .before .before .before .before .before .before .before .before .before
+    .before .before .before .before .before .before .before .before .before .before .before .before .before .before .before
+    .before .before .before .before .before .before .before .before .before .before .pre .1 .1 in
+    let is = sym content ∙ passes (c .before .before .before .before .before .before .before .before .before .before .before
+    .before .before .before .before .before .before .before .before .before .before .before .before .before .before .before
+    .before .before .is-text-content .ensures)
+    (c .before .before .before .before .before .before .before .before .before .before .before .before .before .before .before
+    .before .before .before .before .before .before .before .before .before .before .before .before .if1 .left) in
+    let named = c .before .before .before .before .before .before .before .before .before .before .before .before .before .before
     .before .before .before .before .before .before .before .before .before .before .text-tag-of .ensures
     ∙ ap tagIn (c .before .before .before .before .before .before .before .before .before .before .before .before .before .before
     .before .before .before .before .before .before .before .before .before .before .before .before .before .before .before
-    .before .before .before .code-of .ensures)) _ _ _ _ _
-    (element-behind _ _ _ _ (c .before .before .before .before .before .before .before .before .before .before .before .before
-    .before .before .before .before .before .before .before .before .before .before .before .parse-svg-element .ensures .1) _ _
+    .before .before .before .code-of .ensures) in
+    let nodes = element-behind _ _ _ _ (c .before .before .before .before .before .before .before .before .before .before .before
+    .before .before .before .before .before .before .before .before .before .before .before .before .parse-svg-element .ensures
+    .1) _ _ (c .before .before .before .before .before .before .before .before .before .before .before .before .before .before
+    .before .before .before .taken .given .1) in
+    let told = element-done _ _ _ _ _ (c .before .before .before .before .before .before .before .before .before .before .before
+    .before .before .before .before .before .before .before .before .before .before .before .before .parse-svg-element .ensures .0
     (c .before .before .before .before .before .before .before .before .before .before .before .before .before .before .before
-    .before .before .taken .given .1)) (element-done _ _ _ _ _ (c .before .before .before .before .before .before .before .before
     .before .before .before .before .before .before .before .before .before .before .before .before .before .before .before
-    .parse-svg-element .ensures .0 (c .before .before .before .before .before .before .before .before .before .before .before
-    .before .before .before .before .before .before .before .before .before .before .before .before .before .before .before
-    .before .before .before .before .before .before .before .before .before .before .before .before .args .text .now)) _ _
+    .before .before .before .before .before .before .before .before .args .text .now)) _ _
     (c .before .before .before .before .before .before .before .before .before .before .before .before .before .before .before
-    .before .before .taken .given .1)) (sym (c .before .before .before .before .before .before .before .before .before .before
+    .before .before .taken .given .1) in
+    let tref = sym (c .before .before .before .before .before .before .before .before .before .before .before .before .before
     .before .before .before .before .before .before .before .before .before .before .before .before .before .before .before
-    .before .before .before .before .before .before .before .code-of .ensures)
-    ∙ c .before .before .before .before .before .before .before .before .before .before .before .before .if2 .left) _ _ _
-    (append-done _ _ _ _ _ (c .before .before .before .before .before .before .before .before .add-quoted .ensures) _
-    (c .before .before .more .given .1)) _ (c .past-element2 .ensures .0) (c .past-element2 .ensures .1 .0)
-    (c .past-element2 .ensures .1 .1)
+    .before .before .before .before .code-of .ensures)
+    ∙ c .before .before .before .before .before .before .before .before .before .before .before .before .if2 .left in
+    let done = append-done _ _ _ _ _ (c .before .before .before .before .before .before .before .before .add-quoted .ensures) _
+    (c .before .before .more .given .1) in
+    let on = goes-tref _ _ _ _ _ _ _ within _ opens is _ named _ _ _ _ _ nodes told tref _ _ _ done _
+    (c .past-element2 .ensures .0) (c .past-element2 .ensures .1 .0) (c .past-element2 .ensures .1 .1) in
+    (on .0, on .1, tref-recalled _ _ _ _ _ _ _ within _ opens is _ named _ _ _ _ _ nodes told tref _ _ _ done _ _ recalled)
 
 pub begin-spec : {M : Type 1} → statement M
 begin-spec =
@@ -375,6 +373,7 @@ begin-spec =
     enum-known-k
     enum-known-taken
     get-xmlspace-requires
+    push-requires
     same-length
     same-length-2
     returns-2
