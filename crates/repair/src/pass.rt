@@ -36,7 +36,7 @@ fn element_code(pass: u32) -> u32
 }
 
 // Is node i an element with that code?
-fn is_named(nodes: &[u32], code: u32, i: u32) -> bool
+pub fn is_named(nodes: &[u32], code: u32, i: u32) -> bool
     requires { ⌜ 8 * i + 7 < length (now nodes) ⌝ }
     ensures { λ r. ⌜ r ≡ isNamed (nodesRead (now (nodes .entry))) code i ⌝ }
 {
