@@ -1,10 +1,10 @@
 -- The answer of an operation on the tables as the model has it, and what the steps of a build ask.
 use mathlib.Core.Path.{_≡_}
-use Prim.Native.Nat.{ℕ}
+use Prim.Native.Nat.{ℕ, _≤_}
 use mathlib.Core.List.{List}
 use lib.ListN.{length}
 use Rattle.model.specs.Check.{check}
-use Rattle.model.specs.Tables.{Tree, cleared}
+use Rattle.model.specs.Tables.{Tree, cleared, rooted}
 use Rattle.model.specs.Build.{Result}
 use Rattle.model.specs.Theorems.Kept.{Tidy}
 use Rattle.tree.specs.declared.Counts.{Counts}
@@ -35,3 +35,9 @@ clearedAs ns es bs = cleared (length ns) (length es) (length bs)
 pub record Tended (script chars : List ℕ) (t : Tree) : Type 0 where
   pub checked : check script chars ≡ 0
   pub tidy : Tidy (length chars) t
+
+-- The same with the root alone in cleared tables.
+pub record Rooted (script chars : List ℕ) (t : Tree) : Type 0 where
+  pub checked : check script chars ≡ 0
+  pub room : 8 ≤ length (t .nodes)
+  pub root : t ≡ rooted (cleared (length (t .nodes)) (length (t .attributes)) (length (t .text)))
