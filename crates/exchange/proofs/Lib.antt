@@ -1,3 +1,4 @@
 pub mod Bytes
 pub mod Changing
 pub mod Faults
+pub mod Settling
