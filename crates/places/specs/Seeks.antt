@@ -1,5 +1,6 @@
 -- What the searches by number answer, as the model has it.
 use Prim.Native.Nat.{ℕ, _+_}
+use mathlib.Core.Bool.{Bool, false}
 use mathlib.Core.List.{List, [], _∷_}
 use mathlib.Core.Option.{Option, none, some}
 use lib.Dec.{eqb}
@@ -8,14 +9,24 @@ use Rattle.model.specs.EId
 use Rattle.model.specs.Drawing.{Command, opening, attribute, declaration, reading, closing, broken, Mark}
 use Rattle.model.specs.Drawing.{Reading, Source, sourceAt, readingsAt}
 use Rattle.script.specs.declared.cursor.Cursor.{Cursor}
-use Rattle.script.specs.Step.{commandsAt, markOf}
+use Rattle.script.specs.Step.{Fit, commandsAt, markOf}
 use Rattle.places.specs.declared.seek.FoundText.{FoundText}
 use Rattle.places.specs.declared.seek.FoundText.the-variants as text
 
 -- A text that was looked for.
 abbrev pub sourceOf : List ℕ → FoundText → Option Source
-sourceOf chars (text.At c l) = some (sourceAt chars (markOf c) l)
+sourceOf chars (text.At c l b) = some (sourceAt chars (markOf c) l)
 sourceOf chars text.Nothing = none
+
+-- Whether it stands inside an element named style.
+abbrev pub styleOf : FoundText → Bool
+styleOf (text.At c l b) = b
+styleOf text.Nothing = false
+
+-- Its place is one of the script.
+abbrev pub FoundFit : List ℕ → FoundText → Type 0
+FoundFit script (text.At c l b) = Fit script c
+FoundFit script text.Nothing = Unit {0}
 
 -- How many elements are open from the outermost style on, behind the open of an element of that code.
 abbrev pub styleLevel : ℕ → ℕ → ℕ

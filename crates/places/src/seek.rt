@@ -17,46 +17,15 @@ ghost use Rattle.model.specs.Drawing.{events, textNumbered, isInStyle, readingO
 ghost use Rattle.model.specs.Repair.{anyReading};
 ghost use Rattle.script.specs.Step.{Fit, atStart, placeOf};
 ghost use Rattle.walk.specs.Values.{partOf, PartFit};
-ghost use Rattle.places.specs.Seeks.{sourceOf, styleLevel, readingsHere};
+ghost use Rattle.places.specs.Seeks.{sourceOf, styleOf, FoundFit, styleLevel, readingsHere};
 
 // The code of the element style.
 const STYLE: u8 = eid::STYLE as u8;
 
-// A text that is looked for: its own place and its length.
+// A text that is looked for: its own place, its length, and whether it stands inside an element named style.
 pub enum FoundText {
-    At(Cursor, u32),
+    At(Cursor, u32, bool),
     Nothing,
-}
-
-// The text with that number.
-pub fn text_numbered(script: &[u8], characters: &[u8], number: usize) -> FoundText
-    requires { ⌜ length (now script) ≤ mostBytes ⌝ }
-    ensures { λ r. ⌜ sourceOf (now (characters .entry)) r
-        ≡ textNumbered number (events (now (script .entry)) (now (characters .entry))) ⌝ }
-{
-    let mut c = Cursor::start();
-    loop {
-        match next_item(script, characters, c) {
-            Item::Begin(e) => {
-                c = e.inside;
-            }
-            Item::Text(own, len, n) => {
-                if own.texts + 1 == number {
-                    return FoundText::At(own, len);
-                }
-                c = n;
-            }
-            Item::Other(n) => {
-                c = n;
-            }
-            Item::Close(n) => {
-                c = n;
-            }
-            Item::End => {
-                return FoundText::Nothing;
-            }
-        }
-    }
 }
 
 // The elements open from the outermost style on, behind the open of an element.
@@ -83,10 +52,13 @@ fn closed_level(level: usize) -> usize
     level - 1
 }
 
-// Does the text with that number stand inside an element named style?
-pub fn is_in_style(script: &[u8], characters: &[u8], number: usize) -> bool
+// The text with that number, and whether it stands inside an element named style.
+pub fn find_text(script: &[u8], characters: &[u8], number: usize) -> FoundText
     requires { ⌜ length (now script) ≤ mostBytes ⌝ }
-    ensures { λ r. ⌜ r ≡ isInStyle number 0 (events (now (script .entry)) (now (characters .entry))) ⌝ }
+    ensures text { λ r. ⌜ sourceOf (now (characters .entry)) r
+        ≡ textNumbered number (events (now (script .entry)) (now (characters .entry))) ⌝ }
+    ensures style { λ r. ⌜ styleOf r ≡ isInStyle number 0 (events (now (script .entry)) (now (characters .entry))) ⌝ }
+    ensures fit { λ r. ⌜ FoundFit (now (script .entry)) r ⌝ }
 {
     let mut c = Cursor::start();
     let mut level: usize = 0;
@@ -96,11 +68,9 @@ pub fn is_in_style(script: &[u8], characters: &[u8], number: usize) -> bool
                 level = style_level(level, e.name);
                 c = e.inside;
             }
-            Item::Text(own, _, n) => {
-                if level != 0 {
-                    if own.texts + 1 == number {
-                        return true;
-                    }
+            Item::Text(own, len, n) => {
+                if own.texts + 1 == number {
+                    return FoundText::At(own, len, level != 0);
                 }
                 c = n;
             }
@@ -112,7 +82,7 @@ pub fn is_in_style(script: &[u8], characters: &[u8], number: usize) -> bool
                 c = n;
             }
             Item::End => {
-                return false;
+                return FoundText::Nothing;
             }
         }
     }

@@ -1,18 +1,21 @@
+use Prim.Native.Nat.{_-_}
+use mathlib.Core.Path.{sym, ap, subst, _∙_}
+use mathlib.Core.Bool.{Bool}
+use mathlib.Core.Option.{Option}
+use lib.ListN.{length}
 use native.Mathlib.Omega.{arith}
 use borrow.Author.Needs.{needs}
-use Prim.Native.Nat.{_-_}
-use lib.ListN.{length}
-use mathlib.Core.Path.{sym, _∙_}
+use Rattle.model.specs.Drawing.{Source, events}
 use Rattle.walk.proofs.Walks.{item-told}
-use Rattle.model.specs.Drawing.{events, isInStyle}
 use Rattle.walk.proofs.Along.{Along, along-start, at-item, over}
-use Rattle.places.proofs.Search.{style-begin, style-outside, style-miss, style-hit, style-other, style-close, style-none, style-low}
-use Rattle.places.proofs.seek.is_in_style.Statement.{statement}
-use Rattle.places.proofs.seek.is_in_style.Tie as tie
+use Rattle.places.proofs.Search.{Rising, rising, sought, sought-begin, sought-miss, sought-hit, sought-other, sought-close}
+use Rattle.places.proofs.Search.{sought-none, style-low}
+use Rattle.places.proofs.seek.find_text.Statement.{statement}
+use Rattle.places.proofs.seek.find_text.Tie as tie
 
 abbrev Inv-loop : tie.InvT-loop
 Inv-loop script characters number c₀ level₀ c level =
-    Along (isInStyle number) (isInStyle number 0 (events script characters)) script characters c₀ c level
+    Along (sought number) (sought number 0 (events script characters)) script characters c₀ c level
 
 abbrev μ-loop : tie.MeasureT-loop
 μ-loop script characters number c₀ level₀ c level = length script - c .at
@@ -55,61 +58,52 @@ loop-again c =
       c .before .style-level .ensures,
       style-low (c .before .before .before .before .before .before .loop .level) (c .before .before .before .e .given .0 .0 .name),
     ))
-    (style-begin _ _ _ _ _ (c .before .style-level .ensures))
+    (sought-begin _ _ _ _ _ (c .before .style-level .ensures))
 
 enum-known-own : tie.Need-enum-known-own Inv-loop μ-loop
 enum-known-own c = search needs
 
-add-if2 : tie.Need-add-if2 Inv-loop μ-loop
-add-if2 c =
-    let text = item-told _ _ _ _ _ (c .before .before .before .own .given .1)
-    (c .before .before .before .before .before .next-item .ensures) in
-    omega (arith, text .1 .0 .texts, text .1 .0 .at, text .1 .0 .size)
+add-if1 : tie.Need-add-if1 Inv-loop μ-loop
+add-if1 c =
+    let source = item-told _ _ _ _ _ (c .before .before .own .given .1) (c .before .before .before .before .next-item .ensures) in
+    omega (arith, source .1 .0 .texts, source .1 .0 .at, source .1 .0 .size)
 
 returns : tie.Need-returns Inv-loop μ-loop
 returns c =
-    sym (style-hit _ _ _ _ (c .before .before .if1 .taken) (c .if2 .taken))
-    ∙ at-item _ _ _ _ _ _ _ (c .before .before .before .before .before .before .before .loop .inv) _ _
-    (c .before .before .before .before .own .given .1) (c .before .before .before .before .before .before .next-item .ensures)
+    let source = item-told _ _ _ _ _ (c .before .before .before .own .given .1)
+    (c .before .before .before .before .before .next-item .ensures) in
+    let hit = sym (sought-hit _ _ 0 _ _ (c .if1 .taken) (subst (Rising 0) (sym (source .0)) (rising _ 0 _ _ (omega arith))))
+    ∙ at-item _ _ _ _ _ _ _ (c .before .before .before .before .before .before .loop .inv) _ _
+    (c .before .before .before .own .given .1) (c .before .before .before .before .before .next-item .ensures) in
+    (ap (λ (p : Option Source × Bool). p .0) hit, (ap (λ (p : Option Source × Bool). p .1) hit, source .1 .0))
 
 loop-less-2 : tie.Need-loop-less-2 Inv-loop μ-loop
 loop-less-2 c =
-    let text = item-told _ _ _ _ _ (c .before .before .before .before .own .given .1)
-    (c .before .before .before .before .before .before .next-item .ensures) in
-    omega (arith, text .1 .1 .further, text .1 .1 .fit .at)
+    let source = item-told _ _ _ _ _ (c .before .before .before .own .given .1)
+    (c .before .before .before .before .before .next-item .ensures) in
+    omega (arith, source .1 .1 .further, source .1 .1 .fit .at)
 
 loop-again-2 : tie.Need-loop-again-2 Inv-loop μ-loop
 loop-again-2 c =
-    let text = item-told _ _ _ _ _ (c .before .before .before .before .own .given .1)
-    (c .before .before .before .before .before .before .next-item .ensures) in
-    over _ _ _ _ _ _ _ (c .before .before .before .before .before .before .before .loop .inv) _ _
-    (c .before .before .before .before .own .given .1) (c .before .before .before .before .before .before .next-item .ensures) _ _
-    (text .1 .1) (omega arith) (style-miss _ _ _ _ (c .if2 .left))
-
-loop-less-3 : tie.Need-loop-less-3 Inv-loop μ-loop
-loop-less-3 c =
-    let text = item-told _ _ _ _ _ (c .before .before .own .given .1) (c .before .before .before .before .next-item .ensures) in
-    omega (arith, text .1 .1 .further, text .1 .1 .fit .at)
-
-loop-again-3 : tie.Need-loop-again-3 Inv-loop μ-loop
-loop-again-3 c =
-    let text = item-told _ _ _ _ _ (c .before .before .own .given .1) (c .before .before .before .before .next-item .ensures) in
-    over _ _ _ _ _ _ _ (c .before .before .before .before .before .loop .inv) _ _ (c .before .before .own .given .1)
-    (c .before .before .before .before .next-item .ensures) _ _ (text .1 .1) (omega arith) (style-outside _ _ _ _ (c .if1 .left))
+    let source = item-told _ _ _ _ _ (c .before .before .before .own .given .1)
+    (c .before .before .before .before .before .next-item .ensures) in
+    over _ _ _ _ _ _ _ (c .before .before .before .before .before .before .loop .inv) _ _
+    (c .before .before .before .own .given .1) (c .before .before .before .before .before .next-item .ensures) _ _ (source .1 .1)
+    (omega arith) (sought-miss _ _ _ _ (c .if1 .left))
 
 enum-known-n : tie.Need-enum-known-n Inv-loop μ-loop
 enum-known-n c = search needs
 
-loop-less-4 : tie.Need-loop-less-4 Inv-loop μ-loop
-loop-less-4 c =
+loop-less-3 : tie.Need-loop-less-3 Inv-loop μ-loop
+loop-less-3 c =
     let other = item-told _ _ _ _ _ (c .before .n .given .1) (c .before .before .before .next-item .ensures) in
     omega (arith, other .1 .further, other .1 .fit .at)
 
-loop-again-4 : tie.Need-loop-again-4 Inv-loop μ-loop
-loop-again-4 c =
+loop-again-3 : tie.Need-loop-again-3 Inv-loop μ-loop
+loop-again-3 c =
     let other = item-told _ _ _ _ _ (c .before .n .given .1) (c .before .before .before .next-item .ensures) in
     over _ _ _ _ _ _ _ (c .before .before .before .before .loop .inv) _ _ (c .before .n .given .1)
-    (c .before .before .before .next-item .ensures) _ _ (other .1) (omega arith) (style-other _ _ _)
+    (c .before .before .before .next-item .ensures) _ _ (other .1) (omega arith) (sought-other _ _ _)
 
 enum-known-n-2 : tie.Need-enum-known-n-2 Inv-loop μ-loop
 enum-known-n-2 c = search needs
@@ -117,28 +111,29 @@ enum-known-n-2 c = search needs
 closed-level-requires : tie.Need-closed-level-requires Inv-loop μ-loop
 closed-level-requires c κs = search needs
 
-loop-less-5 : tie.Need-loop-less-5 Inv-loop μ-loop
-loop-less-5 c =
+loop-less-4 : tie.Need-loop-less-4 Inv-loop μ-loop
+loop-less-4 c =
     let closed = item-told _ _ _ _ _ (c .before .before .n2 .given .1) (c .before .before .before .before .next-item .ensures) in
     omega (arith, closed .1 .further, closed .1 .fit .at)
 
-loop-again-5 : tie.Need-loop-again-5 Inv-loop μ-loop
-loop-again-5 c =
+loop-again-4 : tie.Need-loop-again-4 Inv-loop μ-loop
+loop-again-4 c =
     let closed = item-told _ _ _ _ _ (c .before .before .n2 .given .1) (c .before .before .before .before .next-item .ensures) in
     over _ _ _ _ _ _ _ (c .before .before .before .before .before .loop .inv) _ _ (c .before .before .n2 .given .1)
     (c .before .before .before .before .next-item .ensures) _ _ (closed .1) (omega (arith, c .closed-level .ensures))
-    (style-close _ _ _ _ (c .closed-level .ensures))
+    (sought-close _ _ _ _ (c .closed-level .ensures))
 
 enum-told : tie.Need-enum-told Inv-loop μ-loop
 enum-told c = search needs
 
 returns-2 : tie.Need-returns-2 Inv-loop μ-loop
 returns-2 c =
-    sym (style-none _ _) ∙ at-item _ _ _ _ _ _ _ (c .before .before .before .loop .inv) _ _ (c .enum-told .given .1)
-    (c .before .before .next-item .ensures)
+    let end = sym (sought-none _ _) ∙ at-item _ _ _ _ _ _ _ (c .before .before .before .loop .inv) _ _ (c .enum-told .given .1)
+    (c .before .before .next-item .ensures) in
+    (ap (λ (p : Option Source × Bool). p .0) end, (ap (λ (p : Option Source × Bool). p .1) end, tt))
 
-pub is-in-style-spec : {M : Type 1} → statement M
-is-in-style-spec =
+pub find-text-spec : {M : Type 1} → statement M
+find-text-spec =
     tie.close
     (tie.spec
     Inv-loop
@@ -151,18 +146,16 @@ is-in-style-spec =
     loop-less
     loop-again
     enum-known-own
-    add-if2
+    add-if1
     returns
     loop-less-2
     loop-again-2
+    enum-known-n
     loop-less-3
     loop-again-3
-    enum-known-n
-    loop-less-4
-    loop-again-4
     enum-known-n-2
     closed-level-requires
-    loop-less-5
-    loop-again-5
+    loop-less-4
+    loop-again-4
     enum-told
     returns-2)
