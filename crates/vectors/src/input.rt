@@ -9,7 +9,7 @@ fn wide(b: u8) -> u32
     b as u32
 }
 
-fn least(a: usize, b: usize) -> usize
+pub fn least(a: usize, b: usize) -> usize
     ensures { λ r. ⌜ r ≤ a ⌝ }
     ensures { λ r. ⌜ r ≤ b ⌝ }
 {

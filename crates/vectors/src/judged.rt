@@ -2,15 +2,15 @@
 use crate::input;
 use libc::STDOUT_FILENO;
 
-fn say(n: u32) {
+pub fn say(n: u32) {
     io::print_decimal(STDOUT_FILENO, n as u64);
 }
 
-fn space() {
+pub fn space() {
     io::write_all(STDOUT_FILENO, b" ");
 }
 
-fn line() {
+pub fn line() {
     io::write_all(STDOUT_FILENO, b"\n");
 }
 
@@ -37,7 +37,7 @@ fn say_answer(a: questions::Answer) {
 }
 
 // The bytes in hexadecimal.
-fn say_bytes(s: &[u8]) {
+pub fn say_bytes(s: &[u8]) {
     let mut i = 0;
     while i < s.len() {
         say_byte(s[i]);
