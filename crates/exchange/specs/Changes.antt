@@ -6,8 +6,8 @@ use lib.ListN.{length}
 use lib.Seq.{sets}
 use Rattle.model.specs.Check.{check}
 use Rattle.model.specs.Build.{build, exchangeFault, changed}
-use Rattle.exchange.specs.declared.target.Target.{Target}
-use Rattle.exchange.specs.declared.target.Target.the-variants as target
+use Rattle.exchange.specs.declared.fault.Target.{Target}
+use Rattle.exchange.specs.declared.fault.Target.the-variants as target
 
 -- The bytes have their place in the characters from `start` on, check takes the drawing without and with them, and with any tables the
 -- two builds give the same number.

@@ -1,7 +1,7 @@
 // exchange: its faults, the bytes put in place, and the build of the drawing with them.
+use crate::fault::Target;
+use crate::fault::target_of;
 use crate::put::put_bytes;
-use crate::target::Target;
-use crate::target::target_of;
 use build::Built;
 use build::tables::refusal;
 use build::whole::build_checked;
