@@ -50,6 +50,31 @@ fn say_tables(built: build::Built, nodes: &[u32], attributes: &[u32], text: &[u8
     say_bytes(text);
 }
 
+fn build_drawing(
+    script: &[u8],
+    characters: &[u8],
+    nodes: &mut [u32],
+    attributes: &mut [u32],
+    text: &mut [u8],
+) {
+    let built = build::whole::build(script, characters, nodes, attributes, text);
+    say_tables(built, nodes, attributes, text);
+}
+
+fn exchange_text(
+    script: &[u8],
+    characters: &mut [u8],
+    number: u32,
+    new: &[u8],
+    nodes: &mut [u32],
+    attributes: &mut [u32],
+    text: &mut [u8],
+) {
+    let built = exchange::whole::exchange(script, characters, number, new, nodes, attributes, text);
+    say_tables(built, nodes, attributes, text);
+    say_bytes(characters);
+}
+
 // The lengths of script, characters and tables, the script, the characters.
 pub fn run_build() {
     let a = input::number();
@@ -67,14 +92,13 @@ pub fn run_build() {
     let x = input::least(n as usize, nodes.len());
     let y = input::least(m as usize, attributes.len());
     let z = input::least(t as usize, text.len());
-    let built = build::whole::build(
+    build_drawing(
         &script[..c],
         &characters[..d],
         &mut nodes[..x],
         &mut attributes[..y],
         &mut text[..z],
     );
-    say_tables(built, &nodes[..x], &attributes[..y], &text[..z]);
 }
 
 // The same with the number of a text and its new bytes; the characters are written, too.
@@ -98,7 +122,7 @@ pub fn run_exchange() {
     let x = input::least(n as usize, nodes.len());
     let y = input::least(m as usize, attributes.len());
     let z = input::least(t as usize, text.len());
-    let built = exchange::whole::exchange(
+    exchange_text(
         &script[..c],
         &mut characters[..d],
         number,
@@ -107,6 +131,4 @@ pub fn run_exchange() {
         &mut attributes[..y],
         &mut text[..z],
     );
-    say_tables(built, &nodes[..x], &attributes[..y], &text[..z]);
-    say_bytes(&characters[..d]);
 }
