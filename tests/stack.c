@@ -4,13 +4,16 @@
 #include <stdio.h>
 #include <string.h>
 
-enum { STACK = 2048 * 1024, NODES = 1 << 21, ENTRIES = 1 << 21 };
+enum { STACK = 2048 * 1024, SMALL = 16 * 1024, NODES = 1 << 21, ENTRIES = 1 << 21 };
 enum { G = 31, SVG = 45, TEXT = 48, TSPAN = 51, USE = 52, HREF = 64, ID = 65 };
 
 static uint8_t script[1 << 17], characters[1 << 17], text[64];
 static uint32_t nodes[NODES], attributes[ENTRIES];
 static size_t script_len, characters_len;
 static svgtree_built built, exchanged;
+static uint32_t checked;
+static svgtree_answer answers[3];
+static svgtree_part part;
 
 static void word(size_t n) {
     for (int i = 0; i < 4; i++) script[script_len++] = (uint8_t)(n >> 8 * i);
@@ -93,14 +96,33 @@ static void *run(void *none) {
     return none;
 }
 
-static int try(const char *what, uint32_t number) {
+/* Check and the questions. */
+static void *ask(void *none) {
+    const svgtree_counts counts = {exchanged.nodes, exchanged.attributes, exchanged.text};
+    const uint32_t last = counts.nodes - 1;
+    checked = svgtree_check(script, script_len, characters, characters_len);
+    answers[0] = svgtree_attribute(nodes, NODES, attributes, ENTRIES, text, sizeof text, characters, characters_len, counts, last, ID);
+    answers[1] = svgtree_find_attribute(nodes, NODES, attributes, ENTRIES, text, sizeof text, characters, characters_len, counts, last, ID);
+    answers[2] = svgtree_element_by_id(nodes, NODES, attributes, ENTRIES, text, sizeof text, characters, characters_len, counts,
+                                       (const uint8_t *)"0", 1);
+    part = svgtree_text(nodes, NODES, attributes, ENTRIES, text, sizeof text, characters, characters_len, counts, last);
+    return none;
+}
+
+static int in_thread(void *(*what)(void *), size_t stack) {
     pthread_t thread;
     pthread_attr_t as;
     pthread_attr_init(&as);
-    pthread_attr_setstacksize(&as, STACK);
-    if (pthread_create(&thread, &as, run, NULL) != 0) return 1;
-    pthread_join(thread, NULL);
-    int wrong = built.number != number || exchanged.number != number;
+    if (pthread_attr_setstacksize(&as, stack) != 0 || pthread_create(&thread, &as, what, NULL) != 0) return 1;
+    return pthread_join(thread, NULL) != 0;
+}
+
+static int try(const char *what, uint32_t number) {
+    int wrong = in_thread(run, STACK) || built.number != number || exchanged.number != number;
+    if (number == 0) {
+        wrong |= in_thread(ask, SMALL) || checked != 0;
+        for (int i = 0; i < 3; i++) wrong |= answers[i].number != 0;
+    }
     printf("%s: %u, %u nodes%s\n", what, exchanged.number, exchanged.nodes, wrong ? ", wrong" : "");
     script_len = characters_len = 0;
     return wrong;
