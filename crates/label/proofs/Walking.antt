@@ -26,7 +26,7 @@ use Rattle.tree.specs.declared.Counts.{Counts}
 use Rattle.tree.specs.Lent.{treeOf, readOf}
 use Rattle.text.specs.declared.XmlSpace.{XmlSpace}
 use Rattle.text.specs.Spaces.{spaceIn}
-use Rattle.text.proofs.Entire.{space-same}
+use Rattle.text.proofs.Seen.{space-same}
 use Rattle.element.specs.Runs.{InAttributes, InDeclarations, Ready}
 use Rattle.element.proofs.Keeping.{kept-ready}
 use Rattle.label.specs.declared.State.{State}
