@@ -643,7 +643,7 @@ fn measure_texts<'n>(name: &str, size: usize, draw: &dyn Fn(usize) -> Drawing<'n
         let plain = Plain::build(d.names, &d.script, &d.characters, true);
         let (mut nodes, mut attributes) = (vec![0u32; 8 * plain.nodes.len()], vec![0u32; 5 * plain.attributes.len()]);
         let mut text = vec![0u8; d.texts];
-        let [checked, built, plainly] = times(30, [
+        let [checked, built, plainly] = times(100, [
             &mut || check(&d),
             &mut || library(&d, &mut nodes, &mut attributes, &mut text),
             &mut || assert_eq!(Plain::build(d.names, &d.script, &d.characters, true).nodes.len(), plain.nodes.len()),

@@ -22,7 +22,7 @@ use Rattle.model.specs.Theorems.Kept.{Tidy, tidy-text}
 use Rattle.element.proofs.Keeping.{element-grown}
 use Rattle.label.specs.Walk.{Sound, quoteOf}
 use Rattle.label.proofs.Handing.{says-same}
-use Rattle.label.proofs.Putting.{quoted-most}
+use Rattle.pieces.proofs.Putting.{quoted-most}
 
 -- From t to u nodes were added, each under e.
 pub record Onward (size e : ℕ) (t u : Tree) : Type 0 where

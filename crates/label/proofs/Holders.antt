@@ -25,8 +25,8 @@ use Rattle.tree.specs.Lent.{treeOf, readOf, outOf, ReadableIn, Climbable}
 use Rattle.tree.proofs.Facts.{readable-in, climbable}
 use Rattle.text.specs.Append.{Appendable, appendIn}
 use Rattle.text.proofs.Appending.{append-in}
-use Rattle.text.proofs.Entire.{space-same}
-use Rattle.label.specs.Quotes.{textsFrom, Quotable, quoteIn}
+use Rattle.text.proofs.Seen.{space-same}
+use Rattle.pieces.specs.Quotes.{textsFrom, Quotable, quoteIn}
 use Rattle.label.specs.Walk.{Holding, quoteOf, Lies}
 
 -- WHAT IS ASKED OF THE TABLES

@@ -1,7 +1,3 @@
-pub mod Summing
-pub mod Putting
-pub mod Quoting
-pub mod Contents
 pub mod Handing
 pub mod Holders
 pub mod Remembering

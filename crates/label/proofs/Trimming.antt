@@ -27,9 +27,9 @@ use Rattle.element.specs.Runs.{InAttributes, InDeclarations, Ready}
 use Rattle.element.proofs.Keeping.{Grown, kept-ready, element-grown}
 use Rattle.text.specs.declared.XmlSpace.{XmlSpace}
 use Rattle.text.specs.Spaces.{spaceIn}
-use Rattle.text.specs.Nodes.{Trimmable}
-use Rattle.text.proofs.Entire.{space-same}
-use Rattle.text.proofs.Steps.{cut-words}
+use Rattle.trimming.specs.Nodes.{Trimmable}
+use Rattle.text.proofs.Seen.{space-same}
+use Rattle.edges.proofs.Steps.{cut-words}
 use Rattle.label.specs.declared.State.{State}
 use Rattle.label.specs.Walk.{Holding, Within, insideOf, whole, Ends, InsideFit}
 use Rattle.label.specs.Whole.{Beginning, Closed}

@@ -26,16 +26,16 @@ use Rattle.tree.specs.declared.Counts.{Counts}
 use Rattle.tree.specs.Lent.{treeOf, readOf}
 use Rattle.text.specs.declared.XmlSpace.{XmlSpace}
 use Rattle.text.specs.Spaces.{spaceIn}
-use Rattle.text.proofs.Entire.{space-same}
+use Rattle.text.proofs.Seen.{space-same}
 use Rattle.element.specs.Runs.{InAttributes, InDeclarations, Ready}
 use Rattle.element.proofs.Keeping.{kept-ready}
 use Rattle.label.specs.declared.State.{State}
 use Rattle.label.specs.declared.Turn.{Turn}
-use Rattle.label.specs.declared.Levels.{Levels}
-use Rattle.label.specs.declared.Above.the-variants as above
-use Rattle.label.specs.Levels.{Pushed, AboveFit, spaceAbove, Recalled}
+use Rattle.pieces.specs.declared.Levels.{Levels}
+use Rattle.pieces.specs.declared.Above.the-variants as above
+use Rattle.pieces.specs.Levels.{Pushed, AboveFit, spaceAbove, Recalled}
 use Rattle.label.specs.Walk.{Holding, quoteOf, Lies, Within, Up, Way, insideOf, Opening, whole, Goes, Ends, TurnFit}
-use Rattle.label.proofs.Contents.{tag-element}
+use Rattle.pieces.proofs.Contents.{tag-element}
 use Rattle.label.proofs.Handing.{spaceFrom, space-from, space-step, old-space}
 use Rattle.label.proofs.Remembering.{recalled-on, recalled-in}
 use Rattle.label.proofs.Growing.{Onward, Under, onward-none, onward-then, element-under, text-onward, quote-onward}

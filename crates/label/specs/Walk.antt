@@ -26,7 +26,7 @@ use Rattle.element.specs.declared.Parsed.the-variants as parsed
 use Rattle.label.specs.declared.State.{State}
 use Rattle.label.specs.declared.Turn.{Turn}
 use Rattle.label.specs.declared.Turn.the-variants as turn
-use Rattle.label.specs.Levels.{Recalled}
+use Rattle.pieces.specs.Levels.{Recalled}
 
 -- A TEXT NODE
 

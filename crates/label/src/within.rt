@@ -1,21 +1,21 @@
 // The inside of a text element (`parse_svg_text_element_impl`), one node after another.
-use crate::Above;
-use crate::Levels;
 use crate::State;
 use crate::Turn;
-use crate::content::code_of;
-use crate::content::is_text_content;
-use crate::content::text_tag_of;
-use crate::quote::append_quoted;
-use crate::remember::nothing;
-use crate::remember::pop;
-use crate::remember::push;
 use element::Parsed;
 use element::parse::parse_svg_element;
 use links::link::FoundElement;
 use links::link::quoted;
 use names::aid;
 use names::eid;
+use pieces::Above;
+use pieces::Levels;
+use pieces::content::code_of;
+use pieces::content::is_text_content;
+use pieces::content::text_tag_of;
+use pieces::quote::append_quoted;
+use pieces::remember::nothing;
+use pieces::remember::pop;
+use pieces::remember::push;
 use script::cursor::Cursor;
 use text::Source;
 use text::XmlSpace;
@@ -43,7 +43,7 @@ ghost use Rattle.script.specs.Step.{markOf};
 ghost use Rattle.walk.specs.Nodes.{elementOf, Standing};
 ghost use Rattle.tree.specs.Lent.{treeOf, readOf, outOf, ReadableIn, Climbable};
 ghost use Rattle.text.specs.Spaces.{spaceIn};
-ghost use Rattle.label.specs.Levels.{Recalled};
+ghost use Rattle.pieces.specs.Levels.{Recalled};
 ghost use Rattle.label.specs.Walk.{Holding, quoteOf, Lies, Within, Opening, TurnFit, InsideFit};
 
 // The space that the parent q of node p hands down, where p hands down `space` and nothing is remembered: it is looked for only where p

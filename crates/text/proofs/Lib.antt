@@ -1,11 +1,3 @@
 pub mod Collapse
-pub mod Blankness
-pub mod Looking
-pub mod Steps
-pub mod Depths
-pub mod Programs
-pub mod Collected
-pub mod Turning
-pub mod Pairing
-pub mod Entire
 pub mod Appending
+pub mod Seen

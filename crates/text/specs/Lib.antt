@@ -1,4 +1,2 @@
 pub mod Spaces
-pub mod Pairs
-pub mod Nodes
 pub mod Append

@@ -1,7 +1,7 @@
 use native.Mathlib.Omega.{arith}
 use Rattle.walk.proofs.Walks.{item-told}
 use Rattle.label.proofs.Holders.{climbs, reads}
-use Rattle.label.proofs.Remembering.{above-told}
+use Rattle.pieces.proofs.Words.{above-told}
 use Rattle.label.proofs.Telling.{opening, append-done, append-none}
 use Rattle.label.proofs.Walking.{holds, space-read, text-lies, text-refused, goes-text, text-recalled, goes-other}
 use Rattle.label.proofs.Walking.{ends-close, goes-up, goes-known, ends-none}

@@ -3,9 +3,9 @@ use mathlib.Core.Path.{sym, ap, _∙_}
 use lib.Dec.{eqb}
 use Rattle.walk.specs.Nodes.{elementOf}
 use Rattle.tree.proofs.Bools.{fails, passes}
-use Rattle.label.specs.Content.{tagIn}
+use Rattle.pieces.specs.Content.{tagIn}
 use Rattle.label.proofs.Holders.{reads}
-use Rattle.label.proofs.Contents.{content-is}
+use Rattle.pieces.proofs.Contents.{content-is}
 use Rattle.label.proofs.Telling.{element-done, element-none, element-behind, append-done, append-none}
 use Rattle.label.proofs.Walking.{ready, in-values, goes-past, new-space, element-refused, goes-in, in-recalled}
 use Rattle.label.proofs.Walking.{tref-holds, tref-refused, goes-tref, tref-recalled}

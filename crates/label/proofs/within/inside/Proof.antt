@@ -4,7 +4,7 @@ use native.Mathlib.Omega.{arith}
 use Prim.Native.Nat.{ℕ, _-_}
 use lib.ListN.{length, length-replicate}
 use Rattle.tree.specs.Lent.{treeOf}
-use Rattle.label.specs.Levels.{Recalled}
+use Rattle.pieces.specs.Levels.{Recalled}
 use Rattle.label.specs.Walk.{Goes}
 use Rattle.label.proofs.Walking.{goes-none, goes-on, ends-on, turn-told}
 use Rattle.label.proofs.within.inside.Statement.{statement}

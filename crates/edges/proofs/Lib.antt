@@ -1,0 +1,4 @@
+pub mod Blankness
+pub mod Looking
+pub mod Steps
+pub mod Programs

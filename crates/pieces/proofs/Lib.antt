@@ -1,0 +1,5 @@
+pub mod Summing
+pub mod Putting
+pub mod Quoting
+pub mod Contents
+pub mod Words

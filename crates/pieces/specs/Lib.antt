@@ -1,0 +1,3 @@
+pub mod Quotes
+pub mod Content
+pub mod Levels
