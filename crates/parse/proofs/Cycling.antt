@@ -53,7 +53,9 @@ module _ (script chars : List ℕ) (left origin p : ℕ) (e : Opened) (t : Tree)
       (elementOf script chars e .number) p t
 
   pub none-copied : r ≡ found.Nothing → done t ≡ copyBuilt script chars left origin p e t
-  none-copied q = ap copies (subst (λ (y : FoundElement). nodeOf script chars y ≡ useTarget (events script chars) (elementOf script chars e) origin) q same)
+  none-copied q =
+      ap copies (subst (λ (y : FoundElement). nodeOf script chars y
+      ≡ useTarget (events script chars) (elementOf script chars e) origin) q same)
 
   module _ (l : Opened) (q : r ≡ found.At l) where
     target : nodeAt script chars l ≡ useTarget (events script chars) (elementOf script chars e) origin

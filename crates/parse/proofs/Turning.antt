@@ -205,8 +205,8 @@ pub handed-fit : (script chars : List ℕ) (left origin : ℕ) (ignored : Bool) 
     (u : Underway script chars (treeOf ns ats bs k) p from) (x : Event) →
     Handed x → (n : Cursor) →
     x ∷ eventsAt script chars n ≡ eventsAt script chars from → Further script from n → (r : Turn) → r ≡ handedOver left k n →
-    TurnFit script chars left origin ignored p from (k .nodes) (childrenBuilt script chars left origin ignored p from (treeOf ns ats bs k)) ns
-    ats bs r
+    TurnFit script chars left origin ignored p from (k .nodes)
+    (childrenBuilt script chars left origin ignored p from (treeOf ns ats bs k)) ns ats bs r
 handed-fit script chars left origin ignored p from ns ats bs k u x h n q f r e =
     subst (λ (y : Turn). TurnFit script chars left origin ignored p from (k .nodes) whole ns ats bs y) (sym e) (go (eqb left 0) refl)
   where

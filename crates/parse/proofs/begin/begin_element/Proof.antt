@@ -6,21 +6,13 @@ use Rattle.parse.proofs.Begins.{other-refused, other-use, other-childre
 use borrow.Author.Needs.{needs}
 use Rattle.parse.proofs.begin.begin_element.Statement.{statement}
 use Rattle.parse.proofs.begin.begin_element.Tie as tie
-use Rattle.parse.proofs.begin.begin_element.Reads as reads
-use Rattle.parse.proofs.begin.begin_element.Lts as lts
-use Rattle.element.proofs.parse.parse_svg_element.Reads as parse-svg-element-reads
-use Rattle.label.proofs.content.code_of.Reads as code-of-reads
-use Rattle.parse.proofs.name.tag_of.Reads as tag-of-reads
 
--- src/begin.rt:71:9
 code-of-requires : tie.Need-code-of-requires
 code-of-requires c κs = search needs
 
--- src/begin.rt:79:9
 tag-of-requires : tie.Need-tag-of-requires
 tag-of-requires c κs = search needs
 
--- src/begin.rt:72:11
 parse-svg-element-requires : tie.Need-parse-svg-element-requires
 parse-svg-element-requires c κs = (
   label-ready _ _ _ _ _ _ _ _ (c .before .before .before .before .before .before .before .before .before .pre .0)
@@ -29,23 +21,18 @@ parse-svg-element-requires c κs = (
       (c .before .before .before .before .before .before .before .before .before .args .ignored),
 )
 
--- src/begin.rt:83:25
 enum-known-k : tie.Need-enum-known-k
 enum-known-k c = search needs
 
--- src/begin.rt:84:22
 enum-known-taken : tie.Need-enum-known-taken
 enum-known-taken c = search needs
 
--- src/begin.rt:86:17
 same-length : tie.Need-same-length
 same-length c = search needs
 
--- src/begin.rt:86:17
 same-length-2 : tie.Need-same-length-2
 same-length-2 c = search needs
 
--- src/begin.rt:86:17
 returns : tie.Need-returns
 returns c =
     let named = c .before .before .before .before .before .before .before .before .before .tag-of .ensures
@@ -61,15 +48,12 @@ returns c =
     (c .before .before .before .before .before .before .before .before .before .before .before .before .code-of .ensures)
     ∙ c .if1 .taken))
 
--- src/begin.rt:53:1
 same-length-3 : tie.Need-same-length-3
 same-length-3 c = search needs
 
--- src/begin.rt:53:1
 same-length-4 : tie.Need-same-length-4
 same-length-4 c = search needs
 
--- src/begin.rt:53:1
 returns-2 : tie.Need-returns-2
 returns-2 c =
     let named = c .before .before .before .before .before .before .before .before .tag-of .ensures
@@ -81,15 +65,12 @@ returns-2 c =
     (c .before .before .before .before .before .before .before .parse-svg-element .ensures .0 _)
     (c .before .before .before .before .before .before .before .parse-svg-element .ensures .1) _ (c .before .k .given .1)
 
--- src/begin.rt:53:1
 same-length-5 : tie.Need-same-length-5
 same-length-5 c = search needs
 
--- src/begin.rt:53:1
 same-length-6 : tie.Need-same-length-6
 same-length-6 c = search needs
 
--- src/begin.rt:53:1
 returns-3 : tie.Need-returns-3
 returns-3 c =
     let named = c .before .before .before .before .before .before .before .before .before .tag-of .ensures

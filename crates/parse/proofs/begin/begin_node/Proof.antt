@@ -6,27 +6,16 @@ use Rattle.parse.proofs.Begins.{begun-deep, begun-skipped}
 use borrow.Author.Needs.{needs}
 use Rattle.parse.proofs.begin.begin_node.Statement.{statement}
 use Rattle.parse.proofs.begin.begin_node.Tie as tie
-use Rattle.parse.proofs.begin.begin_node.Reads as reads
-use Rattle.parse.proofs.begin.begin_node.Lts as lts
-use Rattle.label.proofs.content.code_of.Reads as code-of-reads
-use Rattle.parse.proofs.begin.begin_element.Reads as begin-element-reads
-use Rattle.parse.proofs.begin.begin_text.Reads as begin-text-reads
-use Rattle.parse.proofs.name.is_parsed.Reads as is-parsed-reads
-use Rattle.walk.proofs.node.past_element.Reads as past-element-reads
 
--- src/begin.rt:114:9
 returns : tie.Need-returns
 returns c = begun-deep _ _ _ _ _ _ _ _ _ _ (c .before .before .before .before .before .before .before .pre) (c .if1 .taken)
 
--- src/begin.rt:116:9
 is-parsed-requires : tie.Need-is-parsed-requires
 is-parsed-requires c κs = search needs
 
--- src/begin.rt:117:13
 past-element-requires : tie.Need-past-element-requires
 past-element-requires c κs = search needs
 
--- src/begin.rt:118:9
 returns-2 : tie.Need-returns-2
 returns-2 c =
     begun-skipped _ _ _ _ _ _ (c .before .before .before .before .before .before .before .before .before .before .args .left) _ _
@@ -34,11 +23,9 @@ returns-2 c =
     (omega (arith, c .before .before .before .if1 .left)) (fails (c .before .before .is-parsed .ensures) (c .before .if2 .taken))
     (c .past-element .result) (c .past-element .ensures .0) (c .past-element .ensures .1 .0) (c .past-element .ensures .1 .1)
 
--- src/begin.rt:120:8
 code-of-requires : tie.Need-code-of-requires
 code-of-requires c κs = search needs
 
--- src/begin.rt:121:9
 begin-text-requires : tie.Need-begin-text-requires
 begin-text-requires c κs = (
   c .before .before .before .before .before .before .before .before .before .before .before .before .before .before .pre,
@@ -50,23 +37,18 @@ begin-text-requires c κs = (
   ),
 )
 
--- src/begin.rt:121:9
 same-length : tie.Need-same-length
 same-length c = search needs
 
--- src/begin.rt:121:9
 same-length-2 : tie.Need-same-length-2
 same-length-2 c = search needs
 
--- src/begin.rt:121:9
 same-length-3 : tie.Need-same-length-3
 same-length-3 c = search needs
 
--- src/begin.rt:121:9
 returns-3 : tie.Need-returns-3
 returns-3 c = search needs
 
--- src/begin.rt:134:5
 begin-element-requires : tie.Need-begin-element-requires
 begin-element-requires c κs = (
   c .before .before .before .before .before .before .before .before .before .before .before .before .before .before .pre,
@@ -78,19 +60,15 @@ begin-element-requires c κs = (
   ),
 )
 
--- src/begin.rt:95:1
 same-length-4 : tie.Need-same-length-4
 same-length-4 c = search needs
 
--- src/begin.rt:95:1
 same-length-5 : tie.Need-same-length-5
 same-length-5 c = search needs
 
--- src/begin.rt:95:1
 same-length-6 : tie.Need-same-length-6
 same-length-6 c = search needs
 
--- src/begin.rt:95:1
 returns-4 : tie.Need-returns-4
 returns-4 c = search needs
 

@@ -2,35 +2,25 @@ use Rattle.parse.proofs.Begins.{text-refused, text-done}
 use borrow.Author.Needs.{needs}
 use Rattle.parse.proofs.begin.begin_text.Statement.{statement}
 use Rattle.parse.proofs.begin.begin_text.Tie as tie
-use Rattle.parse.proofs.begin.begin_text.Reads as reads
-use Rattle.parse.proofs.begin.begin_text.Lts as lts
-use Rattle.label.proofs.whole.parse_svg_text_element.Reads as parse-svg-text-element-reads
 
--- src/begin.rt:36:11
 parse-svg-text-element-requires : tie.Need-parse-svg-text-element-requires
 parse-svg-text-element-requires c κs = search needs
 
--- src/begin.rt:47:25
 enum-known-k : tie.Need-enum-known-k
 enum-known-k c = search needs
 
--- src/begin.rt:48:22
 enum-known-taken : tie.Need-enum-known-taken
 enum-known-taken c = search needs
 
--- src/begin.rt:18:1
 same-length : tie.Need-same-length
 same-length c = search needs
 
--- src/begin.rt:18:1
 same-length-2 : tie.Need-same-length-2
 same-length-2 c = search needs
 
--- src/begin.rt:18:1
 same-length-3 : tie.Need-same-length-3
 same-length-3 c = search needs
 
--- src/begin.rt:18:1
 returns : tie.Need-returns
 returns c =
     text-refused _ _ _ _ _ _ _ _ _ _ (c .before .before .before .before .before .before .before .before .before .before .before
@@ -41,19 +31,15 @@ returns c =
     (c .before .before .before .before .before .before .before .before .before .parse-svg-text-element .ensures .1) _
     (c .before .k .given .1)
 
--- src/begin.rt:18:1
 same-length-4 : tie.Need-same-length-4
 same-length-4 c = search needs
 
--- src/begin.rt:18:1
 same-length-5 : tie.Need-same-length-5
 same-length-5 c = search needs
 
--- src/begin.rt:18:1
 same-length-6 : tie.Need-same-length-6
 same-length-6 c = search needs
 
--- src/begin.rt:18:1
 returns-2 : tie.Need-returns-2
 returns-2 c =
     text-done _ _ _ _ _ _ _ _ _ _ (c .before .before .before .before .before .before .before .before .before .before .before

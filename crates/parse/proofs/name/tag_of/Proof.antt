@@ -2,14 +2,10 @@ use mathlib.Core.Path.{refl}
 use borrow.Author.Tests.{eq-eqb, ne-eqb}
 use Rattle.parse.proofs.name.tag_of.Statement.{statement}
 use Rattle.parse.proofs.name.tag_of.Tie as tie
-use Rattle.parse.proofs.name.tag_of.Reads as reads
-use Rattle.parse.proofs.name.tag_of.Lts as lts
 
--- src/name.rt:23:9
 returns : tie.Need-returns
 returns c = rw (eq-eqb _ _ (c .if1 .taken)) refl
 
--- src/name.rt:19:1
 returns-2 : tie.Need-returns-2
 returns-2 c = rw (ne-eqb _ _ (c .if1 .left)) refl
 

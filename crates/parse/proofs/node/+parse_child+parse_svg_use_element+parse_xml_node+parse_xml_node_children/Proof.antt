@@ -106,7 +106,6 @@ parse-xml-node-children-below t =
     (falls 5 parse-xml-node-children-kinds.ps _<_ μ-parse-xml-node-children t)
     parse-xml-node-children.Pre
 
--- src/node.rt:172:11
 parse-child-next-item-requires : (t : ℕ) → parse-child-lts.Need-next-item-requires (
   next-item-reads.Asked,
   next-item-reads.Learnt,
@@ -117,7 +116,6 @@ parse-child-next-item-requires : (t : ℕ) → parse-child-lts.Need-next-item-re
 ) (parse-child-at t) parse-child.Post
 parse-child-next-item-requires t c κs = c .before .before .before .before .before .pre .1 .fit
 
--- src/node.rt:173:21
 parse-child-enum-known-e : (t : ℕ) → parse-child-lts.Need-enum-known-e (
   next-item-reads.Asked,
   next-item-reads.Learnt,
@@ -128,7 +126,6 @@ parse-child-enum-known-e : (t : ℕ) → parse-child-lts.Need-enum-known-e (
 ) (parse-child-at t) parse-child.Post
 parse-child-enum-known-e t c = search needs
 
--- src/node.rt:174:19
 parse-child-parse-xml-node-requires : (t : ℕ) → parse-child-lts.Need-parse-xml-node-requires (
   next-item-reads.Asked,
   next-item-reads.Learnt,
@@ -148,7 +145,6 @@ parse-child-parse-xml-node-requires t c κs = (
       (c .before .before .before .before .before .before .next-item .ensures .1) _ (c .before .before .before .before .e .given .1),
 )
 
--- src/node.rt:187:33
 parse-child-enum-known-k : (t : ℕ) → parse-child-lts.Need-enum-known-k (
   next-item-reads.Asked,
   next-item-reads.Learnt,
@@ -159,7 +155,6 @@ parse-child-enum-known-k : (t : ℕ) → parse-child-lts.Need-enum-known-k (
 ) (parse-child-at t) parse-child.Post
 parse-child-enum-known-k t c = search needs
 
--- src/node.rt:188:30
 parse-child-enum-known-taken : (t : ℕ) → parse-child-lts.Need-enum-known-taken (
   next-item-reads.Asked,
   next-item-reads.Learnt,
@@ -170,7 +165,6 @@ parse-child-enum-known-taken : (t : ℕ) → parse-child-lts.Need-enum-known-tak
 ) (parse-child-at t) parse-child.Post
 parse-child-enum-known-taken t c = search needs
 
--- src/node.rt:191:26
 parse-child-enum-known-n : (t : ℕ) → parse-child-lts.Need-enum-known-n (
   next-item-reads.Asked,
   next-item-reads.Learnt,
@@ -181,7 +175,6 @@ parse-child-enum-known-n : (t : ℕ) → parse-child-lts.Need-enum-known-n (
 ) (parse-child-at t) parse-child.Post
 parse-child-enum-known-n t c = search needs
 
--- src/node.rt:191:32
 parse-child-hand-over-requires : (t : ℕ) → parse-child-lts.Need-hand-over-requires (
   next-item-reads.Asked,
   next-item-reads.Learnt,
@@ -192,7 +185,6 @@ parse-child-hand-over-requires : (t : ℕ) → parse-child-lts.Need-hand-over-re
 ) (parse-child-at t) parse-child.Post
 parse-child-hand-over-requires t c κs = search needs
 
--- src/node.rt:192:21
 parse-child-enum-known-n-2 : (t : ℕ) → parse-child-lts.Need-enum-known-n-2 (
   next-item-reads.Asked,
   next-item-reads.Learnt,
@@ -203,7 +195,6 @@ parse-child-enum-known-n-2 : (t : ℕ) → parse-child-lts.Need-enum-known-n-2 (
 ) (parse-child-at t) parse-child.Post
 parse-child-enum-known-n-2 t c = search needs
 
--- src/node.rt:192:27
 parse-child-hand-over-requires-2 : (t : ℕ) → parse-child-lts.Need-hand-over-requires-2 (
   next-item-reads.Asked,
   next-item-reads.Learnt,
@@ -214,7 +205,6 @@ parse-child-hand-over-requires-2 : (t : ℕ) → parse-child-lts.Need-hand-over-
 ) (parse-child-at t) parse-child.Post
 parse-child-hand-over-requires-2 t c κs = search needs
 
--- src/node.rt:193:21
 parse-child-enum-known-n-3 : (t : ℕ) → parse-child-lts.Need-enum-known-n-3 (
   next-item-reads.Asked,
   next-item-reads.Learnt,
@@ -225,7 +215,6 @@ parse-child-enum-known-n-3 : (t : ℕ) → parse-child-lts.Need-enum-known-n-3 (
 ) (parse-child-at t) parse-child.Post
 parse-child-enum-known-n-3 t c = search needs
 
--- src/node.rt:194:32
 parse-child-enum-told : (t : ℕ) → parse-child-lts.Need-enum-told (
   next-item-reads.Asked,
   next-item-reads.Learnt,
@@ -236,7 +225,6 @@ parse-child-enum-told : (t : ℕ) → parse-child-lts.Need-enum-told (
 ) (parse-child-at t) parse-child.Post
 parse-child-enum-told t c = search needs
 
--- src/node.rt:153:1
 parse-child-same-length : (t : ℕ) → parse-child-lts.Need-same-length (
   next-item-reads.Asked,
   next-item-reads.Learnt,
@@ -247,7 +235,6 @@ parse-child-same-length : (t : ℕ) → parse-child-lts.Need-same-length (
 ) (parse-child-at t) parse-child.Post
 parse-child-same-length t c = search needs
 
--- src/node.rt:153:1
 parse-child-same-length-2 : (t : ℕ) → parse-child-lts.Need-same-length-2 (
   next-item-reads.Asked,
   next-item-reads.Learnt,
@@ -258,7 +245,6 @@ parse-child-same-length-2 : (t : ℕ) → parse-child-lts.Need-same-length-2 (
 ) (parse-child-at t) parse-child.Post
 parse-child-same-length-2 t c = search needs
 
--- src/node.rt:153:1
 parse-child-same-length-3 : (t : ℕ) → parse-child-lts.Need-same-length-3 (
   next-item-reads.Asked,
   next-item-reads.Learnt,
@@ -269,7 +255,6 @@ parse-child-same-length-3 : (t : ℕ) → parse-child-lts.Need-same-length-3 (
 ) (parse-child-at t) parse-child.Post
 parse-child-same-length-3 t c = search needs
 
--- src/node.rt:153:1
 parse-child-returns : (t : ℕ) → parse-child-lts.Need-returns (
   next-item-reads.Asked,
   next-item-reads.Learnt,
@@ -295,7 +280,6 @@ parse-child-returns t c =
     (c .before .before .before .before .before .before .before .before .before .parse-xml-node .ensures .1) _
     (c .before .k .given .1)
 
--- src/node.rt:153:1
 parse-child-same-length-4 : (t : ℕ) → parse-child-lts.Need-same-length-4 (
   next-item-reads.Asked,
   next-item-reads.Learnt,
@@ -306,7 +290,6 @@ parse-child-same-length-4 : (t : ℕ) → parse-child-lts.Need-same-length-4 (
 ) (parse-child-at t) parse-child.Post
 parse-child-same-length-4 t c = search needs
 
--- src/node.rt:153:1
 parse-child-same-length-5 : (t : ℕ) → parse-child-lts.Need-same-length-5 (
   next-item-reads.Asked,
   next-item-reads.Learnt,
@@ -317,7 +300,6 @@ parse-child-same-length-5 : (t : ℕ) → parse-child-lts.Need-same-length-5 (
 ) (parse-child-at t) parse-child.Post
 parse-child-same-length-5 t c = search needs
 
--- src/node.rt:153:1
 parse-child-same-length-6 : (t : ℕ) → parse-child-lts.Need-same-length-6 (
   next-item-reads.Asked,
   next-item-reads.Learnt,
@@ -328,7 +310,6 @@ parse-child-same-length-6 : (t : ℕ) → parse-child-lts.Need-same-length-6 (
 ) (parse-child-at t) parse-child.Post
 parse-child-same-length-6 t c = search needs
 
--- src/node.rt:153:1
 parse-child-returns-2 : (t : ℕ) → parse-child-lts.Need-returns-2 (
   next-item-reads.Asked,
   next-item-reads.Learnt,
@@ -354,7 +335,6 @@ parse-child-returns-2 t c =
     (c .before .before .before .before .before .before .before .before .before .parse-xml-node .ensures .1) _ _
     (c .before .taken .given .1)
 
--- src/node.rt:153:1
 parse-child-returns-3 : (t : ℕ) → parse-child-lts.Need-returns-3 (
   next-item-reads.Asked,
   next-item-reads.Learnt,
@@ -371,7 +351,6 @@ parse-child-returns-3 t c =
     (c .before .before .before .before .next-item .ensures .0) (c .before .before .before .before .next-item .ensures .1) _ _ _
     (c .before .before .n .given .1) _ (c .hand-over .ensures)
 
--- src/node.rt:153:1
 parse-child-returns-4 : (t : ℕ) → parse-child-lts.Need-returns-4 (
   next-item-reads.Asked,
   next-item-reads.Learnt,
@@ -388,7 +367,6 @@ parse-child-returns-4 t c =
     (c .before .before .before .before .next-item .ensures .0) (c .before .before .before .before .next-item .ensures .1) _
     (c .before .before .n2 .given .1) _ (c .hand-over2 .ensures)
 
--- src/node.rt:153:1
 parse-child-returns-5 : (t : ℕ) → parse-child-lts.Need-returns-5 (
   next-item-reads.Asked,
   next-item-reads.Learnt,
@@ -405,7 +383,6 @@ parse-child-returns-5 t c =
     (c .before .before .before .next-item .ensures .0) (c .before .before .before .next-item .ensures .1) _
     (c .before .n3 .given .1)
 
--- src/node.rt:153:1
 parse-child-returns-6 : (t : ℕ) → parse-child-lts.Need-returns-6 (
   next-item-reads.Asked,
   next-item-reads.Learnt,
@@ -421,7 +398,6 @@ parse-child-returns-6 t c =
     (c .before .before .before .before .before .before .before .before .pre .1) _ (c .before .before .next-item .ensures .0)
     (c .before .before .next-item .ensures .1) (c .enum-told .given .1)
 
--- src/node.rt:113:11
 parse-svg-use-element-use-target-requires :
     (t : ℕ) → parse-svg-use-element-lts.Need-use-target-requires (
       use-target-reads.Asked,
@@ -435,7 +411,6 @@ parse-svg-use-element-use-target-requires :
     ) (parse-svg-use-element-at t) parse-svg-use-element.Post
 parse-svg-use-element-use-target-requires t c κs = c .before .before .before .before .before .pre .1 .1 .0
 
--- src/node.rt:114:26
 parse-svg-use-element-enum-known-l : (t : ℕ) → parse-svg-use-element-lts.Need-enum-known-l (
   use-target-reads.Asked,
   use-target-reads.Learnt,
@@ -448,7 +423,6 @@ parse-svg-use-element-enum-known-l : (t : ℕ) → parse-svg-use-element-lts.Nee
 ) (parse-svg-use-element-at t) parse-svg-use-element.Post
 parse-svg-use-element-enum-known-l t c = search needs
 
--- src/node.rt:122:17
 parse-svg-use-element-two-less-requires :
     (t : ℕ) → parse-svg-use-element-lts.Need-two-less-requires (
       use-target-reads.Asked,
@@ -462,7 +436,6 @@ parse-svg-use-element-two-less-requires :
     ) (parse-svg-use-element-at t) parse-svg-use-element.Post
 parse-svg-use-element-two-less-requires t c κs = search needs
 
--- src/node.rt:123:17
 parse-svg-use-element-add-parse-xml-node :
     (t : ℕ) → parse-svg-use-element-lts.Need-add-parse-xml-node (
       use-target-reads.Asked,
@@ -485,7 +458,6 @@ parse-svg-use-element-add-parse-xml-node t c =
           .0 .own .size,
     )
 
--- src/node.rt:115:19
 parse-svg-use-element-parse-xml-node-requires :
     (t : ℕ) → parse-svg-use-element-lts.Need-parse-xml-node-requires (
       use-target-reads.Asked,
@@ -532,7 +504,6 @@ parse-svg-use-element-parse-xml-node-requires t c κs = (
   ),
 )
 
--- src/node.rt:128:33
 parse-svg-use-element-enum-known-k : (t : ℕ) → parse-svg-use-element-lts.Need-enum-known-k (
   use-target-reads.Asked,
   use-target-reads.Learnt,
@@ -545,7 +516,6 @@ parse-svg-use-element-enum-known-k : (t : ℕ) → parse-svg-use-element-lts.Nee
 ) (parse-svg-use-element-at t) parse-svg-use-element.Post
 parse-svg-use-element-enum-known-k t c = search needs
 
--- src/node.rt:129:30
 parse-svg-use-element-enum-known-taken : (t : ℕ) → parse-svg-use-element-lts.Need-enum-known-taken (
   use-target-reads.Asked,
   use-target-reads.Learnt,
@@ -558,7 +528,6 @@ parse-svg-use-element-enum-known-taken : (t : ℕ) → parse-svg-use-element-lts
 ) (parse-svg-use-element-at t) parse-svg-use-element.Post
 parse-svg-use-element-enum-known-taken t c = search needs
 
--- src/node.rt:130:25
 parse-svg-use-element-past-element-requires :
     (t : ℕ) → parse-svg-use-element-lts.Need-past-element-requires (
       use-target-reads.Asked,
@@ -574,7 +543,6 @@ parse-svg-use-element-past-element-requires t c κs =
     c .before .before .before .before .before .before .before .before .before .before .before .before .before .before .before
     .before .before .before .before .before .before .before .before .before .pre .1 .0 .fit
 
--- src/node.rt:136:17
 parse-svg-use-element-enum-told : (t : ℕ) → parse-svg-use-element-lts.Need-enum-told (
   use-target-reads.Asked,
   use-target-reads.Learnt,
@@ -587,7 +555,6 @@ parse-svg-use-element-enum-told : (t : ℕ) → parse-svg-use-element-lts.Need-e
 ) (parse-svg-use-element-at t) parse-svg-use-element.Post
 parse-svg-use-element-enum-told t c = search needs
 
--- src/node.rt:136:17
 parse-svg-use-element-past-element-requires-2 :
     (t : ℕ) → parse-svg-use-element-lts.Need-past-element-requires-2 (
       use-target-reads.Asked,
@@ -601,7 +568,6 @@ parse-svg-use-element-past-element-requires-2 :
     ) (parse-svg-use-element-at t) parse-svg-use-element.Post
 parse-svg-use-element-past-element-requires-2 t c κs = c .before .before .before .before .before .before .before .before .pre .1 .0 .fit
 
--- src/node.rt:91:1
 parse-svg-use-element-same-length : (t : ℕ) → parse-svg-use-element-lts.Need-same-length (
   use-target-reads.Asked,
   use-target-reads.Learnt,
@@ -614,7 +580,6 @@ parse-svg-use-element-same-length : (t : ℕ) → parse-svg-use-element-lts.Need
 ) (parse-svg-use-element-at t) parse-svg-use-element.Post
 parse-svg-use-element-same-length t c = search needs
 
--- src/node.rt:91:1
 parse-svg-use-element-same-length-2 : (t : ℕ) → parse-svg-use-element-lts.Need-same-length-2 (
   use-target-reads.Asked,
   use-target-reads.Learnt,
@@ -627,7 +592,6 @@ parse-svg-use-element-same-length-2 : (t : ℕ) → parse-svg-use-element-lts.Ne
 ) (parse-svg-use-element-at t) parse-svg-use-element.Post
 parse-svg-use-element-same-length-2 t c = search needs
 
--- src/node.rt:91:1
 parse-svg-use-element-same-length-3 : (t : ℕ) → parse-svg-use-element-lts.Need-same-length-3 (
   use-target-reads.Asked,
   use-target-reads.Learnt,
@@ -640,7 +604,6 @@ parse-svg-use-element-same-length-3 : (t : ℕ) → parse-svg-use-element-lts.Ne
 ) (parse-svg-use-element-at t) parse-svg-use-element.Post
 parse-svg-use-element-same-length-3 t c = search needs
 
--- src/node.rt:91:1
 parse-svg-use-element-returns : (t : ℕ) → parse-svg-use-element-lts.Need-returns (
   use-target-reads.Asked,
   use-target-reads.Learnt,
@@ -672,7 +635,6 @@ parse-svg-use-element-returns t c = (
   tt,
 )
 
--- src/node.rt:91:1
 parse-svg-use-element-same-length-4 : (t : ℕ) → parse-svg-use-element-lts.Need-same-length-4 (
   use-target-reads.Asked,
   use-target-reads.Learnt,
@@ -685,7 +647,6 @@ parse-svg-use-element-same-length-4 : (t : ℕ) → parse-svg-use-element-lts.Ne
 ) (parse-svg-use-element-at t) parse-svg-use-element.Post
 parse-svg-use-element-same-length-4 t c = search needs
 
--- src/node.rt:91:1
 parse-svg-use-element-same-length-5 : (t : ℕ) → parse-svg-use-element-lts.Need-same-length-5 (
   use-target-reads.Asked,
   use-target-reads.Learnt,
@@ -698,7 +659,6 @@ parse-svg-use-element-same-length-5 : (t : ℕ) → parse-svg-use-element-lts.Ne
 ) (parse-svg-use-element-at t) parse-svg-use-element.Post
 parse-svg-use-element-same-length-5 t c = search needs
 
--- src/node.rt:91:1
 parse-svg-use-element-same-length-6 : (t : ℕ) → parse-svg-use-element-lts.Need-same-length-6 (
   use-target-reads.Asked,
   use-target-reads.Learnt,
@@ -711,7 +671,6 @@ parse-svg-use-element-same-length-6 : (t : ℕ) → parse-svg-use-element-lts.Ne
 ) (parse-svg-use-element-at t) parse-svg-use-element.Post
 parse-svg-use-element-same-length-6 t c = search needs
 
--- src/node.rt:91:1
 parse-svg-use-element-returns-2 : (t : ℕ) → parse-svg-use-element-lts.Need-returns-2 (
   use-target-reads.Asked,
   use-target-reads.Learnt,
@@ -746,7 +705,6 @@ parse-svg-use-element-returns-2 t c = (
       (c .before .before .taken .given .1)),
 )
 
--- src/node.rt:91:1
 parse-svg-use-element-returns-3 : (t : ℕ) → parse-svg-use-element-lts.Need-returns-3 (
   use-target-reads.Asked,
   use-target-reads.Learnt,
@@ -769,7 +727,6 @@ parse-svg-use-element-returns-3 t c = (
       (c .past-element2 .ensures .1 .0) (c .past-element2 .ensures .1 .1),
 )
 
--- src/node.rt:46:11
 parse-xml-node-begin-node-requires : (t : ℕ) → parse-xml-node-lts.Need-begin-node-requires (
   begin-node-reads.Asked,
   begin-node-reads.Learnt,
@@ -780,7 +737,6 @@ parse-xml-node-begin-node-requires : (t : ℕ) → parse-xml-node-lts.Need-begin
 ) (parse-xml-node-at t) parse-xml-node.Post
 parse-xml-node-begin-node-requires t c κs = c .before .before .before .before .before .before .before .before .pre .1 .0
 
--- src/node.rt:58:24
 parse-xml-node-enum-known-k : (t : ℕ) → parse-xml-node-lts.Need-enum-known-k (
   begin-node-reads.Asked,
   begin-node-reads.Learnt,
@@ -791,7 +747,6 @@ parse-xml-node-enum-known-k : (t : ℕ) → parse-xml-node-lts.Need-enum-known-k
 ) (parse-xml-node-at t) parse-xml-node.Post
 parse-xml-node-enum-known-k t c = search needs
 
--- src/node.rt:59:23
 parse-xml-node-enum-known-taken : (t : ℕ) → parse-xml-node-lts.Need-enum-known-taken (
   begin-node-reads.Asked,
   begin-node-reads.Learnt,
@@ -802,7 +757,6 @@ parse-xml-node-enum-known-taken : (t : ℕ) → parse-xml-node-lts.Need-enum-kno
 ) (parse-xml-node-at t) parse-xml-node.Post
 parse-xml-node-enum-known-taken t c = search needs
 
--- src/node.rt:60:25
 parse-xml-node-enum-known-taken-2 : (t : ℕ) → parse-xml-node-lts.Need-enum-known-taken-2 (
   begin-node-reads.Asked,
   begin-node-reads.Learnt,
@@ -813,7 +767,6 @@ parse-xml-node-enum-known-taken-2 : (t : ℕ) → parse-xml-node-lts.Need-enum-k
 ) (parse-xml-node-at t) parse-xml-node.Post
 parse-xml-node-enum-known-taken-2 t c = search needs
 
--- src/node.rt:67:13
 parse-xml-node-sub-parse-xml-node-children :
     (t : ℕ) → parse-xml-node-lts.Need-sub-parse-xml-node-children (
       begin-node-reads.Asked,
@@ -835,7 +788,6 @@ parse-xml-node-sub-parse-xml-node-children t c =
     (c .before .before .before .before .before .before .before .before .before .before .before .before .begin-node .ensures)
     (c .before .before .before .before .taken2 .given .1)) .1 .above
 
--- src/node.rt:60:43
 parse-xml-node-parse-xml-node-children-requires :
     (t : ℕ) → parse-xml-node-lts.Need-parse-xml-node-children-requires (
       begin-node-reads.Asked,
@@ -865,7 +817,6 @@ parse-xml-node-parse-xml-node-children-requires t c κs =
       m .1 .under,
     )
 
--- src/node.rt:73:20
 parse-xml-node-enum-known-taken-3 : (t : ℕ) → parse-xml-node-lts.Need-enum-known-taken-3 (
   begin-node-reads.Asked,
   begin-node-reads.Learnt,
@@ -876,7 +827,6 @@ parse-xml-node-enum-known-taken-3 : (t : ℕ) → parse-xml-node-lts.Need-enum-k
 ) (parse-xml-node-at t) parse-xml-node.Post
 parse-xml-node-enum-known-taken-3 t c = search needs
 
--- src/node.rt:73:38
 parse-xml-node-parse-svg-use-element-requires :
     (t : ℕ) → parse-xml-node-lts.Need-parse-svg-use-element-requires (
       begin-node-reads.Asked,
@@ -912,7 +862,6 @@ parse-xml-node-parse-svg-use-element-requires t c κs =
       ),
     )
 
--- src/node.rt:25:1
 parse-xml-node-same-length : (t : ℕ) → parse-xml-node-lts.Need-same-length (
   begin-node-reads.Asked,
   begin-node-reads.Learnt,
@@ -923,7 +872,6 @@ parse-xml-node-same-length : (t : ℕ) → parse-xml-node-lts.Need-same-length (
 ) (parse-xml-node-at t) parse-xml-node.Post
 parse-xml-node-same-length t c = search needs
 
--- src/node.rt:25:1
 parse-xml-node-same-length-2 : (t : ℕ) → parse-xml-node-lts.Need-same-length-2 (
   begin-node-reads.Asked,
   begin-node-reads.Learnt,
@@ -934,7 +882,6 @@ parse-xml-node-same-length-2 : (t : ℕ) → parse-xml-node-lts.Need-same-length
 ) (parse-xml-node-at t) parse-xml-node.Post
 parse-xml-node-same-length-2 t c = search needs
 
--- src/node.rt:25:1
 parse-xml-node-same-length-3 : (t : ℕ) → parse-xml-node-lts.Need-same-length-3 (
   begin-node-reads.Asked,
   begin-node-reads.Learnt,
@@ -945,7 +892,6 @@ parse-xml-node-same-length-3 : (t : ℕ) → parse-xml-node-lts.Need-same-length
 ) (parse-xml-node-at t) parse-xml-node.Post
 parse-xml-node-same-length-3 t c = search needs
 
--- src/node.rt:25:1
 parse-xml-node-returns : (t : ℕ) → parse-xml-node-lts.Need-returns (
   begin-node-reads.Asked,
   begin-node-reads.Learnt,
@@ -966,7 +912,6 @@ parse-xml-node-returns t c = (
   tt,
 )
 
--- src/node.rt:25:1
 parse-xml-node-same-length-4 : (t : ℕ) → parse-xml-node-lts.Need-same-length-4 (
   begin-node-reads.Asked,
   begin-node-reads.Learnt,
@@ -977,7 +922,6 @@ parse-xml-node-same-length-4 : (t : ℕ) → parse-xml-node-lts.Need-same-length
 ) (parse-xml-node-at t) parse-xml-node.Post
 parse-xml-node-same-length-4 t c = search needs
 
--- src/node.rt:25:1
 parse-xml-node-same-length-5 : (t : ℕ) → parse-xml-node-lts.Need-same-length-5 (
   begin-node-reads.Asked,
   begin-node-reads.Learnt,
@@ -988,7 +932,6 @@ parse-xml-node-same-length-5 : (t : ℕ) → parse-xml-node-lts.Need-same-length
 ) (parse-xml-node-at t) parse-xml-node.Post
 parse-xml-node-same-length-5 t c = search needs
 
--- src/node.rt:25:1
 parse-xml-node-same-length-6 : (t : ℕ) → parse-xml-node-lts.Need-same-length-6 (
   begin-node-reads.Asked,
   begin-node-reads.Learnt,
@@ -999,7 +942,6 @@ parse-xml-node-same-length-6 : (t : ℕ) → parse-xml-node-lts.Need-same-length
 ) (parse-xml-node-at t) parse-xml-node.Post
 parse-xml-node-same-length-6 t c = search needs
 
--- src/node.rt:25:1
 parse-xml-node-returns-2 : (t : ℕ) → parse-xml-node-lts.Need-returns-2 (
   begin-node-reads.Asked,
   begin-node-reads.Learnt,
@@ -1020,7 +962,6 @@ parse-xml-node-returns-2 t c =
     (c .before .taken .given .1) in
     (m .0 _, m .1)
 
--- src/node.rt:25:1
 parse-xml-node-same-length-7 : (t : ℕ) → parse-xml-node-lts.Need-same-length-7 (
   begin-node-reads.Asked,
   begin-node-reads.Learnt,
@@ -1031,7 +972,6 @@ parse-xml-node-same-length-7 : (t : ℕ) → parse-xml-node-lts.Need-same-length
 ) (parse-xml-node-at t) parse-xml-node.Post
 parse-xml-node-same-length-7 t c = search needs
 
--- src/node.rt:25:1
 parse-xml-node-same-length-8 : (t : ℕ) → parse-xml-node-lts.Need-same-length-8 (
   begin-node-reads.Asked,
   begin-node-reads.Learnt,
@@ -1042,7 +982,6 @@ parse-xml-node-same-length-8 : (t : ℕ) → parse-xml-node-lts.Need-same-length
 ) (parse-xml-node-at t) parse-xml-node.Post
 parse-xml-node-same-length-8 t c = search needs
 
--- src/node.rt:25:1
 parse-xml-node-same-length-9 : (t : ℕ) → parse-xml-node-lts.Need-same-length-9 (
   begin-node-reads.Asked,
   begin-node-reads.Learnt,
@@ -1053,7 +992,6 @@ parse-xml-node-same-length-9 : (t : ℕ) → parse-xml-node-lts.Need-same-length
 ) (parse-xml-node-at t) parse-xml-node.Post
 parse-xml-node-same-length-9 t c = search needs
 
--- src/node.rt:25:1
 parse-xml-node-returns-3 : (t : ℕ) → parse-xml-node-lts.Need-returns-3 (
   begin-node-reads.Asked,
   begin-node-reads.Learnt,
@@ -1079,7 +1017,6 @@ parse-xml-node-returns-3 t c =
     (c .before .before .before .before .before .before .parse-xml-node-children .ensures .0) (m .0 _)
     (c .before .before .before .before .before .before .parse-xml-node-children .ensures .1)
 
--- src/node.rt:25:1
 parse-xml-node-same-length-10 : (t : ℕ) → parse-xml-node-lts.Need-same-length-10 (
   begin-node-reads.Asked,
   begin-node-reads.Learnt,
@@ -1090,7 +1027,6 @@ parse-xml-node-same-length-10 : (t : ℕ) → parse-xml-node-lts.Need-same-lengt
 ) (parse-xml-node-at t) parse-xml-node.Post
 parse-xml-node-same-length-10 t c = search needs
 
--- src/node.rt:25:1
 parse-xml-node-same-length-11 : (t : ℕ) → parse-xml-node-lts.Need-same-length-11 (
   begin-node-reads.Asked,
   begin-node-reads.Learnt,
@@ -1101,7 +1037,6 @@ parse-xml-node-same-length-11 : (t : ℕ) → parse-xml-node-lts.Need-same-lengt
 ) (parse-xml-node-at t) parse-xml-node.Post
 parse-xml-node-same-length-11 t c = search needs
 
--- src/node.rt:25:1
 parse-xml-node-same-length-12 : (t : ℕ) → parse-xml-node-lts.Need-same-length-12 (
   begin-node-reads.Asked,
   begin-node-reads.Learnt,
@@ -1112,7 +1047,6 @@ parse-xml-node-same-length-12 : (t : ℕ) → parse-xml-node-lts.Need-same-lengt
 ) (parse-xml-node-at t) parse-xml-node.Post
 parse-xml-node-same-length-12 t c = search needs
 
--- src/node.rt:25:1
 parse-xml-node-returns-4 : (t : ℕ) → parse-xml-node-lts.Need-returns-4 (
   begin-node-reads.Asked,
   begin-node-reads.Learnt,
@@ -1140,13 +1074,15 @@ parse-xml-node-returns-4 t c =
 
 abbrev parse-xml-node-children-Inv-loop : parse-xml-node-children-lts.InvT-loop
 parse-xml-node-children-Inv-loop script characters nodes₀ attributes₀ text₀ left origin ignored parent k₀ c₀ nodes attributes text k c =
-    Goes script characters left origin ignored parent c₀ (k₀ .nodes) (childrenBuilt script characters left origin ignored parent c₀ (treeOf nodes₀ attributes₀ text₀ k₀)) (treeOf nodes attributes text k) c × (length nodes ≡ length nodes₀) × (length attributes ≡ length attributes₀) × (length text ≡ length text₀)
+    Goes script characters left origin ignored parent c₀ (k₀ .nodes)
+    (childrenBuilt script characters left origin ignored parent c₀ (treeOf nodes₀ attributes₀ text₀ k₀))
+    (treeOf nodes attributes text k) c × (length nodes ≡ length nodes₀) × (length attributes ≡ length attributes₀)
+    × (length text ≡ length text₀)
 
 abbrev parse-xml-node-children-μ-loop : parse-xml-node-children-lts.MeasureT-loop
 parse-xml-node-children-μ-loop script characters nodes₀ attributes₀ text₀ left origin ignored parent k₀ c₀ nodes attributes text k c =
     length script - c .at
 
--- src/node.rt:221:5
 parse-xml-node-children-loop-holds : (t : ℕ) → parse-xml-node-children-lts.Need-loop-holds (
   parse-child-below t,
   parse-child.Post,
@@ -1164,7 +1100,6 @@ parse-xml-node-children-loop-holds t c = (
   refl,
 )
 
--- src/node.rt:222:15
 parse-xml-node-children-parse-child-requires :
     (t : ℕ) → parse-xml-node-children-lts.Need-parse-child-requires (
       parse-child-below t,
@@ -1179,7 +1114,6 @@ parse-xml-node-children-parse-child-requires t c κs = (
   c .before .before .before .loop .inv .0 .under,
 )
 
--- src/node.rt:235:22
 parse-xml-node-children-enum-known-taken :
     (t : ℕ) → parse-xml-node-children-lts.Need-enum-known-taken (
       parse-child-below t,
@@ -1191,7 +1125,6 @@ parse-xml-node-children-enum-known-taken :
     parse-xml-node-children-μ-loop
 parse-xml-node-children-enum-known-taken t c = search needs
 
--- src/node.rt:221:5
 parse-xml-node-children-loop-less : (t : ℕ) → parse-xml-node-children-lts.Need-loop-less (
   parse-child-below t,
   parse-child.Post,
@@ -1212,7 +1145,6 @@ parse-xml-node-children-loop-less t c =
     (c .before .taken .given .1) in
     omega (arith, w .0, w .1)
 
--- src/node.rt:221:5
 parse-xml-node-children-loop-again : (t : ℕ) → parse-xml-node-children-lts.Need-loop-again (
   parse-child-below t,
   parse-child.Post,
@@ -1236,7 +1168,6 @@ parse-xml-node-children-loop-again t c = (
   search needs,
 )
 
--- src/node.rt:239:23
 parse-xml-node-children-enum-known-r : (t : ℕ) → parse-xml-node-children-lts.Need-enum-known-r (
   parse-child-below t,
   parse-child.Post,
@@ -1247,7 +1178,6 @@ parse-xml-node-children-enum-known-r : (t : ℕ) → parse-xml-node-children-lts
     parse-xml-node-children-μ-loop
 parse-xml-node-children-enum-known-r t c = search needs
 
--- src/node.rt:240:17
 parse-xml-node-children-same-length : (t : ℕ) → parse-xml-node-children-lts.Need-same-length (
   parse-child-below t,
   parse-child.Post,
@@ -1258,7 +1188,6 @@ parse-xml-node-children-same-length : (t : ℕ) → parse-xml-node-children-lts.
     parse-xml-node-children-μ-loop
 parse-xml-node-children-same-length t c = search needs
 
--- src/node.rt:240:17
 parse-xml-node-children-same-length-2 : (t : ℕ) → parse-xml-node-children-lts.Need-same-length-2 (
   parse-child-below t,
   parse-child.Post,
@@ -1269,7 +1198,6 @@ parse-xml-node-children-same-length-2 : (t : ℕ) → parse-xml-node-children-lt
     parse-xml-node-children-μ-loop
 parse-xml-node-children-same-length-2 t c = search needs
 
--- src/node.rt:240:17
 parse-xml-node-children-same-length-3 : (t : ℕ) → parse-xml-node-children-lts.Need-same-length-3 (
   parse-child-below t,
   parse-child.Post,
@@ -1280,7 +1208,6 @@ parse-xml-node-children-same-length-3 : (t : ℕ) → parse-xml-node-children-lt
     parse-xml-node-children-μ-loop
 parse-xml-node-children-same-length-3 t c = search needs
 
--- src/node.rt:240:17
 parse-xml-node-children-returns : (t : ℕ) → parse-xml-node-children-lts.Need-returns (
   parse-child-below t,
   parse-child.Post,

@@ -2,14 +2,10 @@ use mathlib.Core.Path.{refl}
 use borrow.Author.Tests.{eq-eqb, ne-eqb}
 use Rattle.parse.proofs.node.hand_over.Statement.{statement}
 use Rattle.parse.proofs.node.hand_over.Tie as tie
-use Rattle.parse.proofs.node.hand_over.Reads as reads
-use Rattle.parse.proofs.node.hand_over.Lts as lts
 
--- src/node.rt:147:9
 returns : tie.Need-returns
 returns c = rw (eq-eqb _ _ (c .if1 .taken)) refl
 
--- src/node.rt:143:1
 returns-2 : tie.Need-returns-2
 returns-2 c = rw (ne-eqb _ _ (c .if1 .left)) refl
 

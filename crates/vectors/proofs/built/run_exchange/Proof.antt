@@ -3,142 +3,103 @@ use lib.ListN.{length-take}
 use borrow.Author.Needs.{needs}
 use Rattle.vectors.proofs.built.run_exchange.Statement.{statement}
 use Rattle.vectors.proofs.built.run_exchange.Tie as tie
-use Rattle.vectors.proofs.built.run_exchange.Reads as reads
-use Rattle.vectors.proofs.built.run_exchange.Lts as lts
-use Rattle.vectors.proofs.built.exchange_text.Reads as exchange-text-reads
-use Rattle.vectors.proofs.input.bytes.Reads as bytes-reads
-use Rattle.vectors.proofs.input.least.Reads as least-reads
-use Rattle.vectors.proofs.input.number.Reads as number-reads
 
--- src/built.rt:106:9
 number-requires : tie.Need-number-requires
 number-requires c κs = search needs
 
--- src/built.rt:107:9
 number-requires-2 : tie.Need-number-requires-2
 number-requires-2 c κs = search needs
 
--- src/built.rt:108:9
 number-requires-3 : tie.Need-number-requires-3
 number-requires-3 c κs = search needs
 
--- src/built.rt:109:9
 number-requires-4 : tie.Need-number-requires-4
 number-requires-4 c κs = search needs
 
--- src/built.rt:110:9
 number-requires-5 : tie.Need-number-requires-5
 number-requires-5 c κs = search needs
 
--- src/built.rt:111:9
 number-requires-6 : tie.Need-number-requires-6
 number-requires-6 c κs = search needs
 
--- src/built.rt:112:9
 number-requires-7 : tie.Need-number-requires-7
 number-requires-7 c κs = search needs
 
--- src/built.rt:119:26
 slice-aggregate-bytes : tie.Need-slice-aggregate-bytes
 slice-aggregate-bytes c = search needs
 
--- src/built.rt:119:9
 bytes-requires : tie.Need-bytes-requires
 bytes-requires c κs = search needs
 
--- src/built.rt:120:26
 slice-aggregate-bytes-2 : tie.Need-slice-aggregate-bytes-2
 slice-aggregate-bytes-2 c = search needs
 
--- src/built.rt:120:9
 bytes-requires-2 : tie.Need-bytes-requires-2
 bytes-requires-2 c κs = search needs
 
--- src/built.rt:121:26
 slice-aggregate-bytes-3 : tie.Need-slice-aggregate-bytes-3
 slice-aggregate-bytes-3 c = search needs
 
--- src/built.rt:121:9
 bytes-requires-3 : tie.Need-bytes-requires-3
 bytes-requires-3 c κs = search needs
 
--- src/built.rt:122:26
 cast-least : tie.Need-cast-least
 cast-least c = search needs
 
--- src/built.rt:122:9
 least-requires : tie.Need-least-requires
 least-requires c κs = search needs
 
--- src/built.rt:123:26
 cast-least-2 : tie.Need-cast-least-2
 cast-least-2 c = search needs
 
--- src/built.rt:123:9
 least-requires-2 : tie.Need-least-requires-2
 least-requires-2 c κs = search needs
 
--- src/built.rt:124:26
 cast-least-3 : tie.Need-cast-least-3
 cast-least-3 c = search needs
 
--- src/built.rt:124:9
 least-requires-3 : tie.Need-least-requires-3
 least-requires-3 c κs = search needs
 
--- src/built.rt:126:9
 array-share-prefix-script : tie.Need-array-share-prefix-script
 array-share-prefix-script c = search needs
 
--- src/built.rt:126:9
 slice-aggregate-exchange-text : tie.Need-slice-aggregate-exchange-text
 slice-aggregate-exchange-text c = rw length-take (omega arith)
 
--- src/built.rt:127:9
 array-borrow-prefix-characters : tie.Need-array-borrow-prefix-characters
 array-borrow-prefix-characters c = search needs
 
--- src/built.rt:127:9
 slice-aggregate-exchange-text-2 : tie.Need-slice-aggregate-exchange-text-2
 slice-aggregate-exchange-text-2 c = rw length-take (omega arith)
 
--- src/built.rt:129:9
 array-share-prefix-new : tie.Need-array-share-prefix-new
 array-share-prefix-new c = search needs
 
--- src/built.rt:129:9
 slice-aggregate-exchange-text-3 : tie.Need-slice-aggregate-exchange-text-3
 slice-aggregate-exchange-text-3 c = rw length-take (omega arith)
 
--- src/built.rt:130:9
 array-borrow-prefix-nodes : tie.Need-array-borrow-prefix-nodes
 array-borrow-prefix-nodes c = search needs
 
--- src/built.rt:130:9
 slice-aggregate-exchange-text-4 : tie.Need-slice-aggregate-exchange-text-4
 slice-aggregate-exchange-text-4 c = rw length-take (omega arith)
 
--- src/built.rt:131:9
 array-borrow-prefix-attributes : tie.Need-array-borrow-prefix-attributes
 array-borrow-prefix-attributes c = search needs
 
--- src/built.rt:131:9
 slice-aggregate-exchange-text-5 : tie.Need-slice-aggregate-exchange-text-5
 slice-aggregate-exchange-text-5 c = rw length-take (omega arith)
 
--- src/built.rt:132:9
 array-borrow-prefix-text : tie.Need-array-borrow-prefix-text
 array-borrow-prefix-text c = search needs
 
--- src/built.rt:132:9
 slice-aggregate-exchange-text-6 : tie.Need-slice-aggregate-exchange-text-6
 slice-aggregate-exchange-text-6 c = rw length-take (omega arith)
 
--- src/built.rt:125:5
 exchange-text-requires : tie.Need-exchange-text-requires
 exchange-text-requires c κs = search needs
 
--- src/built.rt:105:1
 returns : tie.Need-returns
 returns c = search needs
 

@@ -4,8 +4,6 @@ use borrow.Author.Needs.{needs}
 use lib.ListN.{length}
 use Rattle.vectors.proofs.built.used.Statement.{statement}
 use Rattle.vectors.proofs.built.used.Tie as tie
-use Rattle.vectors.proofs.built.used.Reads as reads
-use Rattle.vectors.proofs.built.used.Lts as lts
 
 abbrev Inv-loop : tie.InvT-loop
 Inv-loop words k₀ k = k ≤ length words
@@ -13,39 +11,30 @@ Inv-loop words k₀ k = k ≤ length words
 abbrev μ-loop : tie.MeasureT-loop
 μ-loop words k₀ k = k
 
--- src/built.rt:15:5
 loop-holds : tie.Need-loop-holds Inv-loop μ-loop
 loop-holds c = search needs
 
--- src/built.rt:16:18
 sub-if1 : tie.Need-sub-if1 Inv-loop μ-loop
 sub-if1 c = search needs
 
--- src/built.rt:16:12
 mul-if1 : tie.Need-mul-if1 Inv-loop μ-loop
 mul-if1 c = search needs
 
--- src/built.rt:16:12
 shared-slice-read-if1 : tie.Need-shared-slice-read-if1 Inv-loop μ-loop
 shared-slice-read-if1 c = search needs
 
--- src/built.rt:17:13
 returns : tie.Need-returns Inv-loop μ-loop
 returns c = search needs
 
--- src/built.rt:19:9
 sub-k : tie.Need-sub-k Inv-loop μ-loop
 sub-k c = search needs
 
--- src/built.rt:15:5
 loop-less : tie.Need-loop-less Inv-loop μ-loop
 loop-less c = search needs
 
--- src/built.rt:15:5
 loop-again : tie.Need-loop-again Inv-loop μ-loop
 loop-again c = search needs
 
--- src/built.rt:11:1
 returns-2 : tie.Need-returns-2 Inv-loop μ-loop
 returns-2 c = search needs
 
