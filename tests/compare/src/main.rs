@@ -1,7 +1,6 @@
 //! The Rust itself beside the port's library. See `USAGE`.
 // Without the Rust only the list is replayed.
 #![cfg_attr(not(feature = "rust"), allow(dead_code))]
-mod built;
 mod codes;
 mod commands;
 mod library;

@@ -1,5 +1,4 @@
 //! Runs over many cases: random ones, small ones, ones with a fault put in.
-use crate::built::Built;
 use crate::case::{self, Case, Side, Wanted};
 use crate::commands::{Bytes, shown};
 use crate::events::Events;
@@ -8,6 +7,7 @@ use crate::questions::{self, Question};
 use crate::record::{Line, recorded};
 use crate::shrink::smaller;
 use crate::{library, limits, small};
+use host::built::Built;
 use host::random::Random;
 use std::panic::{AssertUnwindSafe, catch_unwind};
 
@@ -60,7 +60,7 @@ pub fn library() -> Side<'static> {
         check: &library::check,
         build: &library::build,
         exchange: &library::exchange,
-        questions: &|built, characters, asked| questions::linked(&questions::tables(built, characters), asked),
+        questions: &|built, characters, asked| questions::linked(&built.tables(characters), asked),
     }
 }
 
@@ -228,7 +228,7 @@ pub fn faults(count: u64, seed: u64) -> bool {
             Some(given)
         };
         let questions = |built: &Built, characters: &[u8], asked: &[Question]| {
-            let t = questions::tables(built, characters);
+            let t = built.tables(characters);
             let mut replies = questions::plain(&t, asked);
             for (question, reply) in asked.iter().zip(&mut replies) {
                 match question {
