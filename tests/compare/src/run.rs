@@ -134,6 +134,25 @@ pub fn all_small(sort: &str, most: usize, side: &Side, compared: bool) -> Option
     Some(tally)
 }
 
+/// Drawings of files, with tables of just the size that is needed, larger ones, and one word less of each; and some of their texts
+/// exchanged.
+pub fn drawings(all: &[Bytes], side: &Side, compared: bool) -> Tally {
+    let mut tally = Tally { compared, ..Tally::default() };
+    for (number, bytes) in (1..).zip(all) {
+        let mut see = |slack: [i64; 3], exchange: Option<(u32, Vec<u8>)>| {
+            let case = Case { bytes: bytes.clone(), slack, exchange };
+            one(&mut tally, &case, side, &|| format!("drawing {number}"));
+        };
+        [[0; 3], [11, 7, 3], [-1, 0, 0], [0, -1, 0], [0, 0, -1]].into_iter().for_each(|slack| see(slack, None));
+        let texts = host::texts::texts(&bytes.script, &bytes.characters);
+        let r = &mut Random::new(1, number);
+        for (number, text) in (1..).zip(&texts).step_by(texts.len() / 8 + 1) {
+            see([0; 3], Some((number, host::texts::string(r, text.length))));
+        }
+    }
+    tally
+}
+
 /// Drawings at the limits, with tables of just the size that is needed, and one record less: the Rust's number is document 01's too.
 pub fn limits(side: &Side, compared: bool) -> Tally {
     let mut tally = Tally { compared, ..Tally::default() };

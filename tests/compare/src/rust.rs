@@ -8,6 +8,7 @@ use host::built::{Built, Exchanged};
 use host::check::check;
 use host::names::FIXED;
 use host::rooms::{self, Taken};
+use std::time::{Duration, Instant};
 
 /// What the Rust made of a drawing that check takes.
 pub struct Tree {
@@ -73,6 +74,21 @@ pub fn tree_asked<R>(script: &[u8], characters: &[u8], ask: impl FnOnce(&svgtree
         }
     };
     (tree, answer)
+}
+
+/// `parse_tree` again and again of a drawing that check takes: what is run gets a function that runs it once, and gives its time and how
+/// many nodes the tree has. The tree is dropped behind that time.
+pub fn timed<R>(script: &[u8], characters: &[u8], run: impl FnOnce(&dyn Fn() -> (Duration, usize)) -> R) -> R {
+    let drawing = Drawing::read(script, characters, names());
+    let document = roxmltree::Document::new(&drawing);
+    run(&|| {
+        drawing::within(&drawing, || {
+            let start = Instant::now();
+            let parsed = svgtree::Document::parse_tree(&document, None);
+            let time = start.elapsed();
+            (time, parsed.map_or(0, |doc| seen::nodes(&doc).count()))
+        })
+    })
 }
 
 impl Tree {

@@ -1,4 +1,5 @@
 //! The recorded vectors beside the Rust that runs here.
+use crate::commands::Bytes;
 use crate::rust::{self, Tree};
 use crate::svgtree::seen;
 use host::built::{Built, first_difference};
@@ -169,4 +170,18 @@ pub fn files(files: &[&str]) -> Read<(u64, u64)> {
         differ += not;
     }
     Ok((agree, differ))
+}
+
+/// The drawings of lines that have script and characters.
+pub fn drawings(files: &[&str]) -> Read<Vec<Bytes>> {
+    let mut all = Vec::new();
+    for file in files {
+        let content = std::fs::read_to_string(file).map_err(|e| format!("{file}: {e}"))?;
+        for (k, text) in content.lines().enumerate() {
+            let add = |e| format!("{file}, line {}: {e}", k + 1);
+            let line = Json::read(text).map_err(add)?;
+            all.push(Bytes { script: line.bytes("script").map_err(add)?, characters: line.bytes("characters").map_err(add)? });
+        }
+    }
+    Ok(all)
 }
