@@ -1,4 +1,7 @@
-//! Times of check and of the questions: the port's library beside plain Rust, in one run. See bench/run.
+//! Times of check, of the questions, of build and of exchange: the port's library beside plain Rust, in one run. See bench/run.
+mod building;
+mod drawings;
+
 use host::names::AId;
 use host::questions::Counts;
 use host::scripts::Drawing;
@@ -232,14 +235,35 @@ const SPARSE: &str = "the gripper lifts one layer of loaves and puts it on the p
                       door, then it waits. ";
 
 fn main() {
-    if !(library::CHECK && library::QUESTIONS) {
-        println!(
-            "not linked:{}{}",
-            if library::CHECK { "" } else { " check" },
-            if library::QUESTIONS { "" } else { " questions" }
-        );
+    let parts = [
+        ("check", library::CHECK),
+        ("questions", library::QUESTIONS),
+        ("build", library::BUILD),
+        ("exchange", library::EXCHANGE),
+    ];
+    let missing: Vec<&str> = parts.iter().filter(|p| !p.1).map(|p| p.0).collect();
+    if !missing.is_empty() {
+        println!("not linked: {}", missing.join(", "));
     }
-    check_table();
-    println!();
-    questions_table();
+    let tables: [(&str, fn()); 5] = [
+        ("check", check_table),
+        ("questions", questions_table),
+        ("build", building::build_table),
+        ("exchange", building::exchange_table),
+        ("links", building::links_table),
+    ];
+    let wanted: Vec<String> = std::env::args().skip(1).collect();
+    let run = move || {
+        if let Some(("files", files)) = wanted.split_first().map(|(w, f)| (w.as_str(), f)) {
+            return files.iter().for_each(|f| building::files_table(f));
+        }
+        for (name, table) in tables {
+            if wanted.is_empty() || wanted.iter().any(|w| w == name) {
+                table();
+                println!();
+            }
+        }
+    };
+    // Drawings nest 1,000 deep, and the Rust goes down with them.
+    std::thread::Builder::new().stack_size(1 << 29).spawn(run).unwrap().join().unwrap();
 }

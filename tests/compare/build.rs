@@ -1,4 +1,4 @@
-//! Where the Rust and the port's static library lie, and the codes of names.
+//! Where the Rust lies, and the codes of names.
 use std::env::var;
 use std::path::PathBuf;
 
@@ -45,10 +45,5 @@ fn main() {
         let rust = var("SVGTREE_RUST").map_or(beside, PathBuf::from).canonicalize().expect("the Rust is not there");
         println!("cargo:rerun-if-changed={}", rust.display());
         println!("cargo:rustc-env=SVGTREE_RUST={}", rust.display());
-    }
-    if var("CARGO_FEATURE_LIBRARY").is_ok() {
-        let folder = here.join("../../target/staticlib");
-        println!("cargo:rerun-if-changed={}/libsvgtree.a", folder.display());
-        println!("cargo:rustc-link-search=native={}", folder.display());
     }
 }

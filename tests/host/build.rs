@@ -3,7 +3,8 @@ use std::env::var;
 
 fn main() {
     println!("cargo:rerun-if-changed=build.rs");
-    if var("CARGO_FEATURE_CHECK").is_ok() || var("CARGO_FEATURE_QUESTIONS").is_ok() {
+    let features = ["CHECK", "QUESTIONS", "BUILD"];
+    if features.iter().any(|f| var(format!("CARGO_FEATURE_{f}")).is_ok()) {
         let folder = format!("{}/../../target/staticlib", var("CARGO_MANIFEST_DIR").unwrap());
         println!("cargo:rerun-if-changed={folder}/libsvgtree.a");
         println!("cargo:rustc-link-search=native={folder}");

@@ -1,13 +1,14 @@
 //! One case: a drawing, the lengths of the lent tables and an exchange. The Rust's answer to it, and what another side answers.
-use crate::built::{Built, Exchanged, first_difference};
 use crate::commands::{self, Bytes, Command};
 use crate::events::Events;
 use crate::generate::{self, Theme};
 use crate::library;
 use crate::questions::{self, Question, Reply};
 use crate::rust::{self, Tree};
+use host::built::{Built, Exchanged, first_difference};
 use host::check::check;
 use host::random::Random;
+use host::texts::string;
 
 /// The lengths of the tables stand beside what the Rust takes, so that they keep their sense when the drawing is made smaller.
 #[derive(Clone, Debug)]
@@ -82,7 +83,7 @@ pub fn wanted(case: &Case, all_questions: bool) -> Wanted {
         let words = words(tree.needed(), case.slack);
         let built = tree.built(words);
         let (asked, replies) = answers.filter(|_| built.number == 0).unwrap_or_default();
-        let plain = questions::plain(&questions::tables(&built, characters), &asked);
+        let plain = questions::plain(&built.tables(characters), &asked);
         for (k, question) in asked.iter().enumerate() {
             assert_eq!(plain[k], replies[k], "plain Rust and the Rust: {question:?}");
         }
@@ -149,18 +150,6 @@ fn exchange_difference(own: &Exchanged, given: &Exchanged) -> String {
         (Some(a), Some(b)) => first_difference(a, b).unwrap_or_default(),
         (a, b) => format!("tables written: {} and {}", a.is_some(), b.is_some()),
     }
-}
-
-/// Random bytes of a length, UTF-8.
-fn string(r: &mut Random, length: usize) -> Vec<u8> {
-    let mut bytes = Vec::new();
-    while bytes.len() < length {
-        let piece = r.pick(&["a", " ", " ", "b", "\n", "\t", "é", "\u{a0}", "\u{2003}", "\u{10ffff}", "\u{0}"]);
-        if bytes.len() + piece.len() <= length {
-            bytes.extend(piece.as_bytes());
-        }
-    }
-    bytes
 }
 
 fn exchange(r: &mut Random, commands: &[Command]) -> Option<(u32, Vec<u8>)> {

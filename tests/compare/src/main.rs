@@ -1,41 +1,7 @@
 //! The Rust itself beside the port's library. See `USAGE`.
-// Without the Rust only the list is replayed.
-#![cfg_attr(not(feature = "rust"), allow(dead_code))]
-mod built;
-mod codes;
-mod commands;
-mod library;
-mod questions;
-mod record;
-
+use compare::record;
 #[cfg(feature = "rust")]
-mod case;
-#[cfg(feature = "rust")]
-mod events;
-#[cfg(feature = "rust")]
-mod generate;
-#[cfg(feature = "rust")]
-mod limits;
-#[cfg(feature = "rust")]
-mod outside;
-#[cfg(feature = "rust")]
-mod places;
-#[cfg(feature = "rust")]
-mod run;
-#[cfg(feature = "rust")]
-mod rust;
-#[cfg(feature = "rust")]
-mod shrink;
-#[cfg(feature = "rust")]
-mod small;
-#[cfg(feature = "rust")]
-#[allow(warnings)]
-mod svgtree;
-#[cfg(feature = "rust")]
-mod vectors;
-
-#[cfg(feature = "rust")]
-use outside::*;
+use compare::{commands, generate, run, rust, vectors};
 
 const USAGE: &str = "usage: compare COMMAND
   replay FILE                recorded drawings, beside the library and the Rust, as far as each is built in
@@ -43,6 +9,7 @@ With the Rust (feature rust):
   vectors FILE..             recorded vectors of check, build, exchange and the questions, beside the Rust
   random N SEED [THEME]      N random drawings of a theme, or of all in turn, the library beside the Rust
   small SORT N               all drawings of up to N commands, texts, links or uses, by the sort, likewise
+  files FILE..               drawings of SVG files, as host/examples/scripts.rs writes them, likewise
   limits                     drawings at the limits of sizes, depth and nodes, likewise
   record N SEED              writes N drawings with hashes of the Rust's answers
   faults N SEED              puts faults into the Rust's answers, and tells after how many random drawings each is seen
@@ -53,7 +20,7 @@ fn number(word: &str) -> Result<u64, String> {
     word.parse().map_err(|_| format!("'{word}' is no number"))
 }
 
-fn run(words: &[&str]) -> Result<bool, String> {
+fn follow(words: &[&str]) -> Result<bool, String> {
     match words {
         ["replay", file] => {
             let (agree, differ, beside) = record::replay(file)?;
@@ -90,6 +57,10 @@ fn with_rust(words: &[&str]) -> Result<bool, String> {
         ["small", sort, most] => {
             let tally = run::all_small(sort, number(most)? as usize, &side, compared).ok_or("no such sort")?;
             Ok(tally.end(&format!("all of up to {most} {sort}")))
+        }
+        ["files", files @ ..] if !files.is_empty() => {
+            let drawings = vectors::drawings(files)?;
+            Ok(run::drawings(&drawings, &side, compared).end(&format!("{} drawings of files", drawings.len())))
         }
         ["limits"] => Ok(run::limits(&side, compared).end("drawings at the limits")),
         ["record", count, seed] => {
@@ -133,7 +104,7 @@ fn with_rust(_: &[&str]) -> Result<bool, String> {
 
 fn main() {
     let words: Vec<String> = std::env::args().skip(1).collect();
-    let main = move || run(&words.iter().map(String::as_str).collect::<Vec<_>>());
+    let main = move || follow(&words.iter().map(String::as_str).collect::<Vec<_>>());
     // Drawings nest 1,024 deep, and the Rust goes down with them.
     let run = std::thread::Builder::new().stack_size(1 << 29).spawn(main).unwrap();
     std::process::exit(match run.join() {

@@ -1,12 +1,11 @@
 //! The four questions, asked of the Rust's tree, of plain Rust (tests/host) over the tables, and of the library.
-use crate::built::Built;
 use crate::codes::a;
 use crate::library;
 #[cfg(feature = "rust")]
 use crate::rust::Tree;
 #[cfg(feature = "rust")]
 use crate::svgtree::{Document, seen};
-use host::questions::{Answer, Counts, Part, Tables};
+use host::questions::{Answer, Part, Tables};
 
 #[derive(Clone, Debug)]
 pub enum Question {
@@ -83,18 +82,6 @@ pub fn rust(doc: &Document, tree: &Tree, asked: &[Question]) -> Vec<Reply> {
         }
     };
     asked.iter().map(answer).collect()
-}
-
-/// The tables of a build, as the questions are lent them.
-pub fn tables<'a>(built: &'a Built, characters: &'a [u8]) -> Tables<'a> {
-    let [nodes, attributes, text] = built.counts;
-    Tables {
-        nodes: &built.nodes,
-        attributes: &built.attributes,
-        text: &built.text,
-        characters,
-        counts: Counts { nodes, attributes, text },
-    }
 }
 
 /// The answers of plain Rust.

@@ -3,10 +3,10 @@
 //! A line has: the drawing in one word (`commands::to_word`), the lengths of the three lent tables, build's number, the hash of its
 //! answer, the hash of the answers to every question about the first nodes (or -), and with an exchange: the text's number, = and the new
 //! bytes, the number, the hash.
-use crate::built::{Built, Exchanged};
 use crate::commands::{Bytes, escaped, from_word, to_word, unescaped};
 use crate::library;
 use crate::questions::{self, Reply};
+use host::built::{Built, Exchanged};
 
 /// FNV-1a over words of four bytes.
 pub struct Hash(u64);
@@ -118,7 +118,7 @@ impl Line {
     pub fn against_library(&self) -> Option<String> {
         let built = library::build(&self.bytes, self.words)?;
         let replies = if built.number == 0 {
-            let t = questions::tables(&built, &self.bytes.characters);
+            let t = built.tables(&self.bytes.characters);
             questions::linked(&t, &questions::all(built.counts[0])).map(|r| hash_replies(&r))
         } else {
             Some("-".to_string())

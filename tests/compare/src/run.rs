@@ -1,5 +1,4 @@
 //! Runs over many cases: random ones, small ones, ones with a fault put in.
-use crate::built::Built;
 use crate::case::{self, Case, Side, Wanted};
 use crate::commands::{Bytes, shown};
 use crate::events::Events;
@@ -8,6 +7,7 @@ use crate::questions::{self, Question};
 use crate::record::{Line, recorded};
 use crate::shrink::smaller;
 use crate::{library, limits, small};
+use host::built::Built;
 use host::random::Random;
 use std::panic::{AssertUnwindSafe, catch_unwind};
 
@@ -60,7 +60,7 @@ pub fn library() -> Side<'static> {
         check: &library::check,
         build: &library::build,
         exchange: &library::exchange,
-        questions: &|built, characters, asked| questions::linked(&questions::tables(built, characters), asked),
+        questions: &|built, characters, asked| questions::linked(&built.tables(characters), asked),
     }
 }
 
@@ -132,6 +132,25 @@ pub fn all_small(sort: &str, most: usize, side: &Side, compared: bool) -> Option
         _ => return None,
     }
     Some(tally)
+}
+
+/// Drawings of files, with tables of just the size that is needed, larger ones, and one word less of each; and some of their texts
+/// exchanged.
+pub fn drawings(all: &[Bytes], side: &Side, compared: bool) -> Tally {
+    let mut tally = Tally { compared, ..Tally::default() };
+    for (number, bytes) in (1..).zip(all) {
+        let mut see = |slack: [i64; 3], exchange: Option<(u32, Vec<u8>)>| {
+            let case = Case { bytes: bytes.clone(), slack, exchange };
+            one(&mut tally, &case, side, &|| format!("drawing {number}"));
+        };
+        [[0; 3], [11, 7, 3], [-1, 0, 0], [0, -1, 0], [0, 0, -1]].into_iter().for_each(|slack| see(slack, None));
+        let texts = host::texts::texts(&bytes.script, &bytes.characters);
+        let r = &mut Random::new(1, number);
+        for (number, text) in (1..).zip(&texts).step_by(texts.len() / 8 + 1) {
+            see([0; 3], Some((number, host::texts::string(r, text.length))));
+        }
+    }
+    tally
 }
 
 /// Drawings at the limits, with tables of just the size that is needed, and one record less: the Rust's number is document 01's too.
@@ -228,7 +247,7 @@ pub fn faults(count: u64, seed: u64) -> bool {
             Some(given)
         };
         let questions = |built: &Built, characters: &[u8], asked: &[Question]| {
-            let t = questions::tables(built, characters);
+            let t = built.tables(characters);
             let mut replies = questions::plain(&t, asked);
             for (question, reply) in asked.iter().zip(&mut replies) {
                 match question {

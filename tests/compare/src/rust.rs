@@ -1,25 +1,20 @@
 //! The Rust's answer for a drawing: `Document::parse_tree` runs on the stand-ins, and its tree is set out as document 01, section 3, has
 //! it. The tables' rooms, which the Rust does not know, are counted along the steps that the Rust took.
-use crate::built::{Built, Exchanged};
 use crate::events::Events;
 use crate::places::Places;
 use crate::svgtree::{self, seen};
 use drawing::{Drawing, Kind, Names, Step};
+use host::built::{Built, Exchanged};
 use host::check::check;
 use host::names::FIXED;
-
-/// A step of the Rust, as far as rooms go.
-enum Taken {
-    /// An element, after which there are so many entries.
-    Element(u32),
-    /// A text node made from so many bytes.
-    Text(u32),
-}
+use host::rooms::{self, Taken};
+use std::time::{Duration, Instant};
 
 /// What the Rust made of a drawing that check takes.
 pub struct Tree {
     /// 0, or 20 or 21 where the Rust gives an error.
     pub end: u32,
+    /// The steps of the Rust, as far as rooms go.
     taken: Vec<Taken>,
     pub nodes: Vec<[u32; 8]>,
     pub entries: Vec<[u32; 5]>,
@@ -79,6 +74,21 @@ pub fn tree_asked<R>(script: &[u8], characters: &[u8], ask: impl FnOnce(&svgtree
         }
     };
     (tree, answer)
+}
+
+/// `parse_tree` again and again of a drawing that check takes: what is run gets a function that runs it once, and gives its time and how
+/// many nodes the tree has. The tree is dropped behind that time.
+pub fn timed<R>(script: &[u8], characters: &[u8], run: impl FnOnce(&dyn Fn() -> (Duration, usize)) -> R) -> R {
+    let drawing = Drawing::read(script, characters, names());
+    let document = roxmltree::Document::new(&drawing);
+    run(&|| {
+        drawing::within(&drawing, || {
+            let start = Instant::now();
+            let parsed = svgtree::Document::parse_tree(&document, None);
+            let time = start.elapsed();
+            (time, parsed.map_or(0, |doc| seen::nodes(&doc).count()))
+        })
+    })
 }
 
 impl Tree {
@@ -177,42 +187,14 @@ impl Tree {
         }
     }
 
-    /// The number of build with tables of these lengths: the first step that fails, in the Rust's order.
+    /// The number of build with tables of these lengths.
     pub fn number(&self, words: [usize; 3]) -> u32 {
-        let most = u32::MAX as usize;
-        let rooms = [(words[0] / 8).min(most), (words[1] / 5).min(most), words[2].min(most)];
-        let (mut nodes, mut text) = (1, 0);
-        if rooms[0] == 0 {
-            return 22;
-        }
-        for step in &self.taken {
-            match *step {
-                Taken::Element(entries) if entries as usize > rooms[1] => return 23,
-                Taken::Element(_) if nodes > 1_000_000 => {
-                    assert_eq!(self.end, 20);
-                    return 20;
-                }
-                Taken::Text(bytes) if text + bytes as usize > rooms[2] => return 24,
-                _ if nodes == rooms[0] => return 22,
-                Taken::Text(bytes) => text += bytes as usize,
-                Taken::Element(_) => {}
-            }
-            nodes += 1;
-        }
-        self.end
+        rooms::number(&self.taken, self.end, words)
     }
 
     /// How many nodes, entries and bytes of text are taken, whatever the end.
     pub fn needed(&self) -> [usize; 3] {
-        let mut needed = [1, 0, 0];
-        for step in &self.taken {
-            needed[0] += 1;
-            match *step {
-                Taken::Element(entries) => needed[1] = entries as usize,
-                Taken::Text(bytes) => needed[2] += bytes as usize,
-            }
-        }
-        needed
+        rooms::needed(&self.taken)
     }
 
     /// What build gives with tables of these lengths.

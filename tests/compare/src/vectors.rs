@@ -1,10 +1,12 @@
 //! The recorded vectors beside the Rust that runs here.
-use crate::built::{Built, first_difference};
+use crate::commands::Bytes;
 use crate::rust::{self, Tree};
 use crate::svgtree::seen;
+use host::built::{Built, first_difference};
 use host::check::check;
 use host::json::Json;
 use host::questions::{Answer, Counts, Part, Tables};
+use host::recorded::Recorded;
 
 type Read<T> = Result<T, String>;
 
@@ -13,28 +15,16 @@ fn line(line: &Json) -> Read<Vec<String>> {
     if line.get("asked").is_some() {
         return questions(line);
     }
-    let (script, characters) = (line.bytes("script")?, line.bytes("characters")?);
-    let number = line.word("number")?;
     if line.get("words").is_none() {
-        let given = check(&script, &characters);
+        let (number, given) = (line.word("number")?, check(&line.bytes("script")?, &line.bytes("characters")?));
         return Ok(if given == number { vec![] } else { vec![format!("check: {number} recorded, {given}")] });
     }
-    let words = match line.words("words")?[..] {
-        [a, b, c] => [a as usize, b as usize, c as usize],
-        _ => return Err("'words' has not three numbers".to_string()),
-    };
-    let mut wanted = Built::refused(number, words);
-    wanted.counts = line.words("counts")?.try_into().map_err(|_| "'counts' has not three numbers")?;
-    let has_tables = line.get("nodes").is_some();
-    if has_tables {
-        wanted.nodes = line.words("nodes")?;
-        wanted.attributes = line.words("attributes")?;
-        wanted.text = line.bytes("text")?;
-    }
+    let Recorded { script, characters, words, built: wanted, has_tables, sources, exchange } = Recorded::read(line)?;
+    let number = wanted.number;
     let mut all = Vec::new();
-    if line.get("text_number").is_some() {
-        let given = rust::exchange(&script, &characters, line.word("text_number")?, &line.bytes("bytes")?, words);
-        if line.get("characters_after").is_some() && line.bytes("characters_after")? != given.characters {
+    if let Some(exchange) = exchange {
+        let given = rust::exchange(&script, &characters, exchange.number, &exchange.bytes, words);
+        if exchange.after.map_or(false, |after| after != given.characters) {
             all.push("characters differ".to_string());
         }
         match given.tables {
@@ -50,7 +40,7 @@ fn line(line: &Json) -> Read<Vec<String>> {
         } else {
             let tree = rust::tree(&script, &characters);
             all.extend(first_difference(&wanted, &tree.built(words)));
-            if line.get("sources").is_some() && number == 0 && sources(line)? != tree.sources {
+            if number == 0 && sources.map_or(false, |s| s != tree.sources) {
                 all.push(format!("sources: {:?}", tree.sources));
             }
             if number == 0 {
@@ -80,20 +70,6 @@ fn rooms(tree: &Tree) -> Vec<String> {
         test([8 * n, 5 * a, t - 1], 24);
     }
     all
-}
-
-fn sources(line: &Json) -> Read<Vec<(u32, Vec<u32>)>> {
-    let pair = |item: &Json| match item {
-        Json::List(parts) => match &parts[..] {
-            [Json::Number(node), Json::List(numbers)] => {
-                let number = |n: &Json| if let Json::Number(n) = n { Ok(*n as u32) } else { Err("no number".to_string()) };
-                Ok((*node as u32, numbers.iter().map(number).collect::<Read<_>>()?))
-            }
-            _ => Err("'sources' has no pair".to_string()),
-        },
-        _ => Err("'sources' has no pair".to_string()),
-    };
-    line.list("sources")?.iter().map(pair).collect()
 }
 
 fn questions(line: &Json) -> Read<Vec<String>> {
@@ -194,4 +170,18 @@ pub fn files(files: &[&str]) -> Read<(u64, u64)> {
         differ += not;
     }
     Ok((agree, differ))
+}
+
+/// The drawings of lines that have script and characters.
+pub fn drawings(files: &[&str]) -> Read<Vec<Bytes>> {
+    let mut all = Vec::new();
+    for file in files {
+        let content = std::fs::read_to_string(file).map_err(|e| format!("{file}: {e}"))?;
+        for (k, text) in content.lines().enumerate() {
+            let add = |e| format!("{file}, line {}: {e}", k + 1);
+            let line = Json::read(text).map_err(add)?;
+            all.push(Bytes { script: line.bytes("script").map_err(add)?, characters: line.bytes("characters").map_err(add)? });
+        }
+    }
+    Ok(all)
 }

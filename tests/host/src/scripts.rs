@@ -1,6 +1,8 @@
 //! Drawings: written command by command, at random by the grammar of document 01, section 2, and damaged.
 use crate::check::{DEEPEST, LIMIT};
 use crate::random::Random;
+use crate::smaller;
+use crate::texts::SVG;
 
 /// A drawing, and where each command begins in the script and in the characters.
 #[derive(Clone, Default)]
@@ -11,6 +13,12 @@ pub struct Drawing {
 }
 
 impl Drawing {
+    /// A drawing of these bytes, in order or not.
+    pub fn of(script: &[u8], characters: &[u8]) -> Drawing {
+        let commands = smaller::commands(script, characters).into_iter().map(|[c, s]| (c.start, s.start)).collect();
+        Drawing { script: script.to_vec(), characters: characters.to_vec(), commands }
+    }
+
     pub fn clear(&mut self) {
         self.script.clear();
         self.characters.clear();
@@ -353,4 +361,41 @@ pub fn random(r: &mut Random, d: &mut Drawing) {
         }
         _ => any_order(r, d),
     }
+}
+
+/// One to three damages, to a drawing that has commands.
+pub fn damaged(r: &mut Random, d: &mut Drawing) {
+    if !d.commands.is_empty() {
+        (0..=r.below(3)).for_each(|_| damage(r, d));
+    }
+}
+
+/// A drawing in order of which build makes more than of most random ones: the top element is an `svg`, and elements and attributes
+/// often have the namespace in which they count.
+pub fn lively(r: &mut Random, d: &mut Drawing) {
+    valid(r, d);
+    let mut first = true;
+    for &(at, _) in &d.commands {
+        match d.script[at] {
+            1 if first => {
+                first = false;
+                d.script[at + 1] = SVG;
+                d.script[at + 2] = 1;
+            }
+            1 if !r.one_in(4) => d.script[at + 2] = 1,
+            2 if !r.one_in(4) => d.script[at + 2] = 0,
+            _ => {}
+        }
+    }
+}
+
+/// Any bytes as script and characters, mostly ones that begin a command.
+pub fn any_bytes(r: &mut Random) -> Drawing {
+    let mut bytes = |most: usize, likely: usize| -> Vec<u8> {
+        let length = r.below(most);
+        (0..length).map(|_| if r.one_in(3) { r.byte() } else { r.below(likely) as u8 }).collect()
+    };
+    let (script, characters) = (bytes(60, 8), bytes(20, 128));
+    let script = if r.one_in(2) { [&[1, SVG, 1][..], &script, &[7]].concat() } else { script };
+    Drawing::of(&script, &characters)
 }

@@ -1,7 +1,7 @@
 //! Makes a drawing smaller that shows a difference.
 use std::ops::Range;
 
-type Parts = Vec<[Range<usize>; 2]>;
+pub type Parts = Vec<[Range<usize>; 2]>;
 
 /// Parts of a list of bytes, each of `size` bytes but the last; `side` 0 is the script, 1 the characters.
 fn pieces(length: usize, size: usize, side: usize) -> Parts {
@@ -14,7 +14,7 @@ fn pieces(length: usize, size: usize, side: usize) -> Parts {
 }
 
 /// Each command and its string, as far as they can be told.
-fn commands(script: &[u8], characters: &[u8]) -> Parts {
+pub fn commands(script: &[u8], characters: &[u8]) -> Parts {
     let (mut at, mut taken) = (0, 0);
     let mut all = Vec::new();
     while at < script.len() {

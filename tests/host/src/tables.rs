@@ -1,4 +1,5 @@
 //! Tables for the questions: sound ones at random, and ones broken in a word or two.
+use crate::built::Built;
 use crate::names::AId::*;
 use crate::questions::{Counts, Tables, records};
 use crate::random::Random;
@@ -220,4 +221,13 @@ pub fn id(r: &mut Random, lent: &Lent) -> Vec<u8> {
         6 => (0..r.below(4)).map(|_| r.byte()).collect(),
         _ => r.pick(&WORDS).as_bytes().to_vec(),
     }
+}
+
+/// Any words in tables that are to be lent: one word everywhere, or random ones.
+pub fn fill(r: &mut Random, t: &mut Built) {
+    let word = r.word() as u32;
+    let mut next = || if word % 4 == 0 { word } else { r.word() as u32 };
+    t.nodes.iter_mut().for_each(|w| *w = next());
+    t.attributes.iter_mut().for_each(|w| *w = next());
+    t.text.iter_mut().for_each(|w| *w = next() as u8);
 }

@@ -1,8 +1,10 @@
 //! Vectors: recorded answers are compared, and random inputs written with their answers.
 use crate::tally::{Tally, hex, note_flaw, sort_of};
+use host::built::{Built, first_difference};
 use host::json::Json;
 use host::questions::{Answer, Counts, Part};
 use host::random::Random;
+use host::recorded::Recorded;
 use host::scripts::{self, Drawing};
 use host::{check::check, library, tables};
 use std::process::ExitCode;
@@ -80,6 +82,35 @@ fn questions_vector(tally: &mut Tally, what: &str, line: &Json) -> Result<(), St
     Ok(())
 }
 
+/// A recorded build or exchange beside the library, with tables lent full of other words.
+fn build_vector(tally: &mut Tally, what: &str, line: &Json) -> Result<(), String> {
+    let Recorded { script, characters, words, built, has_tables, exchange, .. } = Recorded::read(line)?;
+    let mut before = Built::refused(0, words);
+    tables::fill(&mut Random::new(words[0] as u64, built.number as u64), &mut before);
+    let mut compare = |wanted: &Built, given: &Built| {
+        let difference = first_difference(wanted, given);
+        tally.compare(None, difference.as_ref(), || format!("{what}: recorded and library: {difference:?}"));
+    };
+    match exchange {
+        None => {
+            if let Some(given) = library::build(&script, &characters, &before) {
+                compare(&built, &given);
+            }
+            tally.reach("build", &built.number.to_string());
+        }
+        Some(exchange) => {
+            let wanted = if has_tables { built } else { Built { number: built.number, ..before.clone() } };
+            if let Some((after, given)) = library::exchange(&script, &characters, exchange.number, &exchange.bytes, &before) {
+                compare(&wanted, &given);
+                let recorded = exchange.after.unwrap_or(characters);
+                tally.compare(&recorded, &after, || format!("{what}: other characters"));
+            }
+            tally.reach("exchange", &wanted.number.to_string());
+        }
+    }
+    Ok(())
+}
+
 pub fn vectors(files: &[&str]) -> Result<ExitCode, String> {
     let mut tally = Tally::default();
     for file in files {
@@ -93,15 +124,20 @@ pub fn vectors(files: &[&str]) -> Result<ExitCode, String> {
             } else if line.get("words").is_none() {
                 check_vector(&mut tally, &what, &line).map_err(add)?;
             } else {
-                return Err(add("neither check nor questions".to_string()));
+                build_vector(&mut tally, &what, &line).map_err(add)?;
             }
         }
     }
-    let sides = match (library::CHECK, library::QUESTIONS) {
-        (true, true) => "plain Rust and the library",
-        (true, false) => "plain Rust and the library's check",
-        (false, true) => "plain Rust and the library's questions",
-        (false, false) => "plain Rust alone, no library is linked",
+    let linked = [
+        ("check", library::CHECK),
+        ("questions", library::QUESTIONS),
+        ("build", library::BUILD),
+        ("exchange", library::EXCHANGE),
+    ];
+    let linked: Vec<&str> = linked.iter().filter(|l| l.1).map(|l| l.0).collect();
+    let sides = match linked[..] {
+        [] => "plain Rust alone, no library is linked".to_string(),
+        _ => format!("plain Rust and the library's {}", linked.join(", ")),
     };
     if tally.agree + tally.differ == 0 {
         return Err("no recorded answer to compare with".to_string());

@@ -314,6 +314,9 @@ pub fn parts<'a>(value: &'a str, kind: u8) -> Vec<&'a str> {
     found.unwrap_or_default()
 }
 
+/// Whether nothing is noted.
+const QUIET: bool = cfg!(feature = "quiet");
+
 /// Notes which node was last asked for its name, so that a selector can tell which node it is matched with.
 pub fn asked_for_name(node: usize) {
     ASKED.with(|a| a.set(node));
@@ -323,17 +326,25 @@ pub fn last_asked() -> usize {
     ASKED.with(|a| a.get())
 }
 
+#[inline]
 fn log(note: impl FnOnce(&mut Log)) {
-    current(|d| note(&mut d.log.borrow_mut()));
+    if !QUIET {
+        current(|d| note(&mut d.log.borrow_mut()));
+    }
 }
 
 /// A value of an attribute begins to live.
+#[inline]
 pub fn born() {
     log(|l| l.live += 1);
 }
 
 /// A value of an attribute is dropped.
+#[inline]
 pub fn dropped(value: &str) {
+    if QUIET {
+        return;
+    }
     current(|d| {
         let command = d.place(value).map_or(0, |p| p.1);
         let mut l = d.log.borrow_mut();
@@ -344,11 +355,13 @@ pub fn dropped(value: &str) {
 }
 
 /// A list of filters is read, as only the last repair does.
+#[inline]
 pub fn filters_read() {
     log(|l| l.filters_read = true);
 }
 
 /// All entries of an element stand in the tree.
+#[inline]
 pub fn entered(node: usize) {
     log(|l| {
         l.dropped.clear();
@@ -363,6 +376,7 @@ pub fn node_of(value: &str) -> usize {
 }
 
 /// A text is read: by a tref, or to become a text node.
+#[inline]
 pub fn text_read(number: u32, by_tref: bool) {
     log(|l| {
         if by_tref {
@@ -375,7 +389,11 @@ pub fn text_read(number: u32, by_tref: bool) {
 }
 
 /// Everything below an element has been walked through: where it was for a tref, its texts become a text node, unless all are empty.
+#[inline]
 pub fn walked() {
+    if QUIET {
+        return;
+    }
     current(|d| {
         let mut l = d.log.borrow_mut();
         let numbers = std::mem::take(&mut l.quoted);

@@ -1,4 +1,5 @@
 //! What build and exchange answer.
+use crate::questions::{Counts, Tables};
 
 /// The answer of build: its number, the counts, and what the three lent tables hold afterwards.
 #[derive(Clone, Debug, PartialEq)]
@@ -11,6 +12,29 @@ pub struct Built {
 }
 
 impl Built {
+    /// The tables as the questions are lent them.
+    pub fn tables<'a>(&'a self, characters: &'a [u8]) -> Tables<'a> {
+        let [nodes, attributes, text] = self.counts;
+        let counts = Counts { nodes, attributes, text };
+        Tables { nodes: &self.nodes, attributes: &self.attributes, text: &self.text, characters, counts }
+    }
+
+    /// The lengths of the tables.
+    pub fn words(&self) -> [usize; 3] {
+        [self.nodes.len(), self.attributes.len(), self.text.len()]
+    }
+
+    /// The same answer with tables of other lengths, which are enough.
+    pub fn with_words(&self, words: [usize; 3]) -> Built {
+        let [nodes, attributes, text] = self.counts.map(|c| c as usize);
+        let mut other = Built::refused(self.number, words);
+        other.counts = self.counts;
+        other.nodes[..8 * nodes].copy_from_slice(&self.nodes[..8 * nodes]);
+        other.attributes[..5 * attributes].copy_from_slice(&self.attributes[..5 * attributes]);
+        other.text[..text].copy_from_slice(&self.text[..text]);
+        other
+    }
+
     /// A refusal: counts of 0, and cleared tables of the lengths lent.
     pub fn refused(number: u32, words: [usize; 3]) -> Built {
         Built { number, counts: [0; 3], nodes: vec![0; words[0]], attributes: vec![0; words[1]], text: vec![0; words[2]] }

@@ -1,0 +1,261 @@
+//! Times of build and exchange: the port's library beside the Rust's own parse_tree, over the stand-ins of tests/compare, and plain check.
+use crate::drawings::{self, Size};
+use crate::{black_box, ratio, shown};
+use host::json::Json;
+use host::library::{self, Lent};
+use host::names::AId;
+use host::scripts::Drawing;
+use std::cell::RefCell;
+use std::time::{Duration, Instant};
+
+/// Tables as they are lent.
+struct Tables {
+    nodes: Vec<u32>,
+    attributes: Vec<u32>,
+    text: Vec<u8>,
+}
+
+impl Tables {
+    fn new(words: [usize; 3]) -> Tables {
+        Tables { nodes: vec![0; words[0]], attributes: vec![0; words[1]], text: vec![0; words[2]] }
+    }
+
+    fn lent(&mut self) -> Lent<'_> {
+        Lent { nodes: &mut self.nodes, attributes: &mut self.attributes, text: &mut self.text }
+    }
+}
+
+/// Tables of just the size that a drawing takes, and how many nodes it has; None if it is refused. Without the library: empty tables.
+fn exact(d: &Drawing) -> Option<(Tables, usize)> {
+    let mut rooms = d.script.len();
+    loop {
+        let mut large = Tables::new([8 * rooms, 5 * rooms, 4 * rooms + d.characters.len()]);
+        let told = match library::plain::build(&d.script, &d.characters, large.lent()) {
+            Some(told) => told,
+            None => return Some((Tables::new([0; 3]), 0)),
+        };
+        match told.number {
+            0 => {
+                let words = [8 * told.nodes as usize, 5 * told.attributes as usize, told.text as usize];
+                return Some((Tables::new(words), told.nodes as usize));
+            }
+            22..=24 if rooms < 8_000_000 => rooms *= 8,
+            _ => return None,
+        }
+    }
+}
+
+/// Something that is timed: it says how long it took.
+type Timed<'a> = &'a dyn Fn() -> Duration;
+
+/// The least time of each in microseconds. They take turns, so that what else the machine does falls on all of them; at least three
+/// rounds, and then as many as fit into a time.
+fn least<const N: usize>(calls: [Timed; N], most: Duration) -> [f64; N] {
+    let start = Instant::now();
+    let mut least = [f64::INFINITY; N];
+    for round in 0..400 {
+        if round >= 3 && start.elapsed() > most {
+            break;
+        }
+        for k in 0..N {
+            least[k] = least[k].min(calls[k]().as_secs_f64() * 1e6);
+        }
+    }
+    least
+}
+
+/// How long something takes whose answer counts as used.
+fn took<R>(run: impl FnOnce() -> R) -> Duration {
+    let start = Instant::now();
+    let answer = run();
+    let time = start.elapsed();
+    black_box(answer);
+    time
+}
+
+/// Times of a drawing: the library's build and check, the Rust's parse_tree, plain check; None if the drawing is refused.
+fn of(d: &Drawing, most: Duration) -> Option<([f64; 4], usize)> {
+    let (tables, nodes) = exact(d)?;
+    let tables = RefCell::new(tables);
+    let (script, characters) = (&d.script[..], &d.characters[..]);
+    let build = || {
+        let mut tables = tables.borrow_mut();
+        took(|| library::plain::build(black_box(script), black_box(characters), tables.lent()))
+    };
+    let check = || took(|| library::check(black_box(script), black_box(characters)));
+    let plain = || took(|| host::check::check(black_box(script), black_box(characters)));
+    assert_eq!(host::check::check(script, characters), 0, "a drawing to measure is in order");
+    let times = parsed(d, |parse| {
+        let rust = || {
+            let (time, count) = parse();
+            assert!(count == nodes || nodes == 0 || count == 0, "the Rust's tree has {count} nodes, the library's {nodes}");
+            time
+        };
+        least([&build, &check, &rust, &plain], most)
+    });
+    Some((times, nodes))
+}
+
+/// Runs something with the Rust's parse_tree of a drawing: its time, and how many nodes it gives.
+#[cfg(feature = "rust")]
+fn parsed<R>(d: &Drawing, run: impl FnOnce(&dyn Fn() -> (Duration, usize)) -> R) -> R {
+    compare::rust::timed(&d.script, &d.characters, run)
+}
+
+#[cfg(not(feature = "rust"))]
+fn parsed<R>(_: &Drawing, run: impl FnOnce(&dyn Fn() -> (Duration, usize)) -> R) -> R {
+    run(&|| (Duration::ZERO, 0))
+}
+
+/// How long a drawing is measured.
+const SOME: Duration = Duration::from_secs(4);
+const RUST: bool = cfg!(feature = "rust");
+
+fn row(name: &str, d: &Drawing) {
+    let ([build, check, rust, plain], nodes) = of(d, SOME).expect("a drawing to measure is built");
+    println!(
+        "{:<40}{:>9}{:>8}{:>12}{:>11}{:>12}{:>12}{:>8}",
+        name,
+        d.script.len(),
+        nodes,
+        shown(build, library::BUILD),
+        shown(check, library::CHECK),
+        shown(rust, RUST),
+        shown(plain, true),
+        ratio(build, rust + plain, library::BUILD && RUST)
+    );
+}
+
+fn head(title: &str) {
+    println!("{title}: microseconds for a call");
+    println!(
+        "{:<40}{:>9}{:>8}{:>12}{:>11}{:>12}{:>12}{:>8}",
+        "drawing", "script", "nodes", "build", "check", "parse_tree", "plain check", "ratio"
+    );
+}
+
+pub fn build_table() {
+    if !RUST {
+        println!("not there: the Rust, beside which build is measured");
+    }
+    head("build, the library beside the Rust's parse_tree and plain check");
+    for (name, d) in drawings::large(Size(1 << 20)) {
+        row(&format!("{name}, 1 MiB"), &d);
+    }
+    for (name, d) in drawings::large(Size(1 << 14)) {
+        row(&format!("{name}, 16 KB"), &d);
+    }
+}
+
+pub fn links_table() {
+    head("links, likewise");
+    for n in [500, 1000, 2000] {
+        row(&format!("{n} clip paths, none leads back"), &drawings::clip_paths(n, false));
+    }
+    for n in [150, 300, 600] {
+        row(&format!("{n} clip paths, to the next and back"), &drawings::clip_paths(n, true));
+    }
+    for n in [150, 300, 600] {
+        row(&format!("{n} patterns, to the next and back"), &drawings::patterns(n));
+    }
+    for n in [1000, 2000, 4000] {
+        row(&format!("{n} uses of as many groups"), &drawings::uses(n));
+    }
+    for n in [1000, 2000, 4000] {
+        row(&format!("{n} trefs to as many texts"), &drawings::trefs(n));
+    }
+}
+
+/// Drawings of SVG files, as host/examples/scripts.rs writes them: the sum of their times, and the files that are slower than the Rust.
+pub fn files_table(file: &str) {
+    let content = std::fs::read_to_string(file).expect("a file of lines");
+    let (mut sums, mut slower, mut built, mut refused) = ([0.0; 4], Vec::new(), 0, 0);
+    for line in content.lines() {
+        let line = Json::read(line).expect("a line of JSON");
+        let d = Drawing::of(&line.bytes("script").unwrap(), &line.bytes("characters").unwrap());
+        let (times, nodes) = match of(&d, Duration::from_millis(15)) {
+            Some(found) => found,
+            None => {
+                refused += 1;
+                continue;
+            }
+        };
+        built += 1;
+        (0..4).for_each(|k| sums[k] += times[k]);
+        let by = times[0] / (times[2] + times[3]);
+        if by > 1.0 {
+            slower.push((by, nodes, times[0], line.get("name").map_or(String::new(), |n| format!("{n:?}"))));
+        }
+    }
+    println!("{file}: microseconds for all {built} drawings ({refused} refused)");
+    let [build, check, rust, plain] = sums;
+    println!(
+        "build {build:.0}, check {check:.0}, parse_tree {rust:.0}, plain check {plain:.0}, ratio {:.2}",
+        build / (rust + plain)
+    );
+    slower.sort_by(|a, b| b.0.total_cmp(&a.0));
+    println!("{} are slower than the Rust", slower.len());
+    slower.iter().take(8).for_each(|(by, nodes, time, name)| println!("{by:>8.2}{nodes:>8} nodes{time:>12.1}  {name}"));
+}
+
+/// Exchange of a text of some bytes, beside build and check of the same drawing.
+fn exchange_row(name: &str, d: &Drawing, number: u32, length: usize) {
+    let tables = RefCell::new(exact(d).expect("a drawing to measure is built").0);
+    let characters = RefCell::new(d.characters.clone());
+    let script = &d.script[..];
+    let old = RefCell::new(false);
+    let exchange = || {
+        let (mut tables, mut characters) = (tables.borrow_mut(), characters.borrow_mut());
+        let new = if old.replace_with(|o| !*o) { b"3".repeat(length) } else { b"7".repeat(length) };
+        took(|| {
+            let told = library::plain::exchange(black_box(script), &mut characters, number, black_box(&new), tables.lent());
+            assert!(told.map_or(true, |t| t.number == 0), "a text to measure is exchanged");
+        })
+    };
+    let build = || {
+        let (mut tables, characters) = (tables.borrow_mut(), characters.borrow());
+        took(|| library::plain::build(black_box(script), black_box(&characters), tables.lent()))
+    };
+    let check = || {
+        let characters = characters.borrow();
+        took(|| library::check(black_box(script), black_box(&characters)))
+    };
+    let [exchange, build, check] = least([&exchange, &build, &check], SOME);
+    let have = library::EXCHANGE;
+    println!(
+        "{:<40}{:>12}{:>12}{:>11}{:>10}{:>17}",
+        name,
+        shown(exchange, have),
+        shown(build, have),
+        shown(check, have),
+        ratio(exchange, build, have),
+        ratio(exchange, check + build, have)
+    );
+}
+
+pub fn exchange_table() {
+    println!("exchange of one text: microseconds for a call");
+    println!("{:<40}{:>12}{:>12}{:>11}{:>10}{:>17}", "drawing", "exchange", "build", "check", "by build", "by check, build");
+    for (size, name) in [(1 << 14, "16 KB"), (1 << 20, "1 MiB")] {
+        let d = drawings::texts(Size(size));
+        let texts = host::texts::texts(&d.script, &d.characters);
+        for (place, number) in [("first", 1), ("last", texts.len())] {
+            exchange_row(&format!("texts, {name}, the {place}"), &d, number as u32, texts[number - 1].length);
+        }
+        let d = drawings::rects(Size(size));
+        exchange_row(&format!("rects, {name}, one text"), &d, 1, 5);
+    }
+    for length in [256, 257] {
+        let mut d = Drawing::default();
+        d.open(45, 1);
+        d.attribute(AId::Width as u8, 0, b"100");
+        d.open(48, 1);
+        d.text(&b"x".repeat(length));
+        d.close();
+        while d.script.len() < 1 << 14 {
+            drawings::rect(&mut d);
+        }
+        d.close();
+        exchange_row(&format!("rects, 16 KB, a text of {length} bytes"), &d, 1, length);
+    }
+}
