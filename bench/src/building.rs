@@ -88,7 +88,7 @@ fn of(d: &Drawing, most: Duration) -> Option<([f64; 4], usize)> {
     let times = parsed(d, |parse| {
         let rust = || {
             let (time, count) = parse();
-            assert!(count == nodes || nodes == 0 || count == 0, "the Rust's tree has {count} nodes, the library's {nodes}");
+            assert!(count == nodes || !RUST || !library::BUILD, "the Rust's tree has {count} nodes, the library's {nodes}");
             time
         };
         least([&build, &check, &rust, &plain], most)
@@ -158,8 +158,14 @@ pub fn links_table() {
     for n in [150, 300, 600] {
         row(&format!("{n} patterns, to the next and back"), &drawings::patterns(n));
     }
+    for n in [300, 600, 1200] {
+        row(&format!("{n} fills with a pattern of as many"), &drawings::crossed(n));
+    }
     for n in [1000, 2000, 4000] {
         row(&format!("{n} uses of as many groups"), &drawings::uses(n));
+    }
+    for n in [100, 200, 400] {
+        row(&format!("{n} rects, then 10 groups, doubled"), &drawings::doubled(n, 10));
     }
     for n in [1000, 2000, 4000] {
         row(&format!("{n} trefs to as many texts"), &drawings::trefs(n));

@@ -210,6 +210,22 @@ pub fn patterns(n: usize) -> Drawing {
     })
 }
 
+/// A pattern with so many things filled with another, in which as many are filled with a third.
+pub fn crossed(n: usize) -> Drawing {
+    in_svg(|d| {
+        for (id, other) in [("p", "q"), ("q", "r")] {
+            d.open(PATTERN, 1);
+            d.attribute(Id as u8, 0, id.as_bytes());
+            for _ in 0..n {
+                d.open(RECT, 1);
+                link(d, Fill, 3, other);
+                d.close();
+            }
+            d.close();
+        }
+    })
+}
+
 /// Groups with ids, and a use of each.
 pub fn uses(n: usize) -> Drawing {
     in_svg(|d| {
@@ -222,6 +238,23 @@ pub fn uses(n: usize) -> Drawing {
         for i in 0..n {
             d.open(USE, 1);
             href(d, 0, &format!("g{i}"));
+            d.close();
+        }
+    })
+}
+
+/// Behind so many rects: groups, each with two uses of the next one, so that there are twice as many copies with each.
+pub fn doubled(rects: usize, groups: usize) -> Drawing {
+    in_svg(|d| {
+        (0..rects).for_each(|_| rect(d));
+        for i in 0..groups {
+            d.open(G, 1);
+            d.attribute(Id as u8, 0, format!("g{i}").as_bytes());
+            for _ in 0..2 {
+                d.open(USE, 1);
+                href(d, 0, &format!("g{}", i + 1));
+                d.close();
+            }
             d.close();
         }
     })

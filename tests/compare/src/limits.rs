@@ -110,3 +110,13 @@ pub fn all(see: &mut dyn FnMut(&str, &Bytes, u32)) {
     see("the 1,000,002nd node is a tspan", &wide(1_000_000, &inside(&[])), 20);
     see("the 1,000,002nd node is a tspan in a tspan", &wide(999_999, &inside(&[open(e::Tspan), Command::Close])), 20);
 }
+
+/// A text of so many bytes in a text element, and one that quotes it.
+pub fn long_text(length: usize) -> Bytes {
+    let mut commands =
+        vec![open(e::Svg), open(e::Text), attribute(a::Id, 0, "a"), Command::Text(b" x".repeat(length)[..length].to_vec())];
+    commands.extend([Command::Close, open(e::Text), open(e::Tref), attribute(a::Href, 2, "#a")]);
+    commands.extend([Command::Reading { kind: 1, offset: 1, length: 1 }, Command::Close, Command::Text(b" kg".to_vec())]);
+    commands.extend([Command::Close, Command::Close]);
+    write(&commands)
+}

@@ -16,6 +16,7 @@ With the Rust (feature rust):
   show DRAWING               prints a drawing, the first word of a line of the list, and the Rust's tree
 The status is 0 if nothing differs.";
 
+#[cfg(feature = "rust")]
 fn number(word: &str) -> Result<u64, String> {
     word.parse().map_err(|_| format!("'{word}' is no number"))
 }

@@ -153,7 +153,8 @@ pub fn drawings(all: &[Bytes], side: &Side, compared: bool) -> Tally {
     tally
 }
 
-/// Drawings at the limits, with tables of just the size that is needed, and one record less: the Rust's number is document 01's too.
+/// Drawings at the limits, with tables of just the size that is needed, and one record less: the Rust's number is document 01's too. And
+/// exchanges of texts that are shorter and longer than the library keeps while it builds.
 pub fn limits(side: &Side, compared: bool) -> Tally {
     let mut tally = Tally { compared, ..Tally::default() };
     limits::all(&mut |name, bytes, number| {
@@ -170,6 +171,14 @@ pub fn limits(side: &Side, compared: bool) -> Tally {
             println!("differs: {name}: document 01 says {number}, the Rust {given}");
         }
     });
+    for length in (250..265).chain([1000, 100_000]) {
+        let r = &mut Random::new(1, length as u64);
+        for slack in [[0; 3], [9, 6, 2], [-1, 0, 0], [0, -1, 0], [0, 0, -1]] {
+            let exchange = Some((1, host::texts::string(r, length)));
+            let case = Case { bytes: limits::long_text(length), slack, exchange };
+            one(&mut tally, &case, side, &|| format!("a text of {length} bytes exchanged"));
+        }
+    }
     tally
 }
 

@@ -14,6 +14,7 @@ const USAGE: &str = "usage: host COMMAND
   questions-random N SEED    N random tables, likewise
   build-rooms PART SEED FILE..     recorded builds, one in PART, with tables of every length and any words in them before
   build-random N SEED FILE..       N random drawings and damaged recorded ones: what can be told of build and exchange without building
+  build-deep                       the deepest drawings, built and exchanged with a stack of 2 MiB
   exchange-texts PART SEED FILE..  every text of recorded drawings, one in PART, exchanged; beside a fresh build
   write-check N SEED         the same drawings with the answers of plain Rust, as vectors
   write-questions N SEED     the same tables with the answers of plain Rust, as vectors
@@ -39,6 +40,7 @@ fn run(words: &[&str]) -> Result<ExitCode, String> {
         ["exchange-texts", part, seed, files @ ..] if !files.is_empty() => {
             trees::exchange_texts(number(part)? as usize, number(seed)?, files)
         }
+        ["build-deep"] => Ok(trees::build_deep()),
         ["write-check", count, seed] => Ok(vectors::write_check(number(count)?, number(seed)?)),
         ["write-questions", count, seed] => Ok(vectors::write_questions(number(count)?, number(seed)?)),
         _ => Err(USAGE.to_string()),

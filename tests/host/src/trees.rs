@@ -3,6 +3,7 @@ use crate::tally::{Tally, shown};
 use host::built::{Built, first_difference};
 use host::check::check;
 use host::json::Json;
+use host::names::AId;
 use host::random::Random;
 use host::recorded::Recorded;
 use host::scripts::{self, Drawing};
@@ -383,4 +384,71 @@ pub fn build_random(count: u64, seed: u64, files: &[&str]) -> Result<ExitCode, S
         }
     }
     Ok(tally.end(&format!("{count} random and damaged drawings, seed {seed}"), library::BUILD))
+}
+
+/// So many groups in one another, and in the innermost a text element, a use of one, a comment or nothing; a text to exchange before.
+fn nested(groups: usize, innermost: u8) -> Drawing {
+    let mut d = Drawing::default();
+    d.open(SVG, 1);
+    d.open(48, 1);
+    d.attribute(AId::Id as u8, 0, b"t");
+    d.text(b" quoted ");
+    d.close();
+    for _ in 0..groups {
+        d.open(31, 1);
+        d.attribute(AId::Fill as u8, 0, b"inherit");
+    }
+    match innermost {
+        0 => {
+            d.open(48, 1);
+            d.text(b" a ");
+            d.open(50, 1);
+            d.attribute(AId::Href as u8, 2, b"#t");
+            d.reading(1, 1, 1);
+            d.close();
+            d.close();
+        }
+        1 => {
+            d.open(52, 1);
+            d.attribute(AId::Href as u8, 0, b"#t");
+            d.reading(1, 1, 1);
+            d.close();
+        }
+        2 => d.comment(),
+        _ => {}
+    }
+    (0..=groups).for_each(|_| d.close());
+    d
+}
+
+/// The deepest drawings, with a stack of 2 MiB: a call that takes more ends the program.
+pub fn build_deep() -> ExitCode {
+    let run = || {
+        let mut tally = Tally::default();
+        let r = &mut Random::new(1, 1);
+        let words = [8 * 1100, 5 * 1100, 100];
+        // Depth counts from 0 at the top element; a used element is two deeper than its use.
+        for (groups, innermost, number) in [
+            (1023, 0, 0),
+            (1024, 0, 20),
+            (1021, 1, 0),
+            (1022, 1, 20),
+            (1023, 1, 20),
+            (1023, 2, 0),
+            (1024, 2, 20),
+            (1024, 3, 0),
+            (1025, 3, 20),
+        ] {
+            let d = nested(groups, innermost);
+            tally.reach("build", &number.to_string());
+            if let Some(given) = library::build(&d.script, &d.characters, &lent(r, words)) {
+                tally.compare(number, given.number, || {
+                    format!("{groups} groups, {innermost}: {number}, library {}", given.number)
+                });
+            }
+            exchange_beside(&mut tally, r, &d, 1, b"\tnew one", words);
+        }
+        tally.end("the deepest drawings, with a stack of 2 MiB", library::BUILD)
+    };
+    std::thread::Builder::new().stack_size(2 << 20).spawn(run).unwrap().join().unwrap()
 }
