@@ -23,6 +23,7 @@ pub mod readings;
 mod refusal;
 pub mod spell;
 mod style;
+pub mod texts;
 mod tree;
 
 pub use drawing::{Drawing, Fault};

@@ -48,7 +48,9 @@ pub static ATTRIBUTES: [&str; 211] = [
 pub const UNLISTED: u8 = 255;
 /// The code of the declaration `marker`, which stands for three attributes.
 pub const MARKER: u8 = 254;
-/// The code of the declaration `font`, which stands for six attributes.
+/// The code of the attribute `id`.
+pub const ID: u8 = 65;
+/// The code of the declaration `font`, which stands for fourteen attributes.
 pub const FONT: u8 = 38;
 
 /// The fixed values: that with number 1 comes first.
@@ -146,7 +148,7 @@ mod tests {
 
     #[test]
     fn codes() {
-        assert_eq!((attribute("font"), declaration("font")), (FONT, FONT));
+        assert_eq!((attribute("id"), declaration("font")), (ID, FONT));
         assert_eq!((element("a"), element("svg"), element("use"), element("fill")), (0, 45, 52, 255));
         assert_eq!((attribute("clip-path"), attribute("clipPath"), attribute("z"), attribute("marker")), (9, 255, 210, 255));
         assert_eq!((declaration("marker"), declaration("font"), declaration("Fill")), (254, 38, 255));

@@ -120,10 +120,10 @@ impl Tree {
     }
 
     /// The text with this number becomes another one of equal length, in the drawing and in the tree. A refusal changes nothing.
-    pub fn exchange(&mut self, number: u32, new: &str) -> Result<(), Refusal> {
+    pub fn exchange(&mut self, number: u32, new: impl AsRef<[u8]>) -> Result<(), Refusal> {
         let Tree { drawing, nodes, attributes, text, counts, .. } = self;
         let (script, characters) = drawing.parts_mut();
-        *counts = library::exchange(script, characters, number, new.as_bytes(), Lent { nodes, attributes, text })?;
+        *counts = library::exchange(script, characters, number, new.as_ref(), Lent { nodes, attributes, text })?;
         Ok(())
     }
 
@@ -241,7 +241,7 @@ fn room(drawing: &Drawing) -> [usize; 3] {
             Command::Open { .. } => nodes += 1,
             Command::Attribute { .. } => attributes += 1,
             Command::Declaration { name: names::MARKER, .. } => attributes += 3,
-            Command::Declaration { name: names::FONT, .. } => attributes += 6,
+            Command::Declaration { name: names::FONT, .. } => attributes += 14,
             Command::Declaration { .. } => attributes += 1,
             Command::Text(bytes) => {
                 nodes += 1;
@@ -327,7 +327,7 @@ mod tests {
     fn a_refused_exchange_changes_nothing() {
         let before = tree("<svg xmlns='http://www.w3.org/2000/svg'><style>a</style><text>b</text></svg>").unwrap();
         let mut after = before.clone();
-        for (number, new, refused) in [(0, "c", 30), (3, "c", 30), (1, "c", 31), (2, "cd", 32)] {
+        for (number, new, refused) in [(0, &b"c"[..], 30), (3, b"c", 30), (1, b"c", 31), (2, b"cd", 32), (2, b"\xff", 33)] {
             assert_eq!(after.exchange(number, new).map_err(Refusal::number), Err(refused));
             assert_eq!(after, before);
         }

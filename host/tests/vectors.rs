@@ -2,7 +2,7 @@
 //! again. What no document gives is left out first. Readings are left out too: those of the recorded drawings need not agree with their
 //! values.
 use std::fmt::Write;
-use storkvanity::{build, exchange, names, Counts, Drawing, Lent, Refusal};
+use storkvanity::{build, exchange, names, texts, Counts, Drawing, Lent, Refusal, Tree};
 
 /// A command of a script, with its string.
 #[derive(Debug, PartialEq, Clone)]
@@ -274,4 +274,25 @@ fn recorded_tables() {
         }
     }
     assert!(count > 140, "{count} records");
+}
+
+/// The texts that each text node is made from, where they are recorded: pairs of a node and its texts.
+#[test]
+fn recorded_sources() {
+    let mut count = 0;
+    for line in read("vectors/build-more.jsonl").lines().filter(|line| field(line, "sources").is_some()) {
+        let (script, characters) = (bytes(line, "script"), bytes(line, "characters"));
+        let tree = Tree::build(Drawing::new(script, characters)).unwrap();
+        let texts = texts::texts(tree.drawing());
+        let mut wanted = vec![Vec::new(); tree.len() as usize];
+        let recorded = field(line, "sources").unwrap().trim_end_matches('}').trim_end_matches(']');
+        for pair in recorded.split("]],").filter(|pair| pair.len() > 1) {
+            let (node, numbers) = pair.trim_start_matches('[').split_once(",[").unwrap();
+            let numbers = numbers.split(',').map(|number| number.parse::<u32>().unwrap());
+            wanted[node.parse::<usize>().unwrap()] = numbers.filter(|n| !texts[*n as usize - 1].place.is_empty()).collect();
+        }
+        assert_eq!(texts::sources(&tree).unwrap(), wanted);
+        count += 1;
+    }
+    assert!(count > 30, "{count} records");
 }
