@@ -10,7 +10,7 @@ pub struct Command {
 }
 
 /// The commands.
-pub static COMMANDS: [Command; 6] = [
+pub static COMMANDS: [Command; 8] = [
     Command {
         name: "check",
         arguments: "FILE.svg..",
@@ -46,6 +46,20 @@ pub static COMMANDS: [Command; 6] = [
         does: "asks one of the panel's four questions about the tree",
         more: "attribute: the attribute NAME of the node. find: the same where it may stand on an ancestor. id: the last element with\n\
                that id. text: the text of the node. NODE is a number, as `tree` shows it, or # and an id.\n",
+    },
+    Command {
+        name: "script",
+        arguments: "FILE",
+        does: "the drawing script in words, and what check says of it",
+        more: "A line for each command. If check refuses the drawing a comment behind the command at fault tells the number and its\n\
+               cause, and the status is 1. The words can be written by hand or changed: every command of this program takes a\n\
+               file of them, if its name ends with .script, where it takes an SVG file.\n",
+    },
+    Command {
+        name: "bytes",
+        arguments: "FILE OUT",
+        does: "writes the drawing as the panel takes it to OUT.commands and OUT.characters",
+        more: "FILE is an SVG file, or a drawing in words whose name ends with .script.\n",
     },
     Command { name: "explain", arguments: "NUMBER", does: "the manual's words for a number", more: "" },
 ];

@@ -21,6 +21,7 @@ mod library;
 pub mod names;
 pub mod readings;
 mod refusal;
+pub mod refused;
 pub mod spell;
 mod style;
 pub mod texts;

@@ -10,7 +10,8 @@ use std::io::Write;
 use std::os::unix::ffi::OsStrExt;
 use std::path::Path;
 use std::process::ExitCode;
-use storkvanity::{check, Drawing, Refusal, Tree};
+use storkvanity::refused::{self, Cause};
+use storkvanity::{check, spell, Drawing, Refusal, Tree};
 
 /// Why a command did not do what was asked.
 enum Failure {
@@ -70,6 +71,8 @@ fn run(arguments: &[&OsStr]) -> Done {
         ("texts", [file]) => print(&show::texts(&load_tree(file)?).map_err(refused)?),
         ("exchange", [file, number, new]) => exchange(file, number, new),
         ("ask", [file, question, words @ ..]) => ask(file, question, words),
+        ("script", [file]) => script(file),
+        ("bytes", [file, out]) => bytes(file, out),
         ("explain", [number]) => explain(number),
         _ => wrong(&format!("{name} is asked as: storkvanity {}", command.usage())),
     }
@@ -92,16 +95,24 @@ fn refused(refusal: Refusal) -> Failure {
     Failure::Words(refusal.to_string())
 }
 
-/// The drawing of a file, or why there is none.
+/// The drawing of a file, or why there is none. A file whose name ends with .script has a drawing in words.
 fn load(file: &OsStr) -> Result<Drawing, String> {
     let bytes = std::fs::read(file).map_err(|error| format!("cannot be read: {error}"))?;
+    if Path::new(file).extension() == Some(OsStr::new("script")) {
+        let text = String::from_utf8(bytes).map_err(|_| "the file is not written in UTF-8".to_string())?;
+        return spell::read(&text).map_err(|fault| fault.to_string());
+    }
     Drawing::from_bytes(&bytes).map_err(|fault| format!("no XML: {fault}"))
+}
+
+/// What goes wrong with a file.
+fn told(file: &OsStr) -> impl Fn(String) -> Failure + '_ {
+    move |words| Failure::Words(format!("{}: {words}", Path::new(file).display()))
 }
 
 /// The tree of a file.
 fn load_tree(file: &OsStr) -> Result<Tree, Failure> {
-    let told = |words: String| Failure::Words(format!("{}: {words}", Path::new(file).display()));
-    Tree::build(load(file).map_err(told)?).map_err(|refusal| told(refusal.to_string()))
+    Tree::build(load(file).map_err(told(file))?).map_err(|refusal| told(file)(refusal.to_string()))
 }
 
 /// A line for each file. On a terminal many files have a bar of how far the work is.
@@ -204,6 +215,33 @@ fn node_of(tree: &Tree, word: &str) -> Result<u32, Failure> {
             node.ok_or_else(|| Failure::Words(format!("the tree has no element with the id '{id}'")))
         }
     }
+}
+
+/// The drawing in words. What check says of it stands in a comment: behind the command that it is refused for, or at the end.
+fn script(file: &OsStr) -> Done {
+    let drawing = load(file).map_err(told(file))?;
+    let mut lines = spell::lines(drawing.script(), drawing.characters());
+    let refused = refused::refused(drawing.script(), drawing.characters());
+    match &refused {
+        None => lines.push("# check: 0: taken\n".to_string()),
+        Some((refusal, Cause::Command(number))) => lines.insert(*number, format!("# check, command {number}: {refusal}\n")),
+        Some((refusal, Cause::End)) => lines.push(format!("# check, at the end: {refusal}\n")),
+        Some((refusal, Cause::Size)) => lines.push(format!("# check: {refusal}\n")),
+    }
+    print(&lines.concat())?;
+    refused.is_none().then_some(()).ok_or(Failure::Said)
+}
+
+/// Writes the commands and the characters of a drawing to two files.
+fn bytes(file: &OsStr, out: &OsStr) -> Done {
+    let drawing = load(file).map_err(told(file))?;
+    for (end, bytes) in [(".commands", drawing.script()), (".characters", drawing.characters())] {
+        let mut name = out.to_os_string();
+        name.push(end);
+        std::fs::write(&name, bytes).map_err(|error| told(&name)(format!("cannot be written: {error}")))?;
+        print(&format!("{}: {} bytes\n", Path::new(&name).display(), bytes.len()))?;
+    }
+    Ok(())
 }
 
 /// The manual's words for a number.

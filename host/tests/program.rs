@@ -9,6 +9,11 @@ fn run(arguments: &[&str]) -> (Option<i32>, String, String) {
     (output.status.code(), text(output.stdout), text(output.stderr))
 }
 
+/// A scratch file.
+fn scratch(name: &str) -> String {
+    format!("{}/{name}", env!("CARGO_TARGET_TMPDIR"))
+}
+
 #[test]
 fn check_prints_a_line_for_each_file() {
     assert_eq!(run(&["check", "drawing.svg"]), (Some(0), "drawing.svg: 0: taken\n".to_string(), String::new()));
@@ -22,10 +27,9 @@ fn check_prints_a_line_for_each_file() {
 
 #[test]
 fn a_refused_drawing_has_its_number_and_cause() {
-    let file = std::env::temp_dir().join(format!("storkvanity-{}.svg", std::process::id()));
+    let file = scratch("deep.svg");
     std::fs::write(&file, "<g>".repeat(2049) + &"</g>".repeat(2049)).unwrap();
-    let answer = run(&["check", file.to_str().unwrap()]);
-    std::fs::remove_file(&file).unwrap();
+    let answer = run(&["check", &file]);
     assert_eq!(answer.0, Some(1));
     assert!(answer.1.ends_with(".svg: 5: More than 2,048 elements are open at once.\n"));
 }
@@ -41,10 +45,9 @@ static GRIPPER: &str = "../../examples/gripper.svg";
 
 #[test]
 fn check_builds_too() {
-    let file = std::env::temp_dir().join(format!("storkvanity-top-{}.svg", std::process::id()));
+    let file = scratch("top.svg");
     std::fs::write(&file, "<g xmlns='http://www.w3.org/2000/svg'/>").unwrap();
-    let answer = run(&["check", file.to_str().unwrap()]);
-    std::fs::remove_file(&file).unwrap();
+    let answer = run(&["check", &file]);
     assert_eq!(answer.0, Some(1));
     assert!(answer.1.ends_with(".svg: 21: Everything was read, but the top element is not `svg`.\n"), "{}", answer.1);
 }
@@ -110,6 +113,44 @@ fn questions_go_by_names() {
     }
 }
 
+/// A drawing in words is that of the SVG file: to the tree, and to the bytes.
+#[test]
+fn script_and_back() {
+    let lines = printed(&["script", GRIPPER]);
+    assert!(lines.starts_with("other\nopen svg (svg)\n  attribute viewBox (none) \"0 0 240 120\"\n"), "{lines}");
+    assert!(
+        lines.contains("    attribute clip-path (none) \"url(#window)\"\n      reading func-iri \"window\" at 5\n"),
+        "{lines}"
+    );
+    assert!(lines.ends_with("close\n# check: 0: taken\n"), "{lines}");
+    let (file, out) = (scratch("gripper.script"), scratch("out"));
+    std::fs::write(&file, &lines).unwrap();
+    assert_eq!(printed(&["tree", &file]), printed(&["tree", GRIPPER]));
+    let bytes = |name: &str| {
+        let written = printed(&["bytes", name, &out]);
+        assert_eq!(written.lines().count(), 2);
+        [".commands", ".characters"].map(|end| std::fs::read(out.clone() + end).unwrap())
+    };
+    assert_eq!(bytes(&file), bytes(GRIPPER));
+}
+
+#[test]
+fn check_of_a_script_by_hand() {
+    let file = scratch("hand.script");
+    let see = |lines: &str| {
+        std::fs::write(&file, lines).unwrap();
+        run(&["script", &file])
+    };
+    let (status, lines, _) = see("open svg (svg)\n  open #60 (svg)\n  close\nclose\n");
+    assert_eq!(status, Some(1));
+    assert!(lines.starts_with("open svg (svg)\n  open #60 (svg)\n# check, command 2: 3: A command names an element"), "{lines}");
+    assert!(see("open svg (svg)\n").1.contains("# check, at the end: 4: "));
+    let (status, lines, errors) = see("open svg (svg)\n  text 12 kg\nclose\n");
+    assert_eq!((status, lines.as_str()), (Some(1), ""));
+    assert_eq!(errors, format!("storkvanity: {file}: line 2, column 8: a string in quotes is missing\n"));
+    assert!(run(&["check", &file]).1.ends_with("hand.script: line 2, column 8: a string in quotes is missing\n"));
+}
+
 /// The manual's tables are the one source: `explain` has each of their sentences.
 #[test]
 fn explain_has_the_manuals_words() {
@@ -150,7 +191,7 @@ fn wrong_arguments_get_one_sentence() {
 #[test]
 fn help_for_each_command() {
     let all = printed(&["--help"]);
-    let names = ["check", "tree", "texts", "exchange", "ask", "explain"];
+    let names = ["check", "tree", "texts", "exchange", "ask", "script", "bytes", "explain"];
     for name in names {
         assert!(all.contains(&format!("\nstorkvanity {name} ")), "{name}");
         assert!(printed(&[name, "--help"]).starts_with(&format!("storkvanity {name} ")), "{name}");

@@ -2,7 +2,8 @@
 //! again. What no document gives is left out first. Readings are left out too: those of the recorded drawings need not agree with their
 //! values.
 use std::fmt::Write;
-use storkvanity::{build, exchange, names, texts, Counts, Drawing, Lent, Refusal, Tree};
+use storkvanity::refused::{self, Cause};
+use storkvanity::{build, exchange, names, spell, texts, Counts, Drawing, Lent, Refusal, Tree};
 
 /// A command of a script, with its string.
 #[derive(Debug, PartialEq, Clone)]
@@ -295,4 +296,24 @@ fn recorded_sources() {
         count += 1;
     }
     assert!(count > 30, "{count} records");
+}
+
+/// Every recorded drawing in words, and back. Where one is refused a cause is found, and all before it is taken.
+#[test]
+fn recorded_scripts_in_words_and_back() {
+    let mut count = 0;
+    for file in ["build", "build-more", "check", "exchange", "exchange-more"] {
+        for line in read(&format!("vectors/{file}.jsonl")).lines() {
+            let drawing = Drawing::new(bytes(line, "script"), bytes(line, "characters"));
+            let lines = spell::lines(drawing.script(), drawing.characters());
+            assert_eq!(spell::read(&lines.concat()), Ok(drawing.clone()));
+            if let Some((_, Cause::Command(number))) = refused::refused(drawing.script(), drawing.characters()) {
+                let before = spell::read(&lines[..number - 1].concat()).unwrap();
+                let cause = refused::refused(before.script(), before.characters()).map(|refused| refused.1);
+                assert!(matches!(cause, None | Some(Cause::End)) || lines[number - 1].contains("reading"), "{lines:?}");
+                count += 1;
+            }
+        }
+    }
+    assert!(count > 20, "{count} refused");
 }
