@@ -13,6 +13,8 @@ mod case;
 #[cfg(feature = "rust")]
 mod events;
 #[cfg(feature = "rust")]
+mod files;
+#[cfg(feature = "rust")]
 mod generate;
 #[cfg(feature = "rust")]
 mod limits;
@@ -44,6 +46,8 @@ With the Rust (feature rust):
   random N SEED [THEME]      N random drawings of a theme, or of all in turn, the library beside the Rust
   small SORT N               all drawings of up to N commands, texts, links or uses, by the sort, likewise
   limits                     drawings at the limits of sizes, depth and nodes, likewise
+  files FOLDER               the drawings of SVG files that the host has written to a folder, likewise
+  record-files FOLDER        writes a line for each of these, with a hash of the Rust's tables
   record N SEED              writes N drawings with hashes of the Rust's answers
   faults N SEED              puts faults into the Rust's answers, and tells after how many random drawings each is seen
   show DRAWING               prints a drawing, the first word of a line of the list, and the Rust's tree
@@ -92,6 +96,11 @@ fn with_rust(words: &[&str]) -> Result<bool, String> {
             Ok(tally.end(&format!("all of up to {most} {sort}")))
         }
         ["limits"] => Ok(run::limits(&side, compared).end("drawings at the limits")),
+        ["files", folder] => Ok(files::files(folder, &side, compared)?.end("drawings of SVG files")),
+        ["record-files", folder] => {
+            files::record(folder)?.iter().for_each(|line| println!("{line}"));
+            Ok(true)
+        }
         ["record", count, seed] => {
             println!(
                 "# Drawings with hashes of the Rust's answers, by `compare record {count} {seed}`. src/record.rs says what a line has."
