@@ -59,6 +59,11 @@ impl Drawing {
         Ok(drawing)
     }
 
+    /// A drawing of commands and strings that are there already. Nothing is asked of them.
+    pub fn new(script: Vec<u8>, characters: Vec<u8>) -> Drawing {
+        Drawing { script, characters }
+    }
+
     /// The commands.
     pub fn script(&self) -> &[u8] {
         &self.script
@@ -67,6 +72,11 @@ impl Drawing {
     /// The strings of the commands.
     pub fn characters(&self) -> &[u8] {
         &self.characters
+    }
+
+    /// The commands, and the strings to write to.
+    pub(crate) fn parts_mut(&mut self) -> (&[u8], &mut [u8]) {
+        (&self.script, &mut self.characters)
     }
 
     /// Every node of the document in its order, with a close behind the last child of each element. What stands deep takes no stack.

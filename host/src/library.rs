@@ -23,6 +23,14 @@ struct Answer {
     index: u32,
 }
 
+/// What build and exchange answer: a number, and how much of the tables is taken.
+#[derive(Clone, Copy)]
+#[repr(C)]
+struct Built {
+    number: u32,
+    counts: Counts,
+}
+
 /// A part of the text table.
 #[derive(Clone, Copy)]
 #[repr(C)]
@@ -35,6 +43,12 @@ struct Part {
 #[rustfmt::skip]
 extern "C" {
     fn svgtree_check(script: *const u8, script_len: usize, characters: *const u8, characters_len: usize) -> u32;
+    fn svgtree_build(
+        script: *const u8, script_len: usize, characters: *const u8, characters_len: usize,
+        nodes: *mut u32, nodes_len: usize, attributes: *mut u32, attributes_len: usize, text: *mut u8, text_len: usize) -> Built;
+    fn svgtree_exchange(
+        script: *const u8, script_len: usize, characters: *mut u8, characters_len: usize, number: u32, new: *const u8, new_len: usize,
+        nodes: *mut u32, nodes_len: usize, attributes: *mut u32, attributes_len: usize, text: *mut u8, text_len: usize) -> Built;
     fn svgtree_attribute(
         nodes: *const u32, nodes_len: usize, attributes: *const u32, attributes_len: usize, text: *const u8, text_len: usize,
         characters: *const u8, characters_len: usize, counts: Counts, node: u32, name: u32) -> Answer;
@@ -49,7 +63,8 @@ extern "C" {
         characters: *const u8, characters_len: usize, counts: Counts, node: u32) -> Part;
 }
 
-// SAFETY, for every call below: each pointer and length are those of one slice that lives through the call, and the library only reads.
+// SAFETY, for every call below: each pointer and length are those of one slice that lives through the call. What the library writes to is
+// borrowed for writing, so no other slice overlaps it.
 
 /// Whether the panel takes a drawing of these commands and strings.
 pub fn check(script: &[u8], characters: &[u8]) -> Result<(), Refusal> {
@@ -57,6 +72,47 @@ pub fn check(script: &[u8], characters: &[u8]) -> Result<(), Refusal> {
         0 => Ok(()),
         number => Err(Refusal::new(number)),
     }
+}
+
+/// Tables that are lent to [`build`] and [`exchange`]. What they hold before does not matter.
+#[derive(Debug)]
+pub struct Lent<'a> {
+    /// Room for node records of eight words.
+    pub nodes: &'a mut [u32],
+    /// Room for attribute entries of five words.
+    pub attributes: &'a mut [u32],
+    /// Room for texts.
+    pub text: &'a mut [u8],
+}
+
+/// The tree of a drawing, in the tables. A refusal clears them.
+#[rustfmt::skip]
+pub fn build(script: &[u8], characters: &[u8], lent: Lent) -> Result<Counts, Refusal> {
+    let Lent { nodes, attributes, text } = lent;
+    built(with_stack(|| unsafe { svgtree_build(
+        script.as_ptr(), script.len(), characters.as_ptr(), characters.len(), nodes.as_mut_ptr(), nodes.len(),
+        attributes.as_mut_ptr(), attributes.len(), text.as_mut_ptr(), text.len()) }))
+}
+
+/// The text with that number, counted from 1, becomes `new`, and the tables are those of the changed drawing. Refusals 1 to 9 and 30 to 33
+/// touch nothing; 20 to 24 leave the characters and clear the tables.
+#[rustfmt::skip]
+pub fn exchange(script: &[u8], characters: &mut [u8], number: u32, new: &[u8], lent: Lent) -> Result<Counts, Refusal> {
+    let Lent { nodes, attributes, text } = lent;
+    built(with_stack(|| unsafe { svgtree_exchange(
+        script.as_ptr(), script.len(), characters.as_mut_ptr(), characters.len(), number, new.as_ptr(), new.len(),
+        nodes.as_mut_ptr(), nodes.len(), attributes.as_mut_ptr(), attributes.len(), text.as_mut_ptr(), text.len()) }))
+}
+
+/// The stack of a thread that builds: twice what docs/MANUAL.md asks for.
+const STACK: usize = 4 << 20;
+
+/// Runs a call that takes more stack the deeper a drawing nests, in a thread that has enough for every drawing.
+fn with_stack<T: Send>(call: impl FnOnce() -> T + Send) -> T {
+    std::thread::scope(|scope| {
+        let thread = std::thread::Builder::new().stack_size(STACK).spawn_scoped(scope, call);
+        thread.expect("the system starts a thread").join().expect("the library does not panic")
+    })
 }
 
 /// The tables of a tree, and the characters of its drawing: what the four questions are asked of. Any content gets an answer.
@@ -106,6 +162,13 @@ impl<'a> Tables<'a> {
     }
 }
 
+fn built(built: Built) -> Result<Counts, Refusal> {
+    match built.number {
+        0 => Ok(built.counts),
+        number => Err(Refusal::new(number)),
+    }
+}
+
 fn answered(answer: Answer) -> Result<Option<u32>, Refusal> {
     match answer.number {
         0 => Ok(Some(answer.index).filter(|_| answer.found != 0)),
@@ -130,6 +193,40 @@ mod tests {
     fn tables(attributes: &[u32]) -> Tables<'_> {
         let counts = Counts { nodes: 4, attributes: 1, text: 2 };
         Tables { nodes: &NODES, attributes, text: b"bc", characters: b"abc", counts }
+    }
+
+    /// The script of that drawing.
+    #[rustfmt::skip]
+    static SCRIPT: [u8; 21] = [1, 45, 1, 2, 65, 0, 1, 0, 0, 0, 1, 48, 1, 5, 2, 0, 0, 0, 7, 7, 6];
+
+    #[test]
+    fn build_and_exchange() {
+        let mut characters = *b"abc";
+        let (mut nodes, mut attributes, mut text) = ([9; 40], [9; 6], [9; 3]);
+        let lent = Lent { nodes: &mut nodes, attributes: &mut attributes, text: &mut text };
+        let counts = Counts { nodes: 4, attributes: 1, text: 2 };
+        assert_eq!(build(&SCRIPT, &characters, lent), Ok(counts));
+        assert_eq!((&nodes[..32], nodes[32..].to_vec()), (&NODES[..], vec![0; 8]));
+        assert_eq!((attributes, text), ([65, 0, 0, 1, 2, 0], *b"bc\0"));
+
+        let lent = Lent { nodes: &mut nodes, attributes: &mut attributes, text: &mut text };
+        assert_eq!(exchange(&SCRIPT, &mut characters, 1, b"de", lent), Ok(counts));
+        assert_eq!((characters, text), (*b"ade", *b"de\0"));
+        for (number, new, refused) in [(0, &b"fg"[..], 30), (2, b"fg", 30), (1, b"fgh", 32), (1, b"\xc3\x28", 33)] {
+            let lent = Lent { nodes: &mut nodes, attributes: &mut attributes, text: &mut text };
+            assert_eq!(exchange(&SCRIPT, &mut characters, number, new, lent).map_err(Refusal::number), Err(refused));
+            assert_eq!((characters, text, &nodes[..32]), (*b"ade", *b"de\0", &NODES[..]));
+        }
+    }
+
+    #[test]
+    fn a_refused_build_clears_the_tables() {
+        for (room, number) in [([31, 5, 2], 22), ([32, 4, 2], 23), ([32, 5, 1], 24)] {
+            let (mut nodes, mut attributes, mut text) = (vec![9; room[0]], vec![9; room[1]], vec![9; room[2]]);
+            let lent = Lent { nodes: &mut nodes, attributes: &mut attributes, text: &mut text };
+            assert_eq!(build(&SCRIPT, b"abc", lent).map_err(Refusal::number), Err(number));
+            assert!(nodes.iter().chain(&attributes).all(|&word| word == 0) && text.iter().all(|&byte| byte == 0));
+        }
     }
 
     #[test]

@@ -48,6 +48,17 @@ pub static ATTRIBUTES: [&str; 211] = [
 pub const UNLISTED: u8 = 255;
 /// The code of the declaration `marker`, which stands for three attributes.
 pub const MARKER: u8 = 254;
+/// The code of the attribute `id`.
+pub const ID: u8 = 65;
+/// The code of the declaration `font`, which stands for fourteen attributes.
+pub const FONT: u8 = 38;
+
+/// The fixed values: that with number 1 comes first.
+#[rustfmt::skip]
+pub static FIXED: [&str; 18] = [
+    "none", "auto", "normal", "black", "1", "nonzero", "baseline", "linearRGB", "ltr", "inline", "medium", "visible", "0", "butt",
+    "miter", "4", "start", "lr-tb",
+];
 
 fn code(list: &[&str], name: &str) -> u8 {
     list.iter().position(|n| *n == name).map_or(UNLISTED, |place| place as u8)
@@ -137,6 +148,7 @@ mod tests {
 
     #[test]
     fn codes() {
+        assert_eq!((attribute("id"), declaration("font")), (ID, FONT));
         assert_eq!((element("a"), element("svg"), element("use"), element("fill")), (0, 45, 52, 255));
         assert_eq!((attribute("clip-path"), attribute("clipPath"), attribute("z"), attribute("marker")), (9, 255, 210, 255));
         assert_eq!((declaration("marker"), declaration("font"), declaration("Fill")), (254, 38, 255));

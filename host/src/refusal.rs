@@ -29,16 +29,48 @@ impl Refusal {
 
     /// The manual's causes of this number: one sentence or more for each. 20 has two, the depth and the count.
     pub fn causes(self) -> impl Iterator<Item = &'static str> {
-        rows().filter(move |row| row.0 == self.number).map(|row| row.1)
+        rows(self.number).map(|row| row.cause)
+    }
+
+    /// All that the manual's tables say of a number: for each row when it is given, the cause, and what helps. None if there is no row.
+    ///
+    /// ```
+    /// let words = storkvanity::Refusal::explain(22).unwrap();
+    /// assert_eq!(words, "22: While a drawing is loaded: The node table is full.\nWhat helps: A larger table.\n");
+    /// ```
+    pub fn explain(number: u32) -> Option<String> {
+        let mut words = String::new();
+        for row in rows(number) {
+            words += &format!("{number}: {}: {}\n", row.section, row.cause);
+            if let Some(helps) = row.helps {
+                words += &format!("What helps: {helps}\n");
+            }
+        }
+        Some(words).filter(|words| !words.is_empty())
     }
 }
 
-/// The rows of the manual's tables: number and cause.
-fn rows() -> impl Iterator<Item = (u32, &'static str)> {
-    MANUAL.lines().filter_map(|line| {
-        let mut cells = line.strip_prefix('|')?.split('|').map(str::trim);
+/// A row of the manual's tables.
+struct Row {
+    number: u32,
+    section: &'static str,
+    cause: &'static str,
+    helps: Option<&'static str>,
+}
+
+/// The rows of a number.
+fn rows(number: u32) -> impl Iterator<Item = Row> {
+    all_rows().filter(move |row| row.number == number)
+}
+
+/// The rows of all numbers.
+fn all_rows() -> impl Iterator<Item = Row> {
+    let mut section = "";
+    MANUAL.lines().filter_map(move |line| {
+        section = line.strip_prefix("## ").unwrap_or(section);
+        let mut cells = line.strip_prefix('|')?.split('|').map(str::trim).filter(|cell| !cell.is_empty());
         let number = cells.next()?.split(' ').next()?.parse().ok()?;
-        Some((number, cells.next()?))
+        Some(Row { number, section, cause: cells.next()?, helps: cells.next() })
     })
 }
 
@@ -60,8 +92,15 @@ mod tests {
 
     #[test]
     fn the_manual_has_every_number() {
-        let numbers: Vec<u32> = rows().map(|row| row.0).collect();
+        let numbers: Vec<u32> = all_rows().map(|row| row.number).collect();
         assert_eq!(numbers, [1, 2, 3, 4, 5, 6, 7, 9, 8, 20, 23, 20, 24, 22, 21, 30, 31, 32, 33, 40, 41, 42]);
+    }
+
+    #[test]
+    fn explanations() {
+        assert_eq!(Refusal::explain(20).unwrap().lines().count(), 4);
+        assert_eq!(Refusal::explain(30).unwrap().lines().count(), 1);
+        assert_eq!([0, 10, 99].map(Refusal::explain), [None, None, None]);
     }
 
     #[test]

@@ -1,7 +1,9 @@
-//! Recorded drawings as XML, and back: the document that is written from a script becomes the same script again. What no document gives
-//! is left out first. Readings are left out too: those of the recorded drawings need not agree with their values.
+//! Recorded builds and exchanges. Recorded drawings as XML, and back: the document that is written from a script becomes the same script
+//! again. What no document gives is left out first. Readings are left out too: those of the recorded drawings need not agree with their
+//! values.
 use std::fmt::Write;
-use storkvanity::{names, Drawing};
+use storkvanity::refused::{self, Cause};
+use storkvanity::{build, exchange, names, spell, texts, Counts, Drawing, Lent, Refusal, Tree};
 
 /// A command of a script, with its string.
 #[derive(Debug, PartialEq, Clone)]
@@ -182,8 +184,13 @@ fn there_and_back(recorded: Vec<Command>) {
     assert_eq!(storkvanity::check(drawing.script(), drawing.characters()), Ok(()), "{xml}");
 }
 
-fn bytes(line: &str, field: &str) -> Vec<u8> {
-    let hex = line.split_once(&format!("\"{field}\": \"")).and_then(|(_, rest)| rest.split_once('"')).map_or("", |(hex, _)| hex);
+/// What stands behind the name of a field.
+fn field<'a>(line: &'a str, name: &str) -> Option<&'a str> {
+    Some(line.split_once(&format!("\"{name}\":"))?.1.trim_start())
+}
+
+fn bytes(line: &str, name: &str) -> Vec<u8> {
+    let hex = field(line, name).and_then(|rest| rest.strip_prefix('"')?.split('"').next()).unwrap_or("");
     (0..hex.len() / 2).map(|i| u8::from_str_radix(&hex[2 * i..2 * i + 2], 16).unwrap()).collect()
 }
 
@@ -203,7 +210,7 @@ fn vectors_and_back() {
             }
         }
     }
-    assert!(count > 50, "{count} drawings");
+    assert!(count > 120, "{count} drawings");
 }
 
 /// A line has a drawing in one word, the lengths of three tables, and build's number: 1 to 9 are check's.
@@ -219,4 +226,94 @@ fn recorded_drawings_and_back() {
         }
     }
     assert!(count > 2000, "{count} drawings");
+}
+
+/// A list of numbers. A record without it has None.
+fn list(line: &str, name: &str) -> Option<Vec<u32>> {
+    let list = field(line, name)?.strip_prefix('[')?.split(']').next()?;
+    Some(list.split(',').filter(|word| !word.is_empty()).map(|word| word.trim().parse().unwrap()).collect())
+}
+
+fn number(line: &str, name: &str) -> u32 {
+    field(line, name).unwrap().split(|c: char| !c.is_ascii_digit()).next().unwrap().parse().unwrap()
+}
+
+/// The number of an answer and its counts.
+fn told(answer: Result<Counts, Refusal>) -> (u32, Vec<u32>) {
+    match answer {
+        Ok(counts) => (0, vec![counts.nodes, counts.attributes, counts.text]),
+        Err(refusal) => (refusal.number(), vec![0; 3]),
+    }
+}
+
+/// Every recorded build and exchange, with every word of every table. Tables that a record leaves out are all zero, or untouched.
+#[test]
+fn recorded_tables() {
+    let mut count = 0;
+    for file in ["build", "build-more", "exchange", "exchange-more"] {
+        for line in read(&format!("vectors/{file}.jsonl")).lines() {
+            let (script, mut characters) = (bytes(line, "script"), bytes(line, "characters"));
+            let words = list(line, "words").unwrap();
+            let (mut nodes, mut attributes) = (vec![7; words[0] as usize], vec![7; words[1] as usize]);
+            let mut text = vec![7; words[2] as usize];
+            let lent = Lent { nodes: &mut nodes, attributes: &mut attributes, text: &mut text };
+            let left = if file.starts_with("build") {
+                assert_eq!(told(build(&script, &characters, lent)), (number(line, "number"), list(line, "counts").unwrap()));
+                0
+            } else {
+                let new = bytes(line, "bytes");
+                let answer = told(exchange(&script, &mut characters, number(line, "text_number"), &new, lent));
+                assert_eq!(answer, (number(line, "number"), list(line, "counts").unwrap()));
+                assert_eq!(characters, bytes(line, "characters_after"));
+                7 * !matches!(answer.0, 0 | 20..=24) as u32
+            };
+            assert_eq!(nodes, list(line, "nodes").unwrap_or_else(|| vec![left; words[0] as usize]));
+            assert_eq!(attributes, list(line, "attributes").unwrap_or_else(|| vec![left; words[1] as usize]));
+            let recorded = if line.contains("\"nodes\"") { bytes(line, "text") } else { vec![left as u8; words[2] as usize] };
+            assert_eq!(text, recorded);
+            count += 1;
+        }
+    }
+    assert!(count > 140, "{count} records");
+}
+
+/// The texts that each text node is made from, where they are recorded: pairs of a node and its texts.
+#[test]
+fn recorded_sources() {
+    let mut count = 0;
+    for line in read("vectors/build-more.jsonl").lines().filter(|line| field(line, "sources").is_some()) {
+        let (script, characters) = (bytes(line, "script"), bytes(line, "characters"));
+        let tree = Tree::build(Drawing::new(script, characters)).unwrap();
+        let texts = texts::texts(tree.drawing());
+        let mut wanted = vec![Vec::new(); tree.len() as usize];
+        let recorded = field(line, "sources").unwrap().trim_end_matches('}').trim_end_matches(']');
+        for pair in recorded.split("]],").filter(|pair| pair.len() > 1) {
+            let (node, numbers) = pair.trim_start_matches('[').split_once(",[").unwrap();
+            let numbers = numbers.split(',').map(|number| number.parse::<u32>().unwrap());
+            wanted[node.parse::<usize>().unwrap()] = numbers.filter(|n| !texts[*n as usize - 1].place.is_empty()).collect();
+        }
+        assert_eq!(texts::sources(&tree).unwrap(), wanted);
+        count += 1;
+    }
+    assert!(count > 30, "{count} records");
+}
+
+/// Every recorded drawing in words, and back. Where one is refused a cause is found, and all before it is taken.
+#[test]
+fn recorded_scripts_in_words_and_back() {
+    let mut count = 0;
+    for file in ["build", "build-more", "check", "exchange", "exchange-more"] {
+        for line in read(&format!("vectors/{file}.jsonl")).lines() {
+            let drawing = Drawing::new(bytes(line, "script"), bytes(line, "characters"));
+            let lines = spell::lines(drawing.script(), drawing.characters());
+            assert_eq!(spell::read(&lines.concat()), Ok(drawing.clone()));
+            if let Some((_, Cause::Command(number))) = refused::refused(drawing.script(), drawing.characters()) {
+                let before = spell::read(&lines[..number - 1].concat()).unwrap();
+                let cause = refused::refused(before.script(), before.characters()).map(|refused| refused.1);
+                assert!(matches!(cause, None | Some(Cause::End)) || lines[number - 1].contains("reading"), "{lines:?}");
+                count += 1;
+            }
+        }
+    }
+    assert!(count > 20, "{count} refused");
 }

@@ -185,7 +185,11 @@ fn slack(r: &mut Random) -> [i64; 3] {
 
 /// The case of an input: a drawing of its theme, tables at or near what is needed, and often an exchange.
 pub fn random(theme: Theme, r: &mut Random) -> Case {
-    let bytes = generate::drawing(theme, r);
+    of_drawing(generate::drawing(theme, r), r)
+}
+
+/// The same for a drawing that is there.
+pub fn of_drawing(bytes: Bytes, r: &mut Random) -> Case {
     let slack = slack(r);
     let exchange = match commands::read(&bytes) {
         Some(commands) if r.one_in(2) => exchange(r, &commands),

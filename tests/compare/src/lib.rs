@@ -12,6 +12,8 @@ pub mod case;
 #[cfg(feature = "rust")]
 pub mod events;
 #[cfg(feature = "rust")]
+pub mod files;
+#[cfg(feature = "rust")]
 pub mod generate;
 #[cfg(feature = "rust")]
 pub mod limits;

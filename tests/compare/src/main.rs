@@ -1,7 +1,7 @@
 //! The Rust itself beside the port's library. See `USAGE`.
 use compare::record;
 #[cfg(feature = "rust")]
-use compare::{commands, generate, run, rust, vectors};
+use compare::{commands, files, generate, run, rust, vectors};
 
 const USAGE: &str = "usage: compare COMMAND
   replay FILE                recorded drawings, beside the library and the Rust, as far as each is built in
@@ -11,6 +11,8 @@ With the Rust (feature rust):
   small SORT N               all drawings of up to N commands, texts, links or uses, by the sort, likewise
   files FILE..               drawings of SVG files, as host/examples/scripts.rs writes them, likewise
   limits                     drawings at the limits of sizes, depth and nodes, likewise
+  folder FOLDER              the drawings of SVG files that the tests of host/ have written to a folder, likewise
+  record-folder FOLDER       writes a line for each of these, with a hash of the Rust's tables
   record N SEED              writes N drawings with hashes of the Rust's answers
   faults N SEED              puts faults into the Rust's answers, and tells after how many random drawings each is seen
   show DRAWING               prints a drawing, the first word of a line of the list, and the Rust's tree
@@ -64,6 +66,11 @@ fn with_rust(words: &[&str]) -> Result<bool, String> {
             Ok(run::drawings(&drawings, &side, compared).end(&format!("{} drawings of files", drawings.len())))
         }
         ["limits"] => Ok(run::limits(&side, compared).end("drawings at the limits")),
+        ["folder", folder] => Ok(files::files(folder, &side, compared)?.end("drawings of SVG files")),
+        ["record-folder", folder] => {
+            files::record(folder)?.iter().for_each(|line| println!("{line}"));
+            Ok(true)
+        }
         ["record", count, seed] => {
             println!(
                 "# Drawings with hashes of the Rust's answers, by `compare record {count} {seed}`. src/record.rs says what a line has."

@@ -12,18 +12,22 @@ use host::built::{Built, Exchanged};
 pub struct Hash(u64);
 
 impl Hash {
-    fn new() -> Hash {
+    pub fn new() -> Hash {
         Hash(0xcbf2_9ce4_8422_2325)
     }
 
-    fn bytes(&mut self, bytes: &[u8]) {
+    pub fn bytes(&mut self, bytes: &[u8]) {
         for &byte in bytes {
             self.0 = (self.0 ^ byte as u64).wrapping_mul(0x100_0000_01b3);
         }
     }
 
-    fn words(&mut self, words: &[u32]) {
+    pub fn words(&mut self, words: &[u32]) {
         words.iter().for_each(|w| self.bytes(&w.to_le_bytes()));
+    }
+
+    pub fn written(&self) -> String {
+        format!("{:016x}", self.0)
     }
 }
 
@@ -38,7 +42,7 @@ fn hash_into(h: &mut Hash, built: &Built) {
 pub fn hash_built(built: &Built) -> String {
     let mut h = Hash::new();
     hash_into(&mut h, built);
-    format!("{:016x}", h.0)
+    h.written()
 }
 
 pub fn hash_exchanged(exchanged: &Exchanged) -> String {
@@ -46,13 +50,13 @@ pub fn hash_exchanged(exchanged: &Exchanged) -> String {
     h.words(&[exchanged.number, exchanged.tables.is_some() as u32]);
     h.bytes(&exchanged.characters);
     exchanged.tables.iter().for_each(|t| hash_into(&mut h, t));
-    format!("{:016x}", h.0)
+    h.written()
 }
 
 pub fn hash_replies(replies: &[Reply]) -> String {
     let mut h = Hash::new();
     replies.iter().for_each(|r| h.words(r));
-    format!("{:016x}", h.0)
+    h.written()
 }
 
 pub struct Line {

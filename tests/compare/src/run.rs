@@ -21,6 +21,10 @@ pub struct Tally {
 }
 
 impl Tally {
+    pub fn new(compared: bool) -> Tally {
+        Tally { compared, ..Tally::default() }
+    }
+
     /// What a run should see happen, and has not.
     pub fn print_missing(&self) {
         let missing = self.events.missing(&EVENTS);
