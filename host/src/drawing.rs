@@ -1,8 +1,8 @@
 //! The drawing script and its characters (document 01, section 2), from an XML document.
+use crate::names;
 use crate::readings::{readings, Kind, Place};
-use crate::{names, style};
+use crate::style::Sheet;
 use roxmltree::{Document, Node, NodeType, ParsingOptions};
-use simplecss::StyleSheet;
 use std::borrow::Cow;
 use std::fmt;
 
@@ -19,7 +19,7 @@ pub struct Drawing {
     characters: Vec<u8>,
 }
 
-/// Why a file is no XML document, and where.
+/// Why there is no drawing of a file, and where: it is no XML document, or its style sheet has no end of work.
 #[derive(Clone, Debug, PartialEq, Eq)]
 pub struct Fault {
     /// The line, counted from 1.
@@ -53,9 +53,10 @@ impl Drawing {
         let options = ParsingOptions { allow_dtd: true, ..ParsingOptions::default() };
         let xml = Document::parse_with_options(text, options).map_err(|error| no_xml(&error))?;
         all_closed(text, &xml)?;
-        let sheet = style::resolve_css(&xml);
+        let sheet = Sheet::of(&xml)?;
         let mut drawing = Drawing::default();
         drawing.add_document(&xml, &sheet);
+        sheet.was_matched(&xml)?;
         Ok(drawing)
     }
 
@@ -80,7 +81,7 @@ impl Drawing {
     }
 
     /// Every node of the document in its order, with a close behind the last child of each element. What stands deep takes no stack.
-    fn add_document<'a>(&mut self, xml: &'a Document<'a>, sheet: &StyleSheet<'a>) {
+    fn add_document<'a>(&mut self, xml: &'a Document<'a>, sheet: &Sheet<'a>) {
         let mut next = xml.root().first_child();
         while let Some(mut node) = next {
             self.add_node(node, sheet);
@@ -101,7 +102,7 @@ impl Drawing {
     }
 
     /// A node itself. An element comes with its attributes and declarations; comments and processing instructions are other nodes.
-    fn add_node<'a>(&mut self, node: Node<'a, 'a>, sheet: &StyleSheet<'a>) {
+    fn add_node<'a>(&mut self, node: Node<'a, 'a>, sheet: &Sheet<'a>) {
         match node.node_type() {
             NodeType::Element => self.add_element(node, sheet),
             NodeType::Text => {
@@ -113,7 +114,7 @@ impl Drawing {
         }
     }
 
-    fn add_element<'a>(&mut self, node: Node<'a, 'a>, sheet: &StyleSheet<'a>) {
+    fn add_element<'a>(&mut self, node: Node<'a, 'a>, sheet: &Sheet<'a>) {
         let tag = node.tag_name();
         self.script.extend([1, names::element(tag.name()), names::namespace(tag.namespace())]);
         for attribute in node.attributes() {
@@ -124,7 +125,10 @@ impl Drawing {
                 self.add_readings(Place::Attribute, name, attribute.value());
             }
         }
-        for declaration in style::declarations(node, sheet) {
+        for declaration in sheet.declarations(node) {
+            if self.script.len() + self.characters.len() > ENOUGH {
+                break;
+            }
             let name = names::declaration(declaration.name);
             self.script.extend([3, name, declaration.important as u8]);
             self.add_string(declaration.value);
@@ -154,6 +158,9 @@ impl Drawing {
         self.add_number(length);
     }
 }
+
+/// A drawing of more bytes has no further declarations: the panel refuses it for its size, and a small file may have rules for very many.
+const ENOUGH: usize = 1 << 24;
 
 /// Each end of a line as one newline (XML 1.0, section 2.11). Debian's roxmltree leaves those within CDATA as they are.
 fn line_ends(text: &str) -> Cow<'_, str> {

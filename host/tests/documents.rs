@@ -270,27 +270,16 @@ fn limits_are_checks() {
     assert_eq!([1_048_576, 1_048_577].map(|length| number(&long(length))), [0, 1]);
 }
 
-/// A document that is cut off or has a byte changed is a fault, or check answers; nothing panics.
+/// Selectors that take much stack, or for ever.
 #[test]
-fn damaged_documents() {
-    let whole = include_bytes!("drawing.svg");
-    let mut faults = 0;
-    let mut see = |file: &[u8]| match Drawing::from_bytes(file) {
-        Err(fault) => {
-            assert!(fault.line > 0 && fault.column > 0 && !fault.words.is_empty());
-            faults += 1;
-        }
-        Ok(drawing) => assert_eq!(check(drawing.script(), drawing.characters()), Ok(())),
-    };
-    for length in 0..whole.len() {
-        see(&whole[..length]);
-    }
-    for place in 0..whole.len() {
-        for byte in *b"<>/&;'\"#(){}:-!* \0a\x80\xc3" {
-            let mut changed = whole.to_vec();
-            changed[place] = byte;
-            see(&changed);
-        }
-    }
-    assert!(faults > whole.len());
+fn style_sheets_without_an_end() {
+    let svg = |style: &str, inside: &str| format!("<svg>\n <style>{style}</style>{inside}</svg>");
+    let nested = |depth: usize| "<g>".repeat(depth) + &"</g>".repeat(depth);
+    let long = svg(&("g + ".repeat(100_000) + "g { x: 1 }"), &"<g/>".repeat(100_001));
+    assert_eq!(fault(&long), "line 2, column 2: a selector of the style sheet has too many parts");
+    let slow = svg(&("rect ".to_string() + &"g ".repeat(20) + "{ x: 1 }"), &nested(100));
+    assert_eq!(fault(&slow), "line 2, column 2: the style sheet takes too long to match");
+    let many = svg(&"* { x: 12345678 } ".repeat(2000), &"<g/>".repeat(5000));
+    assert_eq!(number(&many), 1);
+    assert_eq!(number(&svg(&("g > ".repeat(500) + "g { x: 1 }"), &nested(600))), 0);
 }
