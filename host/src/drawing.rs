@@ -19,7 +19,8 @@ pub struct Drawing {
     characters: Vec<u8>,
 }
 
-/// Why there is no drawing of a file, and where: it is no XML document, or its style sheet has no end of work.
+/// Why there is no drawing of a file, and where: it is no XML document, or its style sheet cannot be matched. Or why there is none of a
+/// script in words.
 #[derive(Clone, Debug, PartialEq, Eq)]
 pub struct Fault {
     /// The line, counted from 1.
@@ -28,6 +29,8 @@ pub struct Fault {
     pub column: u32,
     /// The cause, without the place.
     pub words: String,
+    /// Whether the file is no XML document.
+    pub is_no_xml: bool,
 }
 
 impl fmt::Display for Fault {
@@ -181,14 +184,14 @@ fn not_utf8(file: &[u8], valid: usize) -> Fault {
     let before = String::from_utf8_lossy(&file[..valid]);
     let line = before.matches('\n').count() + 1;
     let column = before.rsplit('\n').next().map_or(0, |last| last.chars().count()) + 1;
-    Fault { line: line as u32, column: column as u32, words: words.to_string() }
+    Fault { line: line as u32, column: column as u32, words: words.to_string(), is_no_xml: true }
 }
 
 /// roxmltree's words, with the place taken out.
 fn no_xml(error: &roxmltree::Error) -> Fault {
     let place = error.pos();
     let words = error.to_string().replacen(&format!(" at {place}"), "", 1);
-    Fault { line: place.row, column: place.col, words }
+    Fault { line: place.row, column: place.col, words, is_no_xml: true }
 }
 
 /// Debian's roxmltree takes a document that ends before its elements do. This one does not: the place is that of the last element that
@@ -208,7 +211,7 @@ fn all_closed(text: &str, xml: &Document) -> Result<(), Fault> {
         Some(span) => {
             let place = xml.text_pos_at(span.start());
             let words = format!("the element '{}' is never closed", span.as_str().trim_start_matches('<'));
-            Err(Fault { line: place.row, column: place.col, words })
+            Err(Fault { line: place.row, column: place.col, words, is_no_xml: true })
         }
     }
 }

@@ -102,7 +102,7 @@ fn load(file: &OsStr) -> Result<Drawing, String> {
         let text = String::from_utf8(bytes).map_err(|_| "the file is not written in UTF-8".to_string())?;
         return spell::read(&text).map_err(|fault| fault.to_string());
     }
-    Drawing::from_bytes(&bytes).map_err(|fault| format!("no XML: {fault}"))
+    Drawing::from_bytes(&bytes).map_err(|fault| format!("{}{fault}", if fault.is_no_xml { "no XML: " } else { "" }))
 }
 
 /// What goes wrong with a file.

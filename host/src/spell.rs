@@ -150,7 +150,7 @@ pub fn read(text: &str) -> Result<Drawing, Fault> {
         }
         written.add(&mut line).and_then(|()| line.end()).map_err(|words| {
             let column = whole[..whole.len() - line.at.len()].chars().count() as u32 + 1;
-            Fault { line: place as u32 + 1, column, words }
+            Fault { line: place as u32 + 1, column, words, is_no_xml: false }
         })?;
     }
     Ok(Drawing::new(written.script, written.characters))
@@ -232,6 +232,12 @@ fn code(list: &[&str], word: &str) -> Option<u8> {
     }
 }
 
+/// A byte of two hexadecimal digits.
+fn hex(word: &str) -> Option<u8> {
+    let is_byte = word.len() == 2 && word.bytes().all(|digit| digit.is_ascii_hexdigit());
+    u8::from_str_radix(word, 16).ok().filter(|_| is_byte)
+}
+
 /// What stands behind a backslash: its bytes, and how long it is written.
 fn escape(rest: &str) -> Option<(Vec<u8>, usize)> {
     let one = |byte: u8| Some((vec![byte], 1));
@@ -241,7 +247,7 @@ fn escape(rest: &str) -> Option<(Vec<u8>, usize)> {
         b't' => one(b'\t'),
         b'0' => one(0),
         byte @ (b'"' | b'\\' | b'\'') => one(*byte),
-        b'x' => Some((vec![u8::from_str_radix(rest.get(1..3)?, 16).ok()?], 3)),
+        b'x' => Some((vec![hex(rest.get(1..3)?)?], 3)),
         b'u' => {
             let (digits, _) = rest.strip_prefix("u{")?.split_once('}')?;
             let letter = char::from_u32(u32::from_str_radix(digits, 16).ok()?)?;
@@ -299,8 +305,7 @@ impl Written {
             "close" => self.script.push(7),
             "bytes" => {
                 while let Some(word) = line.word() {
-                    let byte = u8::from_str_radix(word, 16).ok().filter(|_| word.len() == 2);
-                    self.script.push(byte.ok_or_else(|| format!("'{word}' is no byte of two digits"))?);
+                    self.script.push(hex(word).ok_or_else(|| format!("'{word}' is no byte of two digits"))?);
                 }
             }
             "leftover" => self.characters.extend(line.string()?),

@@ -62,7 +62,7 @@ fn is_sheet(node: Node) -> bool {
 
 fn fault(xml: &Document, node: Node, words: &str) -> Fault {
     let place = xml.text_pos_at(node.position());
-    Fault { line: place.row, column: place.col, words: words.to_string() }
+    Fault { line: place.row, column: place.col, words: words.to_string(), is_no_xml: false }
 }
 
 fn parts(selector: &Selector) -> usize {

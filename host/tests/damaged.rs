@@ -103,6 +103,31 @@ fn damaged_examples() {
     assert!(taken > 0);
 }
 
+/// Scripts in words: a fault with its line, or a drawing that check answers for.
+#[test]
+fn damaged_scripts() {
+    let mut random = Random(setting("STORKVANITY_SEED", 1) as u64);
+    let (mut faults, mut taken) = (0, 0);
+    for whole in examples() {
+        let drawing = Drawing::from_bytes(&whole).unwrap();
+        let words = spell::spell(drawing.script(), drawing.characters());
+        for _ in 0..setting("STORKVANITY_DAMAGED", 1500) {
+            match spell::read(&String::from_utf8_lossy(&damaged(words.as_bytes(), &mut random))) {
+                Err(fault) => {
+                    assert!(fault.line > 0 && fault.column > 0 && !fault.words.is_empty());
+                    faults += 1;
+                }
+                Ok(drawing) => {
+                    let refused = refused::refused(drawing.script(), drawing.characters());
+                    assert_eq!(check(drawing.script(), drawing.characters()).err(), refused.map(|refused| refused.0));
+                    taken += Tree::build(drawing).is_ok() as usize;
+                }
+            }
+        }
+    }
+    assert!(faults > 0 && taken > 0);
+}
+
 /// The smaller of the SVG files of Debian's packages, where `host/build test` has put them.
 #[test]
 fn damaged_real_files() {

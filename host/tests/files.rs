@@ -78,6 +78,7 @@ fn real_files() {
     svg_files(&folder.join("packages"), &mut files);
     let (mut list, mut faults) = (String::new(), String::new());
     let (mut written, mut seen, mut differ) = (0, 0, Vec::new());
+    drop(std::fs::remove_dir_all(folder.join("drawings")));
     std::fs::create_dir_all(folder.join("drawings")).unwrap();
     for file in &files {
         let bytes = std::fs::read(file).unwrap();

@@ -53,6 +53,15 @@ fn check_builds_too() {
 }
 
 #[test]
+fn a_style_sheet_that_cannot_be_matched_is_told() {
+    let file = scratch("selector.svg");
+    std::fs::write(&file, format!("<svg><style>{}g {{ x: 1 }}</style></svg>", "g > ".repeat(1024))).unwrap();
+    let (status, lines, _) = run(&["check", &file]);
+    assert_eq!(status, Some(1));
+    assert!(lines.ends_with("selector.svg: line 1, column 6: a selector of the style sheet has too many parts\n"), "{lines}");
+}
+
+#[test]
 fn tree_shows_nodes_and_where_values_come_from() {
     let lines = printed(&["tree", GRIPPER]);
     let lines: Vec<&str> = lines.lines().collect();
