@@ -1,6 +1,7 @@
 -- The answer of an operation on the tables as the model has it, and what the steps of a build ask.
 use mathlib.Core.Path.{_≡_}
 use Prim.Native.Nat.{ℕ, _≤_}
+use mathlib.Core.Bool.{Bool, true, false}
 use mathlib.Core.List.{List}
 use lib.ListN.{length}
 use Rattle.model.specs.Check.{check}
@@ -30,6 +31,11 @@ rootAlone = record { nodes = 1; attributes = 0; text = 0 }
 -- Tables as long as these, cleared.
 abbrev pub clearedAs : List ℕ → List ℕ → List ℕ → Tree
 clearedAs ns es bs = cleared (length ns) (length es) (length bs)
+
+-- What a refusal leaves of these tables, with nothing taken: cleared ones, or the tables as they are.
+abbrev pub leftBy : Bool → List ℕ → List ℕ → List ℕ → Tree
+leftBy true ns es bs = clearedAs ns es bs
+leftBy false ns es bs = treeOf ns es bs nothing
 
 -- A drawing that check takes, and tables as a build of it has them.
 pub record Tended (script chars : List ℕ) (t : Tree) : Type 0 where

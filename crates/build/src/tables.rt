@@ -13,7 +13,7 @@ ghost use lib.ListN.{length};
 ghost use Rattle.model.specs.Tables.{word, refused};
 ghost use Rattle.model.specs.Build.{answered, firstIsSvg};
 ghost use Rattle.tree.specs.Lent.{treeOf, nodesRead};
-ghost use Rattle.build.specs.Results.{resultOf, nothing, clearedAs};
+ghost use Rattle.build.specs.Results.{resultOf, nothing, clearedAs, leftBy};
 
 // All three tables become zero.
 pub fn clear(nodes: &mut [u32], attributes: &mut [u32], text: &mut [u8])
@@ -37,12 +37,21 @@ pub fn refusal(number: u32) -> Built
     }
 }
 
-// A build that is refused clears the tables.
-pub fn refuse(nodes: &mut [u32], attributes: &mut [u32], text: &mut [u8], number: u32) -> Built
+// What every refusal goes through. A build that is refused clears the tables; a fault of an exchange's call leaves them as they are.
+pub fn refuse(
+    nodes: &mut [u32],
+    attributes: &mut [u32],
+    text: &mut [u8],
+    number: u32,
+    clears: bool,
+) -> Built
     ensures { λ r. ⌜ ((chars : List ℕ) → resultOf chars (now (nodes .exit)) (now (attributes .exit)) (now (text .exit)) r
-        ≡ answered chars (clearedAs (now (nodes .entry)) (now (attributes .entry)) (now (text .entry))) (refused number)) ⌝ }
+        ≡ answered chars (leftBy clears (now (nodes .entry)) (now (attributes .entry)) (now (text .entry))) (refused number)) ⌝ }
 {
-    clear(nodes, attributes, text);
+    if clears {
+        clear(nodes, attributes, text);
+        return refusal(number);
+    }
     refusal(number)
 }
 

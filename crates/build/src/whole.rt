@@ -38,7 +38,7 @@ fn finish(
         (tested (treeOf (now (nodes .entry)) (now (attributes .entry)) (now (text .entry)) counts))) ⌝ }
 {
     if !first_is_svg(nodes) {
-        return refuse(nodes, attributes, text, 21);
+        return refuse(nodes, attributes, text, 21, true);
     }
     repair(script, characters, nodes, attributes, counts);
     Built {
@@ -83,7 +83,7 @@ fn fill(
         0,
         first,
     ) {
-        Parsed::Refused(k) => refuse(nodes, attributes, text, k),
+        Parsed::Refused(k) => refuse(nodes, attributes, text, k, true),
         Parsed::Done(counts, _) => finish(script, characters, nodes, attributes, text, counts),
     }
 }
@@ -123,7 +123,7 @@ pub fn build(
 {
     let k = check(script, characters);
     if k != 0 {
-        return refuse(nodes, attributes, text, k);
+        return refuse(nodes, attributes, text, k, true);
     }
     build_checked(script, characters, nodes, attributes, text)
 }

@@ -9,11 +9,11 @@ use lib.ListN.{length}
 use lib.Seq.{sets}
 use Rattle.model.specs.Base.{pick}
 use Rattle.model.specs.Check.{check}
-use Rattle.model.specs.Tables.{cleared}
-use Rattle.model.specs.Build.{Result, build, exchangeFault, changed, settled, exchange}
+use Rattle.model.specs.Tables.{cleared, refused}
+use Rattle.model.specs.Build.{Result, answered, build, exchangeFault, changed, settled, exchange}
 use Rattle.model.specs.Refusals.{build-refused}
 use Rattle.build.specs.declared.Built.{Built}
-use Rattle.build.specs.Results.{resultOf}
+use Rattle.build.specs.Results.{resultOf, leftBy}
 use Rattle.exchange.specs.Changes.{Changeable, Granted}
 
 -- The same answer with other characters.
@@ -90,10 +90,10 @@ as-long script chars x n m b n′ m′ b′ p q s e = e ∙ (λ i. build script 
 
 module _ (script chars : List ℕ) (t : ℕ) (new ns es bs : List ℕ) where
   -- A fault of the call touches nothing.
-  pub fault-told : (k : ℕ) → (exchangeFault script chars t new ≡ k) × (k ≡ 0 → ⊥) → (r : Built) → r
-      ≡ record { number = k; nodes = 0; attributes = 0; text = 0 } → resultOf chars ns es bs r ≡ exchange script chars t new ns es bs
+  pub fault-told : (k : ℕ) → (exchangeFault script chars t new ≡ k) × (k ≡ 0 → ⊥) → (x : Result) →
+      x ≡ answered chars (leftBy false ns es bs) (refused k) → x ≡ exchange script chars t new ns es bs
   unfolding exchange
-  fault-told k h r e = ap (resultOf chars ns es bs) e ∙ rw (h .0, ne-eqb k 0 (h .1)) refl
+  fault-told k h x e = e ∙ rw (h .0, ne-eqb k 0 (h .1)) refl
 
   -- The changed drawing is built.
   pub change-told : (start : ℕ) → Granted script chars t new start → (chars′ ns′ es′ bs′ : List ℕ) (r : Built) →

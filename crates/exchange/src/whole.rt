@@ -3,7 +3,7 @@ use crate::fault::Target;
 use crate::fault::target_of;
 use crate::put::put_bytes;
 use build::Built;
-use build::tables::refusal;
+use build::tables::refuse;
 use build::whole::build_checked;
 ghost use mathlib.Core.Path.{_≡_};
 ghost use Prim.Native.Nat.{_≤_};
@@ -80,7 +80,7 @@ pub fn exchange(
         (now (attributes .entry)) (now (text .entry)) ⌝ }
 {
     match target_of(script, characters, number, new) {
-        Target::Fault(k) => refusal(k),
+        Target::Fault(k) => refuse(nodes, attributes, text, k, false),
         Target::At(start) => {
             if new.len() <= 256 {
                 return exchange_short(script, characters, start, new, nodes, attributes, text);

@@ -11,8 +11,8 @@ target-of-requires c κs = search needs
 enum-known-k : tie.Need-enum-known-k
 enum-known-k c = search needs
 
-refusal-requires : tie.Need-refusal-requires
-refusal-requires c κs = search needs
+refuse-requires : tie.Need-refuse-requires
+refuse-requires c κs = search needs
 
 enum-known-start : tie.Need-enum-known-start
 enum-known-start c = search needs
@@ -41,7 +41,8 @@ returns c =
     .before .before .before .before .before .start .given .1)
     (c .before .before .before .before .before .before .before .before .before .before .before .before .before .before .before
     .before .before .target-of .ensures) in
-    change-told _ _ _ _ _ _ _ _ grant _ _ _ _ _ (c .before .before .before .before .before .before .before .before .exchange-short .ensures)
+    change-told _ _ _ _ _ _ _ _ grant _ _ _ _ _
+    (c .before .before .before .before .before .before .before .before .exchange-short .ensures)
 
 exchange-long-requires : tie.Need-exchange-long-requires
 exchange-long-requires c κs =
@@ -52,12 +53,6 @@ exchange-long-requires c κs =
 same-length-5 : tie.Need-same-length-5
 same-length-5 c = search needs
 
-returns-2 : tie.Need-returns-2
-returns-2 c =
-    fault-told _ _ _ _ _ _ _ _
-    (subst (TargetFit _ _ _ _) (c .before .before .k .given .1) (c .before .before .before .before .target-of .ensures)) _
-    (c .refusal .ensures)
-
 same-length-6 : tie.Need-same-length-6
 same-length-6 c = search needs
 
@@ -67,8 +62,24 @@ same-length-7 c = search needs
 same-length-8 : tie.Need-same-length-8
 same-length-8 c = search needs
 
+returns-2 : tie.Need-returns-2
+returns-2 c =
+    fault-told _ _ _ _ _ _ _ _ (subst (TargetFit _ _ _ _)
+    (c .before .before .before .before .before .before .before .before .before .before .before .k .given .1)
+    (c .before .before .before .before .before .before .before .before .before .before .before .before .before .target-of
+    .ensures)) _ (c .before .before .before .before .before .before .refuse .ensures _)
+
 same-length-9 : tie.Need-same-length-9
 same-length-9 c = search needs
+
+same-length-10 : tie.Need-same-length-10
+same-length-10 c = search needs
+
+same-length-11 : tie.Need-same-length-11
+same-length-11 c = search needs
+
+same-length-12 : tie.Need-same-length-12
+same-length-12 c = search needs
 
 returns-3 : tie.Need-returns-3
 returns-3 c =
@@ -76,7 +87,8 @@ returns-3 c =
     .before .before .before .before .before .start .given .1)
     (c .before .before .before .before .before .before .before .before .before .before .before .before .before .before .before
     .before .before .target-of .ensures) in
-    change-told _ _ _ _ _ _ _ _ grant _ _ _ _ _ (c .before .before .before .before .before .before .before .before .exchange-long .ensures)
+    change-told _ _ _ _ _ _ _ _ grant _ _ _ _ _
+    (c .before .before .before .before .before .before .before .before .exchange-long .ensures)
 
 pub exchange-spec : {M : Type 1} → statement M
 exchange-spec =
@@ -84,7 +96,7 @@ exchange-spec =
     (tie.spec
     target-of-requires
     enum-known-k
-    refusal-requires
+    refuse-requires
     enum-known-start
     exchange-short-requires
     same-length
@@ -94,9 +106,12 @@ exchange-spec =
     returns
     exchange-long-requires
     same-length-5
-    returns-2
     same-length-6
     same-length-7
     same-length-8
+    returns-2
     same-length-9
+    same-length-10
+    same-length-11
+    same-length-12
     returns-3)
