@@ -1,183 +1,300 @@
--- What the functions of the recursion are told, and the loop over the children. Assumes nothing.
-use Prim.Native.Nat.{ℕ, zero, _+_, _-_, _≤_, _<_}
+-- The functions of the recursion, by what they are told. Assumes nothing.
+use Prim.Native.Nat.{ℕ, zero, suc, _+_, _-_, _≤_, _<_}
 use mathlib.Core.Path.{_≡_, refl, ap, sym, _∙_, subst}
-use mathlib.Core.Bool.{Bool, true}
-use mathlib.Core.List.{List, [], _∷_}
+use mathlib.Core.List.{List}
 use native.Mathlib.Omega.{arith}
 use lib.ListN.{length}
-use Rattle.model.specs.Drawing as model
-use Rattle.model.specs.Drawing.{Event, close, events, sourceAt, useTarget}
-use Rattle.model.specs.Tables.{Tree, Out, refused, done}
-use Rattle.model.specs.Parse.{copy, node, plain}
+use Rattle.model.specs.Drawing.{Event, events, childrenFrom}
+use Rattle.model.specs.Tables.{Tree, Out, refused, done, then}
+use Rattle.model.specs.Parse.{each, node, plain}
 use Rattle.script.specs.declared.cursor.Cursor.{Cursor}
-use Rattle.script.specs.Step.{markOf}
-use Rattle.walk.specs.declared.node.Opened.{Opened}
-use Rattle.walk.specs.declared.node.Item.{Item}
-use Rattle.walk.specs.declared.node.Item.the-variants as item
-use Rattle.walk.specs.Nodes.{elementOf, nodeAt, leave, Standing, Further, eventsOf, ItemFit}
+use Rattle.script.specs.Step.{Fit}
+use Rattle.walk.specs.Nodes.{leave}
 use Rattle.walk.specs.Values.{eventsAt}
-use Rattle.links.specs.declared.link.FoundElement.{FoundElement}
-use Rattle.links.specs.declared.link.FoundElement.the-variants as found
-use Rattle.links.specs.Links.{nodeOf, NodeFit}
-use Rattle.tree.specs.declared.Counts.{Counts}
-use Rattle.tree.specs.Lent.{treeOf}
-use Rattle.element.specs.declared.Parsed.{Parsed}
-use Rattle.element.specs.declared.Parsed.the-variants as parsed
-use Rattle.element.specs.Runs.{parsedOf}
-use Rattle.label.specs.Whole.{Underway, Beginning, Closed, ClosedFit}
-use Rattle.label.proofs.Telling.{element-done, element-none}
-use Rattle.parse.specs.declared.Begun.{Begun}
-use Rattle.parse.specs.declared.Turn.{Turn}
-use Rattle.parse.specs.declared.Turn.the-variants as turn
-use Rattle.parse.specs.Cycle.{nodeBuilt, childrenBuilt, copyBuilt, BegunFit, handedOver, Goes, Ended, TurnFit}
-use Rattle.parse.proofs.Nodes.{target-begins}
-use Rattle.parse.proofs.Turning.{child-begins, child-refused, child-done, handed-fit, close-done, none-done}
+use Rattle.label.specs.Whole.{Underway}
+use Rattle.parse.specs.State.{placeIn, asideIn, copierIn, originIn, numberIn, Stood, CopiedBy}
+use Rattle.parse.specs.Met.{isCopied, nextOf, Opens, firstOf, levelBuilt, outcomeOf, restBuilt, restNodes, restAt}
+use Rattle.parse.specs.Met.{Reached, Inside, Copying, RestFit, MetNode, MetFirst, MetEnd, MetFit, PastFit}
+use Rattle.parse.proofs.Finding.{met-first}
+use Rattle.parse.proofs.Following.{each-first, leave-next, lies-next, then-refused, then-done}
 
--- A NODE
+-- What is done is not refused.
+abbrev IsDone : Out Tree → Type 0
+IsDone (refused n) = ⊥
+IsDone (done t) = Unit {0}
 
-pub begun-told : (script chars : List ℕ) (left : ℕ) (ignored : Bool) (p : ℕ) (e : Opened) (t : Tree) (ns ats bs : List ℕ) (r s : Begun) →
-    BegunFit script chars left ignored p e t ns ats bs r → r ≡ s → BegunFit script chars left ignored p e t ns ats bs s
-begun-told script chars left ignored p e t ns ats bs r s h q = subst (BegunFit script chars left ignored p e t ns ats bs) q h
+-- WHAT IS LEFT OF A NODE
 
-pub closed-told : (script chars : List ℕ) (from : Cursor) (n : ℕ) (ns ats bs : List ℕ) (r s : Parsed) →
-    ClosedFit script chars from n ns ats bs r → r ≡ s → ClosedFit script chars from n ns ats bs s
-closed-told script chars from n ns ats bs r s h q = subst (ClosedFit script chars from n ns ats bs) q h
+module _ (script chars : List ℕ) (left i : ℕ) (s k : List ℕ) (t : Tree) (begun : ℕ) (fit : RestFit script chars left i s k t begun) where
+  abbrev rest : ℕ → Out Tree
+  rest = restBuilt script chars left i s k t
 
--- WHAT A USE COPIES
+  pub rest-inside : begun ≡ 1 → Inside script chars left i s k t
+  rest-inside q = subst (RestFit script chars left i s k t) q fit
 
-module _ (script chars : List ℕ) (left origin p : ℕ) (e : Opened) (t : Tree) (r : FoundElement)
-    (same : nodeOf script chars r ≡ useTarget (events script chars) (elementOf script chars e) origin) (fit : NodeFit script r) where
-  abbrev copies : List Event → Out Tree
-  copies xs =
-      copy (plain chars) (events script chars) (node (plain chars) (events script chars) (left - 2)) xs
-      (elementOf script chars e .number) p t
+  pub rest-copying : begun ≡ 2 → Copying script chars left i s k t
+  rest-copying q = subst (RestFit script chars left i s k t) q fit
 
-  pub none-copied : r ≡ found.Nothing → done t ≡ copyBuilt script chars left origin p e t
-  none-copied q =
-      ap copies (subst (λ (y : FoundElement). nodeOf script chars y
-      ≡ useTarget (events script chars) (elementOf script chars e) origin) q same)
+  -- The children, or what is copied, are what is left.
+  module _ (s′ k′ : List ℕ) (u : Tree) (r : ℕ) where
+    abbrev Done : ℕ → Type 0
+    Done b =
+        (outcomeOf k′ u r ≡ rest b)
+        × (r ≡ 0 → Reached script chars (originIn s) (restNodes script chars s b) (restAt s b) (t .nodeCount) s′ k′ u)
 
-  module _ (l : Opened) (q : r ≡ found.At l) where
-    target : nodeAt script chars l ≡ useTarget (events script chars) (elementOf script chars e) origin
-    target =
-        subst (λ (y : FoundElement). nodeOf script chars y ≡ useTarget (events script chars) (elementOf script chars e) origin) q same
+    pub rest-children : begun ≡ 1 → Done 1 → Done begun
+    rest-children q = subst Done (sym q)
 
-    pub target-stands : Standing script l
-    target-stands = subst (NodeFit script) q fit
+    pub rest-copied : begun ≡ 2 → Done 2 → Done begun
+    rest-copied q = subst Done (sym q)
 
-    pub target-begun : (from : Cursor) → Underway script chars t p from → Beginning script chars t p l
-    target-begun from u = target-begins script chars t p from e l origin u target-stands target
+  -- Nothing is left.
+  none-left : (b : ℕ) → RestFit script chars left i s k t b → (b ≡ 1 → ⊥) → (b ≡ 2 → ⊥) → Done s k t b b
+  none-left zero h x y = (refl, λ z. record {
+    long = h .long;
+    wide = h .wide;
+    by = refl;
+    fit = h .fit;
+    later = omega arith;
+    behind = refl;
+    tidy = h .tidy;
+    few = h .few;
+    more = omega arith;
+  })
+  none-left (suc zero) h x y = absurd (x refl)
+  none-left (suc (suc zero)) h x y = absurd (y refl)
+  none-left (suc (suc (suc m))) h x y = (refl, λ z. absurd (omega (arith, z)))
 
-    pub target-copied : (less : ℕ) → less ≡ left - 2 →
-        nodeBuilt script chars less (e .own .number + 1) true p l t ≡ copyBuilt script chars left origin p e t
-    target-copied less z =
-        ap (λ i. nodeBuilt script chars i (e .own .number + 1) true p l t) z ∙ ap copies target
+  pub rest-none : (begun ≡ 1 → ⊥) → (begun ≡ 2 → ⊥) → Done s k t begun begun
+  rest-none = none-left begun fit
 
--- A CHILD
+-- Where it is done, it was not refused before.
+low-code : (script chars : List ℕ) (left i : ℕ) (s k : List ℕ) (t u : Tree) (code : ℕ) → done u ≡ restBuilt script chars left i s k t code →
+    code < 3
+low-code script chars left i s k t u zero q = omega arith
+low-code script chars left i s k t u (suc zero) q = omega arith
+low-code script chars left i s k t u (suc (suc zero)) q = omega arith
+low-code script chars left i s k t u (suc (suc (suc m))) q = absurd (subst IsDone q tt)
 
-module _ (script chars : List ℕ) (left origin : ℕ) (ignored : Bool) (p : ℕ) (from : Cursor) (ns ats bs : List ℕ) (k : Counts)
-    (u : Underway script chars (treeOf ns ats bs k) p from) (r : Item) (same : eventsOf script chars r ≡ eventsAt script chars from)
-    (fit : ItemFit script from r) where
-  abbrev t : Tree
-  t = treeOf ns ats bs k
+-- A node met, and what is left of it.
+module _ (script chars : List ℕ) (left origin p : ℕ) (xs : List Event) (low : ℕ) (t : Tree) (s′ k′ : List ℕ) (u : Tree) (code : ℕ)
+    (m : MetNode script chars left origin p xs low t s′ k′ u code) (s″ k″ : List ℕ) (v : Tree) (r : ℕ)
+    (told : outcomeOf k″ v r ≡ restBuilt script chars left (t .nodeCount) s′ k′ u code)
+    (behind : r ≡ 0 →
+    Reached script chars (originIn s′) (restNodes script chars s′ code) (restAt s′ code) (u .nodeCount) s″ k″ v) where
+  pub whole-node : outcomeOf k″ v r ≡ firstOf script chars left origin p xs t
+  whole-node = told ∙ m .built
 
-  abbrev all : Out Tree
-  all = childrenBuilt script chars left origin ignored p from t
+  low-met : r ≡ 0 → code < 3
+  low-met z =
+      low-code script chars left (t .nodeCount) s′ k′ u v code (ap (outcomeOf k″ v) (sym z) ∙ told)
 
-  abbrev Fit : List ℕ → List ℕ → List ℕ → Turn → Type 0
-  Fit = TurnFit script chars left origin ignored p from (k .nodes) all
-
-  told : (s : Item) → r ≡ s → (eventsOf script chars s ≡ eventsAt script chars from) × ItemFit script from s
-  told s q = (
-    subst (λ (y : Item). eventsOf script chars y ≡ eventsAt script chars from) q same,
-    subst (ItemFit script from) q fit,
-  )
-
-  module _ (e : Opened) (q : r ≡ item.Begin e) where
-    pub item-begins : Beginning script chars t p e × Standing script e
-    item-begins =
-        let w = told (item.Begin e) q in
-        (child-begins script chars left origin ignored p from t u e (w .0) (w .1 .0) (w .1 .1), w .1 .0)
-
-    module _ (ns′ ats′ bs′ : List ℕ) (o : Parsed)
-        (h : parsedOf ns′ ats′ bs′ o ≡ nodeBuilt script chars left origin ignored p e t)
-        (d : ClosedFit script chars (e .inside) (k .nodes) ns′ ats′ bs′ o) where
-      pub item-refused : (j : ℕ) → o ≡ parsed.Refused j → Fit ns′ ats′ bs′ (turn.End (parsed.Refused j))
-      item-refused j z =
-          let w = told (item.Begin e) q in
-          child-refused script chars left origin ignored p from t u e (w .0) (w .1 .0) (w .1 .1) j ns′ ats′ bs′
-          (element-none o ns′ ats′ bs′ _ h j z)
-
-      pub item-done : (m : Counts) (c : Cursor) → o ≡ parsed.Done m c → Fit ns′ ats′ bs′ (turn.On m c)
-      item-done m c z =
-          let w = told (item.Begin e) q in
-          child-done script chars left origin ignored p from t u e (w .0) (w .1 .0) (w .1 .1) (treeOf ns′ ats′ bs′ m) c
-          (element-done o ns′ ats′ bs′ _ h m c z) (closed-told script chars (e .inside) (k .nodes) ns′ ats′ bs′ o (parsed.Done m c) d z)
-
-  pub item-text : (c : Cursor) (l : ℕ) (n : Cursor) → r ≡ item.Text c l n → (o : Turn) → o ≡ handedOver left k n → Fit ns ats bs o
-  item-text c l n q o z =
-      let w = told (item.Text c l n) q in
-      handed-fit script chars left origin ignored p from ns ats bs k u (model.Event.text (sourceAt chars (markOf c) l)) tt n (w .0)
-      (w .1 .1) o z
-
-  pub item-other : (n : Cursor) → r ≡ item.Other n → (o : Turn) → o ≡ handedOver left k n → Fit ns ats bs o
-  item-other n q o z =
-      let w = told (item.Other n) q in
-      handed-fit script chars left origin ignored p from ns ats bs k u model.Event.other tt n (w .0) (w .1) o z
-
-  pub item-close : (n : Cursor) → r ≡ item.Close n → Fit ns ats bs (turn.End (parsed.Done k n))
-  item-close n q =
-      let w = told (item.Close n) q in
-      let h = close-done script chars left origin ignored p from t u n (w .0) (w .1) in
-      record { same = h .0; closed = h .1 }
-
-  pub item-end : r ≡ item.End → Fit ns ats bs (turn.End (parsed.Done k from))
-  item-end q =
-      let h = none-done script chars left origin ignored p from t u (told item.End q .0) in
-      record { same = h .0; closed = h .1 }
+  pub whole-behind : r ≡ 0 → Reached script chars origin (nextOf xs) low (t .nodeCount) s″ k″ v
+  whole-behind z =
+      let h = behind z in
+      let d = low-met z in
+      record {
+        long = h .long;
+        wide = h .wide;
+        by = h .by ∙ m .by d;
+        fit = h .fit;
+        later = omega (arith, m .later d, h .later);
+        behind = h .behind ∙ m .behind d;
+        tidy = h .tidy;
+        few = h .few;
+        more = omega (arith, m .more d, h .more);
+      }
 
 -- ALL CHILDREN
 
-module _ (script chars : List ℕ) (left origin : ℕ) (ignored : Bool) (p : ℕ) (from : Cursor) (n : ℕ) (all : Out Tree) where
-  pub goes-none : (t : Tree) → Underway script chars t p from → n ≡ t .nodeCount →
-      childrenBuilt script chars left origin ignored p from t ≡ all → Goes script chars left origin ignored p from n all t from
-  goes-none t u z q = record { under = u; later = omega arith; behind = refl; more = omega (arith, z); same = q }
+-- The loop goes on in the tables t, from the cursor in s, and comes to `all`, as it did from the cursor `from` on.
+pub record Goes (script chars : List ℕ) (left origin p : ℕ) (from : Cursor) (n : ℕ) (all : Out Tree) (s k : List ℕ) (t : Tree)
+    : Type 0 where
+  pub long : length s ≡ 10
+  pub wide : length k ≡ 4
+  pub by : originIn s ≡ origin
+  pub under : Underway script chars t p (placeIn s)
+  pub later : from .at ≤ placeIn s .at
+  pub behind : leave 0 (eventsAt script chars (placeIn s)) ≡ leave 0 (eventsAt script chars from)
+  pub more : n ≤ t .nodeCount
+  pub same : levelBuilt script chars left origin p (placeIn s) t ≡ all
 
-  module _ (ns ats bs : List ℕ) (k : Counts) (c : Cursor) (g : Goes script chars left origin ignored p from n all (treeOf ns ats bs k) c)
-      (ns′ ats′ bs′ : List ℕ) (r : Turn)
-      (h : TurnFit script chars left origin ignored p c (k .nodes)
-      (childrenBuilt script chars left origin ignored p c (treeOf ns ats bs k)) ns′ ats′ bs′ r) where
-    pub turn-further : (m : Counts) (d : Cursor) → r ≡ turn.On m d → (c .at < d .at) × (d .at ≤ length script)
-    turn-further m d q =
-        let w = subst (TurnFit script chars left origin ignored p c (k .nodes)
-        (childrenBuilt script chars left origin ignored p c (treeOf ns ats bs k)) ns′ ats′ bs′) q h in
-        (w .1, w .0 .under .fit .at)
+pub goes-none : (script chars : List ℕ) (left p : ℕ) (s k : List ℕ) (t : Tree) → Underway script chars t p (placeIn s) →
+    (length s ≡ 10) × (length k ≡ 4) →
+    Goes script chars left (originIn s) p (placeIn s) (t .nodeCount) (levelBuilt script chars left (originIn s) p (placeIn s) t) s k t
+goes-none script chars left p s k t u h = record {
+  long = h .0;
+  wide = h .1;
+  by = refl;
+  under = u;
+  later = omega arith;
+  behind = refl;
+  more = omega arith;
+  same = refl;
+}
 
-    pub goes-on : (m : Counts) (d : Cursor) → r ≡ turn.On m d → Goes script chars left origin ignored p from n all (treeOf ns′ ats′ bs′ m) d
-    goes-on m d q =
-        let w = subst (TurnFit script chars left origin ignored p c (k .nodes)
-        (childrenBuilt script chars left origin ignored p c (treeOf ns ats bs k)) ns′ ats′ bs′) q h in
+module _ (script chars : List ℕ) (left origin p : ℕ) (from : Cursor) (n : ℕ) (all : Out Tree) (s k : List ℕ) (t : Tree)
+    (g : Goes script chars left origin p from n all s k t) (s′ k′ : List ℕ) (u : Tree) (code : ℕ)
+    (met : MetFit script chars left (originIn s) p (placeIn s) t s′ k′ u code) where
+  abbrev c : Cursor
+  c = placeIn s
+
+  -- The end.
+  module _ (q : code ≡ 3) where
+    ended : MetEnd script chars left (originIn s) p c t s′ k′ u
+    ended = subst (MetFit script chars left (originIn s) p c t s′ k′ u) q met
+
+    pub ends-all : done u ≡ all
+    ends-all = ended .built ∙ ap (λ x. levelBuilt script chars left x p c t) (g .by) ∙ g .same
+
+    pub ends-reached : Reached script chars origin (leave 0 (eventsAt script chars from)) (from .at) n s′ k′ u
+    ends-reached =
+        let h = ended .reached in
         record {
-          under = w .0 .under;
-          later = omega (arith, g .later, w .1);
-          behind = w .0 .behind ∙ g .behind;
-          more = omega (arith, g .more, w .0 .more);
-          same = w .0 .same ∙ g .same;
+          long = h .long;
+          wide = h .wide;
+          by = h .by ∙ g .by;
+          fit = h .fit;
+          later = omega (arith, g .later, h .later);
+          behind = h .behind ∙ g .behind;
+          tidy = h .tidy;
+          few = h .few;
+          more = omega (arith, g .more, h .more);
         }
 
-    closed-on : (o : Parsed) → ClosedFit script chars c (k .nodes) ns′ ats′ bs′ o → ClosedFit script chars from n ns′ ats′ bs′ o
-    closed-on (parsed.Refused j) d = tt
-    closed-on (parsed.Done m x) d = record {
-      fit = d .fit;
-      later = omega (arith, g .later, d .later);
-      behind = d .behind ∙ g .behind;
-      tidy = d .tidy;
-      few = d .few;
-      more = omega (arith, g .more, d .more);
-    }
+  -- A node.
+  module _ (q : code ≡ 3 → ⊥) where
+    first : MetFirst script chars left (originIn s) p c t s′ k′ u code
+    first = met-first script chars left (originIn s) p c t s′ k′ u code q met
 
-    pub ends-on : (o : Parsed) → r ≡ turn.End o → (parsedOf ns′ ats′ bs′ o ≡ all) × ClosedFit script chars from n ns′ ats′ bs′ o
-    ends-on o q =
-        let w = subst (TurnFit script chars left origin ignored p c (k .nodes)
-        (childrenBuilt script chars left origin ignored p c (treeOf ns ats bs k)) ns′ ats′ bs′) q h in
-        (w .same ∙ g .same, closed-on o (w .closed))
+    pub first-rest : RestFit script chars left (t .nodeCount) s′ k′ u code
+    first-rest = first .node .rest
+
+    module _ (s″ k″ : List ℕ) (v : Tree) (r : ℕ)
+        (told : outcomeOf k″ v r ≡ restBuilt script chars left (t .nodeCount) s′ k′ u code)
+        (behind : r ≡ 0 →
+        Reached script chars (originIn s′) (restNodes script chars s′ code) (restAt s′ code) (u .nodeCount) s″ k″ v) where
+      abbrev xs : List Event
+      xs = eventsAt script chars c
+
+      node-is : outcomeOf k″ v r ≡ firstOf script chars left (originIn s) p xs t
+      node-is = whole-node script chars left (originIn s) p xs (c .at + 1) t s′ k′ u code (first .node) s″ k″ v r told behind
+
+      -- The other nodes.
+      abbrev others : Tree → Out Tree
+      others w =
+          each (node (plain chars) (events script chars) left) (childrenFrom zero (nextOf xs)) (originIn s) (isCopied (originIn s)) p w
+
+      whole : then (firstOf script chars left (originIn s) p xs t) others ≡ all
+      whole =
+          each-first (node (plain chars) (events script chars) left) (originIn s) (isCopied (originIn s)) p t xs (first .opens)
+          ∙ ap (λ x. levelBuilt script chars left x p c t) (g .by)
+          ∙ g .same
+
+      refused-all : (j : ℕ) → (j ≡ 0 → ⊥) → outcomeOf k″ v j ≡ firstOf script chars left (originIn s) p xs t → outcomeOf k″ v j ≡ all
+      refused-all zero z h = absurd (z refl)
+      refused-all (suc j) z h = then-refused (numberIn k″) (firstOf script chars left (originIn s) p xs t) others h ∙ whole
+
+      pub goes-refused : (r ≡ 0 → ⊥) → outcomeOf k″ v r ≡ all
+      goes-refused z = refused-all r z node-is
+
+      module _ (z : r ≡ 0) where
+        after : Reached script chars (originIn s) (nextOf xs) (c .at + 1) (t .nodeCount) s″ k″ v
+        after = whole-behind script chars left (originIn s) p xs (c .at + 1) t s′ k′ u code (first .node) s″ k″ v r told behind z
+
+        pub goes-further : (c .at < placeIn s″ .at) × (placeIn s″ .at ≤ length script)
+        goes-further = (omega (arith, after .later), after .fit .at)
+
+        pub goes-on : Goes script chars left origin p from n all s″ k″ v
+        goes-on = record {
+          long = after .long;
+          wide = after .wide;
+          by = after .by ∙ g .by;
+          under = record {
+            fit = after .fit;
+            all = g .under .all;
+            lies = rw (after .behind) (lies-next chars xs (first .opens) (g .under .lies));
+            small = g .under .small;
+            tidy = after .tidy;
+            few = after .few;
+            below = omega (arith, g .under .below, after .more);
+          };
+          later = omega (arith, g .later, after .later);
+          behind = ap (leave 0) (after .behind) ∙ leave-next xs (first .opens) ∙ g .behind;
+          more = omega (arith, g .more, after .more);
+          same = ap (λ x. levelBuilt script chars left x p (placeIn s″) v) (sym (g .by))
+              ∙ ap (λ zs. each (node (plain chars) (events script chars) left) (childrenFrom zero zs) (originIn s) (isCopied (originIn s)) p v)
+              (after .behind)
+              ∙ then-done v (firstOf script chars left (originIn s) p xs t) others (ap (outcomeOf k″ v) (sym z) ∙ node-is)
+              ∙ whole;
+        }
+
+-- WHAT A USE COPIES
+
+module _ (script chars : List ℕ) (left p : ℕ) (s k : List ℕ) (t : Tree) (h : Copying script chars left p s k t) (s₁ : List ℕ)
+    (turned : CopiedBy s (copierIn s) s₁) where
+  pub copy-under : Underway script chars t p (placeIn s₁)
+  copy-under = subst (Underway script chars t p) (sym (turned .place)) (h .under)
+
+  opens : Opens (eventsAt script chars (placeIn s₁))
+  opens = subst (λ x. Opens (eventsAt script chars x)) (sym (turned .place)) (h .opens)
+
+  module _ (less : ℕ) (is : less ≡ left - 2) (s₂ k₂ : List ℕ) (u : Tree) (code : ℕ)
+      (met : MetFit script chars less (originIn s₁) p (placeIn s₁) t s₂ k₂ u code) where
+    found : MetFirst script chars less (originIn s₁) p (placeIn s₁) t s₂ k₂ u code
+    found =
+        met-first script chars less (originIn s₁) p (placeIn s₁) t s₂ k₂ u code
+        (λ q. subst (MetFit script chars less (originIn s₁) p (placeIn s₁) t s₂ k₂ u) q met .none opens) met
+
+    pub copy-rest : RestFit script chars less (t .nodeCount) s₂ k₂ u code
+    copy-rest = found .node .rest
+
+    module _ (s₃ k₃ : List ℕ) (v : Tree) (r : ℕ)
+        (told : outcomeOf k₃ v r ≡ restBuilt script chars less (t .nodeCount) s₂ k₂ u code)
+        (behind : r ≡ 0 →
+        Reached script chars (originIn s₂) (restNodes script chars s₂ code) (restAt s₂ code) (u .nodeCount) s₃ k₃ v) where
+      abbrev ys : List Event
+      ys = eventsAt script chars (placeIn s₁)
+
+      pub copy-built : outcomeOf k₃ v r ≡ firstOf script chars (left - 2) (copierIn s) p (eventsAt script chars (placeIn s)) t
+      copy-built =
+          whole-node script chars less (originIn s₁) p ys (placeIn s₁ .at + 1) t s₂ k₂ u code (found .node) s₃ k₃ v r told behind
+          ∙ ap (λ x. firstOf script chars x (originIn s₁) p ys t) is
+          ∙ ap (λ x. firstOf script chars (left - 2) x p ys t) (turned .origin)
+          ∙ ap (λ x. firstOf script chars (left - 2) (copierIn s) p (eventsAt script chars x) t) (turned .place)
+
+      module _ (z : r ≡ 0) where
+        copied : Reached script chars (originIn s₁) (nextOf ys) (placeIn s₁ .at + 1) (t .nodeCount) s₃ k₃ v
+        copied =
+            whole-behind script chars less (originIn s₁) p ys (placeIn s₁ .at + 1) t s₂ k₂ u code (found .node) s₃ k₃ v r told behind z
+
+        pub copy-long : length s₃ ≡ 10
+        copy-long = copied .long
+
+        pub copy-done : done v ≡ firstOf script chars (left - 2) (copierIn s) p (eventsAt script chars (placeIn s)) t
+        copy-done = ap (outcomeOf k₃ v) (sym z) ∙ copy-built
+
+        pub copy-reached : (children : Cursor) → children ≡ asideIn s → (s₄ : List ℕ) → PastFit script chars children s₄ → (s₅ : List ℕ) →
+            CopiedBy s₄ (originIn s) s₅ →
+            Reached script chars (originIn s) (leave 0 (eventsAt script chars (asideIn s))) (asideIn s .at) (t .nodeCount) s₅ k₃ v
+        copy-reached children q s₄ past s₅ back = record {
+          long = back .long;
+          wide = copied .wide;
+          by = back .origin;
+          fit = subst (Fit script) (sym (back .place)) (past .fit);
+          later = omega (arith, past .later, ap (λ (x : Cursor). x .at) q, ap (λ (x : Cursor). x .at) (back .place));
+          behind = ap (eventsAt script chars) (back .place) ∙ past .behind ∙ ap (λ x. leave 0 (eventsAt script chars x)) q;
+          tidy = copied .tidy;
+          few = copied .few;
+          more = copied .more;
+        }
+
+-- Passed over.
+pub past-stood : (script chars : List ℕ) (c past : Cursor) → eventsAt script chars past ≡ leave 0 (eventsAt script chars c) →
+    Fit script past → c .at ≤ past .at → (s s′ : List ℕ) → Stood s past s′ → PastFit script chars c s′
+past-stood script chars c past q f l s s′ h = record {
+  long = h .long;
+  fit = subst (Fit script) (sym (h .place)) f;
+  later = omega (arith, l, ap (λ (x : Cursor). x .at) (h .place));
+  behind = ap (eventsAt script chars) (h .place) ∙ q;
+}

@@ -1,5 +1,5 @@
--- The recursion as the code has it: names, and what a turn over the children leaves.
-use Prim.Native.Nat.{ℕ, zero, _-_, _<_, _≤_}
+-- The recursion as the code has it: names, and a node begun.
+use Prim.Native.Nat.{ℕ, zero, _-_, _≤_}
 use mathlib.Core.Path.{_≡_}
 use mathlib.Core.Bool.{Bool, true, false, not}
 use mathlib.Core.List.{List}
@@ -12,18 +12,12 @@ use Rattle.model.specs.Tables.{Tree, Out, refused, done}
 use Rattle.model.specs.Parse.{each, copy, node, plain}
 use Rattle.script.specs.declared.cursor.Cursor.{Cursor}
 use Rattle.walk.specs.declared.node.Opened.{Opened}
-use Rattle.walk.specs.Nodes.{elementOf, nodeAt, leave}
+use Rattle.walk.specs.Nodes.{elementOf, nodeAt}
 use Rattle.walk.specs.Values.{eventsAt, SameNodes}
-use Rattle.tree.specs.declared.Counts.{Counts}
 use Rattle.tree.specs.Lent.{treeOf}
-use Rattle.element.specs.declared.Parsed.{Parsed}
-use Rattle.element.specs.declared.Parsed.the-variants as parsed
-use Rattle.element.specs.Runs.{parsedOf}
-use Rattle.label.specs.Whole.{Underway, Closed, ClosedFit}
+use Rattle.label.specs.Whole.{Underway, Closed}
 use Rattle.parse.specs.declared.Begun.{Begun}
 use Rattle.parse.specs.declared.Begun.the-variants as begun
-use Rattle.parse.specs.declared.Turn.{Turn}
-use Rattle.parse.specs.declared.Turn.the-variants as turn
 
 -- Does an element with that name become a node?
 abbrev pub isParsed : ℕ → ℕ → Bool
@@ -79,28 +73,3 @@ module _ (script chars : List ℕ) (left : ℕ) (ignored : Bool) (p : ℕ) (e : 
   BegunFit ns ats bs (begun.Use k c) =
       ((origin : ℕ) → copyBuilt script chars left origin (t .nodeCount) e (treeOf ns ats bs k)
       ≡ nodeBuilt script chars left origin ignored p e t) × Made (treeOf ns ats bs k) c
-
--- ONE CHILD AFTER ANOTHER
-
--- A text, or a node that is no element, is handed over: only its depth counts.
-abbrev pub handedOver : ℕ → Counts → Cursor → Turn
-handedOver left k c = pick (eqb left 0) (λ u. turn.End (parsed.Refused 20)) (λ u. turn.On k c)
-
--- The loop goes on with the tables t from the cursor c, and comes to what it came to from the cursor `from`.
-pub record Goes (script chars : List ℕ) (left origin : ℕ) (ignored : Bool) (p : ℕ) (from : Cursor) (n : ℕ) (all : Out Tree) (t : Tree)
-    (c : Cursor) : Type 0 where
-  pub under : Underway script chars t p c
-  pub later : from .at ≤ c .at
-  pub behind : leave 0 (eventsAt script chars c) ≡ leave 0 (eventsAt script chars from)
-  pub more : n ≤ t .nodeCount
-  pub same : childrenBuilt script chars left origin ignored p c t ≡ all
-
--- The loop has ended.
-pub record Ended (script chars : List ℕ) (from : Cursor) (n : ℕ) (all : Out Tree) (ns ats bs : List ℕ) (r : Parsed) : Type 0 where
-  pub same : parsedOf ns ats bs r ≡ all
-  pub closed : ClosedFit script chars from n ns ats bs r
-
-abbrev pub TurnFit : List ℕ → List ℕ → ℕ → ℕ → Bool → ℕ → Cursor → ℕ → Out Tree → List ℕ → List ℕ → List ℕ → Turn → Type 0
-TurnFit script chars left origin ignored p from n all ns ats bs (turn.On k c) =
-    Goes script chars left origin ignored p from n all (treeOf ns ats bs k) c × (from .at < c .at)
-TurnFit script chars left origin ignored p from n all ns ats bs (turn.End r) = Ended script chars from n all ns ats bs r

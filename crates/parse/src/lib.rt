@@ -1,17 +1,12 @@
 // Nodes, their children and what a use copies: the recursion of the parser.
-use element::Parsed;
 use script::cursor::Cursor;
 use tree::Counts;
 
 pub mod begin;
+pub mod met;
 pub mod name;
 pub mod node;
-
-// What a child comes to: the next one, with how much of the tables is taken, or the end.
-pub enum Turn {
-    On(Counts, Cursor),
-    End(Parsed),
-}
+pub mod state;
 
 // What a node comes to before what stands below it is built: it is refused, it is done and the cursor stands behind it, or its own element
 // stands in the tables, and its children, or what it copies, come next, from the cursor inside it.

@@ -4,6 +4,7 @@ use walk::node::has_tag_name;
 ghost use mathlib.Core.Path.{_≡_};
 ghost use Prim.Native.Nat.{_-_};
 ghost use Rattle.parse.specs.Cycle.{isParsed, tagNamed};
+ghost use Rattle.parse.specs.Met.{isCopied};
 
 // Does an element with that name become a node? Not `style`, and nothing without a name of the list.
 pub fn is_parsed(name: u8, space: u8) -> bool
@@ -33,4 +34,11 @@ pub fn two_less(left: u32) -> u32
         return 0;
     }
     left - 2
+}
+
+// Are nodes copied that have this origin? Then their ids are ignored.
+pub fn is_copied(origin: usize) -> bool
+    ensures { λ r. ⌜ r ≡ isCopied origin ⌝ }
+{
+    origin != 0
 }

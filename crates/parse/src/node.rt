@@ -1,244 +1,207 @@
-// `parse_xml_node`, `parse_xml_node_children` and `parse_svg_use_element` call one another; the levels left fall at each descent.
-use crate::Begun;
-use crate::Turn;
-use crate::begin::begin_node;
+// `parse_xml_node`, `parse_xml_node_children` and `parse_svg_use_element` call one another; the levels left fall at each descent. A node's
+// own element is built before, by `meet`, so that no frame of the recursion has what that needs. The answer of each function is 0, or else
+// the drawing is refused with the number in `taken`.
+use crate::met::CHILDREN;
+use crate::met::COPY;
+use crate::met::END;
+use crate::met::meet;
 use crate::name::two_less;
-use element::Parsed;
-use links::link::FoundElement;
-use links::link::use_target;
+use crate::state::aside;
+use crate::state::copy_by;
+use crate::state::stand;
 use script::cursor::Cursor;
-use tree::Counts;
-use walk::node::Item;
-use walk::node::Opened;
-use walk::node::next_item;
 use walk::node::past_element;
 ghost use mathlib.Core.Path.{_≡_};
-ghost use Prim.Native.Nat.{_≤_};
-ghost use Rattle.walk.specs.Nodes.{Standing};
+ghost use lib.ListN.{length};
+ghost use Prim.Native.Nat.{_-_};
+ghost use Rattle.script.specs.Step.{Fit};
+ghost use Rattle.walk.specs.Nodes.{leave};
+ghost use Rattle.walk.specs.Values.{eventsAt};
 ghost use Rattle.tree.specs.Lent.{treeOf};
-ghost use Rattle.element.specs.Runs.{parsedOf};
-ghost use Rattle.label.specs.Whole.{Underway, Beginning, ClosedFit};
-ghost use Rattle.parse.specs.Cycle.{nodeBuilt, childrenBuilt, copyBuilt, handedOver, TurnFit};
+ghost use Rattle.label.specs.Whole.{Underway};
+ghost use Rattle.parse.specs.State.{placeIn, asideIn, copierIn, originIn, countsIn};
+ghost use Rattle.parse.specs.Met.{firstOf, levelBuilt, outcomeOf, restBuilt, restNodes, restAt, Reached, RestFit, Copying, PastFit};
 
-// The element e below `parent`, with all below it. `left` is 1025 minus its depth, `origin` the number of the use that it is copied by, 0
-// for none. The answer has the cursor behind it.
+// What is left of the node with that index, by what `meet` has met of it; `left` is 1025 minus its depth.
 fn parse_xml_node(
+    place: &mut [usize; 10],
+    taken: &mut [u32; 4],
+    begun: u32,
+    left: u32,
+    index: u32,
     script: &[u8],
     characters: &[u8],
     nodes: &mut [u32],
     attributes: &mut [u32],
     text: &mut [u8],
-    counts: Counts,
-    left: u32,
-    origin: usize,
-    ignored: bool,
-    parent: u32,
-    e: Opened,
-) -> Parsed
-    requires { ⌜ Beginning (now script) (now characters) (treeOf (now nodes) (now attributes) (now text) counts) parent e ⌝ }
-    requires { ⌜ Standing (now script) e ⌝ }
-    ensures outcome { λ r. ⌜ parsedOf (now (nodes .exit)) (now (attributes .exit)) (now (text .exit)) r
-        ≡ nodeBuilt (now (script .entry)) (now (characters .entry)) left origin ignored parent e
-        (treeOf (now (nodes .entry)) (now (attributes .entry)) (now (text .entry)) counts) ⌝ }
-    ensures behind { λ r. ⌜ ClosedFit (now (script .entry)) (now (characters .entry)) (e .inside) (counts .nodes)
-        (now (nodes .exit)) (now (attributes .exit)) (now (text .exit)) r ⌝ }
+) -> u32
+    requires { ⌜ RestFit (now script) (now characters) left index (now place) (now taken)
+        (treeOf (now nodes) (now attributes) (now text) (countsIn (now taken))) begun ⌝ }
+    ensures outcome { λ r. ⌜ outcomeOf (now (taken .exit))
+        (treeOf (now (nodes .exit)) (now (attributes .exit)) (now (text .exit)) (countsIn (now (taken .exit)))) r
+        ≡ restBuilt (now (script .entry)) (now (characters .entry)) left index (now (place .entry)) (now (taken .entry))
+        (treeOf (now (nodes .entry)) (now (attributes .entry)) (now (text .entry)) (countsIn (now (taken .entry)))) begun ⌝ }
+    ensures behind { λ r. ⌜ (r ≡ 0 → Reached (now (script .entry)) (now (characters .entry)) (originIn (now (place .entry)))
+        (restNodes (now (script .entry)) (now (characters .entry)) (now (place .entry)) begun) (restAt (now (place .entry)) begun)
+        (countsIn (now (taken .entry)) .nodes) (now (place .exit)) (now (taken .exit))
+        (treeOf (now (nodes .exit)) (now (attributes .exit)) (now (text .exit)) (countsIn (now (taken .exit))))) ⌝ }
 {
-    match begin_node(
+    if begun == CHILDREN {
+        return parse_xml_node_children(
+            place,
+            taken,
+            left - 1,
+            index,
+            script,
+            characters,
+            nodes,
+            attributes,
+            text,
+        );
+    }
+    if begun == COPY {
+        return parse_svg_use_element(
+            place,
+            taken,
+            left,
+            index,
+            script,
+            characters,
+            nodes,
+            attributes,
+            text,
+        );
+    }
+    begun
+}
+
+// Behind the element whose children begin at c.
+fn pass_over(place: &mut [usize; 10], script: &[u8], characters: &[u8], c: Cursor)
+    requires { ⌜ Fit (now script) c ⌝ }
+    requires { ⌜ length (now place) ≡ 10 ⌝ }
+    ensures { λ _. ⌜ PastFit (now (script .entry)) (now (characters .entry)) c (now (place .exit)) ⌝ }
+{
+    let past = past_element(script, characters, c);
+    stand(place, past);
+}
+
+// What a use copies, at which the cursor stands, below the use's own node `parent`, two levels deeper than the use, which has `left`. The
+// use's own children are passed over.
+fn parse_svg_use_element(
+    place: &mut [usize; 10],
+    taken: &mut [u32; 4],
+    left: u32,
+    parent: u32,
+    script: &[u8],
+    characters: &[u8],
+    nodes: &mut [u32],
+    attributes: &mut [u32],
+    text: &mut [u8],
+) -> u32
+    requires { ⌜ Copying (now script) (now characters) left parent (now place) (now taken)
+        (treeOf (now nodes) (now attributes) (now text) (countsIn (now taken))) ⌝ }
+    ensures outcome { λ r. ⌜ outcomeOf (now (taken .exit))
+        (treeOf (now (nodes .exit)) (now (attributes .exit)) (now (text .exit)) (countsIn (now (taken .exit)))) r
+        ≡ firstOf (now (script .entry)) (now (characters .entry)) (left - 2) (copierIn (now (place .entry))) parent
+        (eventsAt (now (script .entry)) (now (characters .entry)) (placeIn (now (place .entry))))
+        (treeOf (now (nodes .entry)) (now (attributes .entry)) (now (text .entry)) (countsIn (now (taken .entry)))) ⌝ }
+    ensures behind { λ r. ⌜ (r ≡ 0 → Reached (now (script .entry)) (now (characters .entry)) (originIn (now (place .entry)))
+        (leave 0 (eventsAt (now (script .entry)) (now (characters .entry)) (asideIn (now (place .entry)))))
+        (asideIn (now (place .entry)) .at) (countsIn (now (taken .entry)) .nodes) (now (place .exit)) (now (taken .exit))
+        (treeOf (now (nodes .exit)) (now (attributes .exit)) (now (text .exit)) (countsIn (now (taken .exit))))) ⌝ }
+{
+    let children = aside(place);
+    let number = place[8];
+    let origin = place[9];
+    let less = two_less(left);
+    let index = taken[0];
+    copy_by(place, number);
+    let begun = meet(
+        place,
+        taken,
+        less,
+        parent,
         script,
         characters,
         nodes,
         attributes,
         text,
-        counts,
-        left,
-        ignored,
-        parent,
-        e,
-    ) {
-        Begun::Refused(k) => Parsed::Refused(k),
-        Begun::Passed(taken, behind) => Parsed::Done(taken, behind),
-        Begun::Children(taken, behind) => parse_xml_node_children(
-            script,
-            characters,
-            nodes,
-            attributes,
-            text,
-            taken,
-            left - 1,
-            origin,
-            ignored,
-            counts.nodes,
-            behind,
-        ),
-        Begun::Use(taken, behind) => parse_svg_use_element(
-            script,
-            characters,
-            nodes,
-            attributes,
-            text,
-            taken,
-            left,
-            origin,
-            counts.nodes,
-            e,
-            behind,
-        ),
+    );
+    let r = parse_xml_node(
+        place,
+        taken,
+        begun,
+        less,
+        index,
+        script,
+        characters,
+        nodes,
+        attributes,
+        text,
+    );
+    if r != 0 {
+        return r;
     }
+    pass_over(place, script, characters, children);
+    copy_by(place, origin);
+    0
 }
 
-// What the use e, whose node is `parent`, copies, two levels deeper than e; `from` stands where its own children begin, and they are
-// passed over.
-fn parse_svg_use_element(
-    script: &[u8],
-    characters: &[u8],
-    nodes: &mut [u32],
-    attributes: &mut [u32],
-    text: &mut [u8],
-    counts: Counts,
-    left: u32,
-    origin: usize,
-    parent: u32,
-    e: Opened,
-    from: Cursor,
-) -> Parsed
-    requires { ⌜ Underway (now script) (now characters) (treeOf (now nodes) (now attributes) (now text) counts) parent from ⌝ }
-    requires { ⌜ Standing (now script) e ⌝ }
-    requires { ⌜ 1 ≤ left ⌝ }
-    ensures outcome { λ r. ⌜ parsedOf (now (nodes .exit)) (now (attributes .exit)) (now (text .exit)) r
-        ≡ copyBuilt (now (script .entry)) (now (characters .entry)) left origin parent e
-        (treeOf (now (nodes .entry)) (now (attributes .entry)) (now (text .entry)) counts) ⌝ }
-    ensures behind { λ r. ⌜ ClosedFit (now (script .entry)) (now (characters .entry)) from (counts .nodes)
-        (now (nodes .exit)) (now (attributes .exit)) (now (text .exit)) r ⌝ }
-{
-    match use_target(script, characters, e, origin) {
-        FoundElement::At(l) => {
-            match parse_xml_node(
-                script,
-                characters,
-                nodes,
-                attributes,
-                text,
-                counts,
-                two_less(left),
-                e.own.number + 1,
-                true,
-                parent,
-                l,
-            ) {
-                Parsed::Refused(k) => Parsed::Refused(k),
-                Parsed::Done(taken, _) => {
-                    let past = past_element(script, characters, from);
-                    Parsed::Done(taken, past)
-                }
-            }
-        }
-        FoundElement::Nothing => {
-            let past = past_element(script, characters, from);
-            Parsed::Done(counts, past)
-        }
-    }
-}
-
-// A text, or a node that is no element, is handed over: only its depth counts.
-fn hand_over(counts: Counts, left: u32, n: Cursor) -> Turn
-    ensures { λ r. ⌜ r ≡ handedOver left counts n ⌝ }
-{
-    if left == 0 {
-        return Turn::End(Parsed::Refused(20));
-    }
-    Turn::On(counts, n)
-}
-
-// The child at the cursor. At depth 1025 every child is refused.
-fn parse_child(
-    script: &[u8],
-    characters: &[u8],
-    nodes: &mut [u32],
-    attributes: &mut [u32],
-    text: &mut [u8],
-    counts: Counts,
-    left: u32,
-    origin: usize,
-    ignored: bool,
-    parent: u32,
-    from: Cursor,
-) -> Turn
-    requires { ⌜ Underway (now script) (now characters) (treeOf (now nodes) (now attributes) (now text) counts) parent from ⌝ }
-    ensures { λ r. ⌜ TurnFit (now (script .entry)) (now (characters .entry)) left origin ignored parent from
-        (counts .nodes) (childrenBuilt (now (script .entry)) (now (characters .entry)) left origin ignored parent from
-        (treeOf (now (nodes .entry)) (now (attributes .entry)) (now (text .entry)) counts))
-        (now (nodes .exit)) (now (attributes .exit)) (now (text .exit)) r ⌝ }
-{
-    match next_item(script, characters, from) {
-        Item::Begin(e) => {
-            match parse_xml_node(
-                script,
-                characters,
-                nodes,
-                attributes,
-                text,
-                counts,
-                left,
-                origin,
-                ignored,
-                parent,
-                e,
-            ) {
-                Parsed::Refused(k) => Turn::End(Parsed::Refused(k)),
-                Parsed::Done(taken, behind) => Turn::On(taken, behind),
-            }
-        }
-        Item::Text(_, _, n) => hand_over(counts, left, n),
-        Item::Other(n) => hand_over(counts, left, n),
-        Item::Close(n) => Turn::End(Parsed::Done(counts, n)),
-        Item::End => Turn::End(Parsed::Done(counts, from)),
-    }
-}
-
-// All nodes from the cursor to the close of the element that it stands in, below `parent`. The answer has the cursor behind the close.
+// All nodes from the cursor to the close of the element that it stands in, below `parent`. The cursor is left behind the close.
 pub fn parse_xml_node_children(
+    place: &mut [usize; 10],
+    taken: &mut [u32; 4],
+    left: u32,
+    parent: u32,
     script: &[u8],
     characters: &[u8],
     nodes: &mut [u32],
     attributes: &mut [u32],
     text: &mut [u8],
-    counts: Counts,
-    left: u32,
-    origin: usize,
-    ignored: bool,
-    parent: u32,
-    from: Cursor,
-) -> Parsed
-    requires { ⌜ Underway (now script) (now characters) (treeOf (now nodes) (now attributes) (now text) counts) parent from ⌝ }
-    ensures outcome { λ r. ⌜ parsedOf (now (nodes .exit)) (now (attributes .exit)) (now (text .exit)) r
-        ≡ childrenBuilt (now (script .entry)) (now (characters .entry)) left origin ignored parent from
-        (treeOf (now (nodes .entry)) (now (attributes .entry)) (now (text .entry)) counts) ⌝ }
-    ensures behind { λ r. ⌜ ClosedFit (now (script .entry)) (now (characters .entry)) from (counts .nodes)
-        (now (nodes .exit)) (now (attributes .exit)) (now (text .exit)) r ⌝ }
+) -> u32
+    requires { ⌜ Underway (now script) (now characters) (treeOf (now nodes) (now attributes) (now text) (countsIn (now taken))) parent
+        (placeIn (now place)) ⌝ }
+    requires { ⌜ (length (now place) ≡ 10) × (length (now taken) ≡ 4) ⌝ }
+    ensures outcome { λ r. ⌜ outcomeOf (now (taken .exit))
+        (treeOf (now (nodes .exit)) (now (attributes .exit)) (now (text .exit)) (countsIn (now (taken .exit)))) r
+        ≡ levelBuilt (now (script .entry)) (now (characters .entry)) left (originIn (now (place .entry))) parent
+        (placeIn (now (place .entry)))
+        (treeOf (now (nodes .entry)) (now (attributes .entry)) (now (text .entry)) (countsIn (now (taken .entry)))) ⌝ }
+    ensures behind { λ r. ⌜ (r ≡ 0 → Reached (now (script .entry)) (now (characters .entry)) (originIn (now (place .entry)))
+        (leave 0 (eventsAt (now (script .entry)) (now (characters .entry)) (placeIn (now (place .entry)))))
+        (placeIn (now (place .entry)) .at) (countsIn (now (taken .entry)) .nodes) (now (place .exit)) (now (taken .exit))
+        (treeOf (now (nodes .exit)) (now (attributes .exit)) (now (text .exit)) (countsIn (now (taken .exit))))) ⌝ }
 {
-    let mut k = counts;
-    let mut c = from;
     loop {
-        match parse_child(
+        let index = taken[0];
+        let begun = meet(
+            place,
+            taken,
+            left,
+            parent,
             script,
             characters,
             nodes,
             attributes,
             text,
-            k,
+        );
+        if begun == END {
+            return 0;
+        }
+        let r = parse_xml_node(
+            place,
+            taken,
+            begun,
             left,
-            origin,
-            ignored,
-            parent,
-            c,
-        ) {
-            Turn::On(taken, behind) => {
-                k = taken;
-                c = behind;
-            }
-            Turn::End(r) => {
-                return r;
-            }
+            index,
+            script,
+            characters,
+            nodes,
+            attributes,
+            text,
+        );
+        if r != 0 {
+            return r;
         }
     }
 }

@@ -1,0 +1,241 @@
+use Rattle.parse.proofs.Meeting.{begins-as, met-refused, met-passed, met-children, use-fit, met-use}
+use borrow.Author.Needs.{needs}
+use Rattle.parse.proofs.met.begin_at.Statement.{statement}
+use Rattle.parse.proofs.met.begin_at.Tie as tie
+use Rattle.parse.proofs.met.begin_at.Reads as reads
+use Rattle.parse.proofs.met.begin_at.Lts as lts
+use Rattle.parse.proofs.begin.begin_node.Reads as begin-node-reads
+use Rattle.parse.proofs.met.begin_copy.Reads as begin-copy-reads
+use Rattle.parse.proofs.name.is_copied.Reads as is-copied-reads
+use Rattle.parse.proofs.state.counted.Reads as counted-reads
+use Rattle.parse.proofs.state.refuse.Reads as refuse-reads
+use Rattle.parse.proofs.state.stand.Reads as stand-reads
+use Rattle.parse.proofs.state.take.Reads as take-reads
+
+-- src/met.rt:93:29
+element-copy-out-is-copied : tie.Need-element-copy-out-is-copied
+element-copy-out-is-copied c = search needs
+
+-- src/met.rt:93:9
+is-copied-requires : tie.Need-is-copied-requires
+is-copied-requires c κs = search needs
+
+-- src/met.rt:94:9
+counted-requires : tie.Need-counted-requires
+counted-requires c κs = search needs
+
+-- src/met.rt:95:11
+begin-node-requires : tie.Need-begin-node-requires
+begin-node-requires c κs =
+    begins-as _ _ _ _ _ (c .before .before .before .before .before .before .before .before .before .before .before .before .args .taken .now) _ _ _
+    (c .before .before .before .counted .ensures)
+    (c .before .before .before .before .before .before .before .before .before .before .before .before .pre .0)
+
+-- src/met.rt:107:24
+enum-known-n : tie.Need-enum-known-n
+enum-known-n c = search needs
+
+-- src/met.rt:108:13
+refuse-requires : tie.Need-refuse-requires
+refuse-requires c κs =
+    c .before .before .before .before .before .before .before .before .before .before .before .before .before .before .before
+    .before .before .before .before .before .before .before .before .pre .1 .1 .1
+
+-- src/met.rt:111:23
+enum-known-k : tie.Need-enum-known-k
+enum-known-k c = search needs
+
+-- src/met.rt:112:13
+take-requires : tie.Need-take-requires
+take-requires c κs =
+    c .before .before .before .before .before .before .before .before .before .before .before .before .before .before .before
+    .before .before .before .before .before .before .before .before .pre .1 .1 .1
+
+-- src/met.rt:113:13
+stand-requires : tie.Need-stand-requires
+stand-requires c κs =
+    c .before .before .before .before .before .before .before .before .before .before .before .before .before .before .before
+    .before .before .before .before .before .before .before .before .before .before .pre .1 .1 .0
+
+-- src/met.rt:116:25
+enum-known-k-2 : tie.Need-enum-known-k-2
+enum-known-k-2 c = search needs
+
+-- src/met.rt:117:13
+take-requires-2 : tie.Need-take-requires-2
+take-requires-2 c κs =
+    c .before .before .before .before .before .before .before .before .before .before .before .before .before .before .before
+    .before .before .before .before .before .before .before .before .pre .1 .1 .1
+
+-- src/met.rt:118:13
+stand-requires-2 : tie.Need-stand-requires-2
+stand-requires-2 c κs =
+    c .before .before .before .before .before .before .before .before .before .before .before .before .before .before .before
+    .before .before .before .before .before .before .before .before .before .before .pre .1 .1 .0
+
+-- src/met.rt:121:20
+enum-known-k-3 : tie.Need-enum-known-k-3
+enum-known-k-3 c = search needs
+
+-- src/met.rt:122:13
+take-requires-3 : tie.Need-take-requires-3
+take-requires-3 c κs =
+    c .before .before .before .before .before .before .before .before .before .before .before .before .before .before .before
+    .before .before .before .before .before .before .before .before .pre .1 .1 .1
+
+-- src/met.rt:123:13
+begin-copy-requires : tie.Need-begin-copy-requires
+begin-copy-requires c κs =
+    let start = c .before .before .before .before .before .before .before .before .before .before .before .before .before .before .before .before .before .before .before .before .before .before .before .before .before in
+    let a = start .args in
+    (
+      start .pre .1 .0,
+      (
+        use-fit (a .script .now) (a .characters .now) (a .left) (a .parent) (a .e) (a .nodes .now) (a .attributes .now) (a .text .now)
+            (a .place .now) (a .taken .now) _ _ (c .before .before .before .before .before .before .before .before .before .before .before .before .before .before .before .before .before .before .is-copied .ensures) (c .before .before .before .before .before .before .before .before .before .before .before .before .before .before .before .before .counted .ensures) _ _ _ _
+            (c .before .before .before .before .before .before .before .before .before .before .before .before .begin-node .ensures) _ _ (c .before .before .before .before .k3 .given .1),
+        start .pre .1 .1 .0,
+      ),
+    )
+
+-- src/met.rt:72:1
+same-length : tie.Need-same-length
+same-length c = search needs
+
+-- src/met.rt:72:1
+same-length-2 : tie.Need-same-length-2
+same-length-2 c = search needs
+
+-- src/met.rt:72:1
+same-length-3 : tie.Need-same-length-3
+same-length-3 c = search needs
+
+-- src/met.rt:72:1
+returns : tie.Need-returns
+returns c =
+    met-refused _ _ _ _ _ _ _ _ (c .before .before .before .before .before .before .before .before .before .before .before .before
+    .before .before .before .before .before .before .before .before .before .before .before .before .args .place .now)
+    (c .before .before .before .before .before .before .before .before .before .before .before .before .before .before .before
+    .before .before .before .before .before .before .before .before .before .args .taken .now) _ _
+    (c .before .before .before .before .before .before .before .before .before .before .before .before .before .before .before
+    .before .before .is-copied .ensures) (c .before .before .before .before .before .before .before .before .before .before
+    .before .before .before .before .before .counted .ensures) _ _ _ _
+    (c .before .before .before .before .before .before .before .before .before .before .before .begin-node .ensures) _
+    (c .before .before .before .n .given .1) _ _ (c .refuse .ensures)
+
+-- src/met.rt:72:1
+same-length-4 : tie.Need-same-length-4
+same-length-4 c = search needs
+
+-- src/met.rt:72:1
+same-length-5 : tie.Need-same-length-5
+same-length-5 c = search needs
+
+-- src/met.rt:72:1
+same-length-6 : tie.Need-same-length-6
+same-length-6 c = search needs
+
+-- src/met.rt:72:1
+returns-2 : tie.Need-returns-2
+returns-2 c =
+    met-passed _ _ _ _ _ _ _ _ (c .before .before .before .before .before .before .before .before .before .before .before .before
+    .before .before .before .before .before .before .before .before .before .before .before .before .before .before .args .place
+    .now) (c .before .before .before .before .before .before .before .before .before .before .before .before .before .before
+    .before .before .before .before .before .before .before .before .before .before .before .before .args .taken .now) _ _
+    (c .before .before .before .before .before .before .before .before .before .before .before .before .before .before .before
+    .before .before .before .before .is-copied .ensures)
+    (c .before .before .before .before .before .before .before .before .before .before .before .before .before .before .before
+    .before .before .counted .ensures) _ _ _ _
+    (c .before .before .before .before .before .before .before .before .before .before .before .before .before .begin-node
+    .ensures) _ _ _ _ (c .before .before .take .ensures) (c .before .before .before .before .before .k .given .1)
+    (c .stand .ensures)
+
+-- src/met.rt:72:1
+same-length-7 : tie.Need-same-length-7
+same-length-7 c = search needs
+
+-- src/met.rt:72:1
+same-length-8 : tie.Need-same-length-8
+same-length-8 c = search needs
+
+-- src/met.rt:72:1
+same-length-9 : tie.Need-same-length-9
+same-length-9 c = search needs
+
+-- src/met.rt:72:1
+returns-3 : tie.Need-returns-3
+returns-3 c =
+    met-children _ _ _ _ _ _ _ _ (c .before .before .before .before .before .before .before .before .before .before .before
+    .before .before .before .before .before .before .before .before .before .before .before .before .before .before .before .args
+    .place .now) (c .before .before .before .before .before .before .before .before .before .before .before .before .before
+    .before .before .before .before .before .before .before .before .before .before .before .before .before .args .taken .now) _ _
+    (c .before .before .before .before .before .before .before .before .before .before .before .before .before .before .before
+    .before .before .before .before .is-copied .ensures)
+    (c .before .before .before .before .before .before .before .before .before .before .before .before .before .before .before
+    .before .before .counted .ensures) _ _ _ _
+    (c .before .before .before .before .before .before .before .before .before .before .before .before .before .begin-node
+    .ensures) _ _ _ _ (c .before .before .take2 .ensures) (c .before .before .before .before .before .k2 .given .1)
+    (c .stand2 .ensures)
+
+-- src/met.rt:72:1
+same-length-10 : tie.Need-same-length-10
+same-length-10 c = search needs
+
+-- src/met.rt:72:1
+same-length-11 : tie.Need-same-length-11
+same-length-11 c = search needs
+
+-- src/met.rt:72:1
+same-length-12 : tie.Need-same-length-12
+same-length-12 c = search needs
+
+-- src/met.rt:72:1
+returns-4 : tie.Need-returns-4
+returns-4 c =
+    met-use _ _ _ _ _ _ _ _ (c .before .before .before .before .before .before .before .before .before .before .before .before
+    .before .before .before .before .before .before .before .before .before .before .before .before .before .before .args .place
+    .now) (c .before .before .before .before .before .before .before .before .before .before .before .before .before .before
+    .before .before .before .before .before .before .before .before .before .before .before .before .args .taken .now) _ _
+    (c .before .before .before .before .before .before .before .before .before .before .before .before .before .before .before
+    .before .before .before .before .is-copied .ensures)
+    (c .before .before .before .before .before .before .before .before .before .before .before .before .before .before .before
+    .before .before .counted .ensures) _ _ _ _
+    (c .before .before .before .before .before .before .before .before .before .before .before .before .before .begin-node
+    .ensures) _ _ _ _ (c .before .before .take3 .ensures) (c .before .before .before .before .before .k3 .given .1) _
+    (c .begin-copy .ensures)
+
+pub begin-at-spec : {M : Type 1} → statement M
+begin-at-spec =
+    tie.close
+    (tie.spec
+    element-copy-out-is-copied
+    is-copied-requires
+    counted-requires
+    begin-node-requires
+    enum-known-n
+    refuse-requires
+    enum-known-k
+    take-requires
+    stand-requires
+    enum-known-k-2
+    take-requires-2
+    stand-requires-2
+    enum-known-k-3
+    take-requires-3
+    begin-copy-requires
+    same-length
+    same-length-2
+    same-length-3
+    returns
+    same-length-4
+    same-length-5
+    same-length-6
+    returns-2
+    same-length-7
+    same-length-8
+    same-length-9
+    returns-3
+    same-length-10
+    same-length-11
+    same-length-12
+    returns-4)

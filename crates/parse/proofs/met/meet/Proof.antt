@@ -1,0 +1,201 @@
+use mathlib.Core.Path.{sym, subst}
+use Rattle.script.specs.Step.{Fit}
+use Rattle.parse.proofs.Finding.{first-begins, first-stands, first-met, text-met, other-met, close-met, end-met}
+use borrow.Author.Needs.{needs}
+use Rattle.parse.proofs.met.meet.Statement.{statement}
+use Rattle.parse.proofs.met.meet.Tie as tie
+use Rattle.parse.proofs.met.meet.Reads as reads
+use Rattle.parse.proofs.met.meet.Lts as lts
+use Rattle.parse.proofs.met.begin_at.Reads as begin-at-reads
+use Rattle.parse.proofs.met.hand_over.Reads as hand-over-reads
+use Rattle.parse.proofs.state.stand.Reads as stand-reads
+use Rattle.parse.proofs.state.standing.Reads as standing-reads
+use Rattle.walk.proofs.node.next_item.Reads as next-item-reads
+
+-- src/met.rt:162:9
+standing-requires : tie.Need-standing-requires
+standing-requires c κs = search needs
+
+-- src/met.rt:163:11
+next-item-requires : tie.Need-next-item-requires
+next-item-requires c κs =
+    subst (Fit _) (sym (c .standing .ensures)) (c .before .before .before .before .before .before .before .pre .0 .fit)
+
+-- src/met.rt:164:21
+enum-known-e : tie.Need-enum-known-e
+enum-known-e c = search needs
+
+-- src/met.rt:164:27
+begin-at-requires : tie.Need-begin-at-requires
+begin-at-requires c κs = (
+  first-begins _ _ (c .before .before .before .before .before .before .before .before .before .before .before .before .before
+      .before .before .before .args .left) _ _ _ _
+      (c .before .before .before .before .before .before .before .before .before .before .before .before .before .before .before
+      .before .args .place .now) (c .before .before .before .before .before .before .before .before .before .before .before .before
+      .before .before .before .before .args .taken .now)
+      (c .before .before .before .before .before .before .before .before .before .before .before .before .before .before .before
+      .before .pre .1 .1) (c .before .before .before .before .before .before .before .before .before .before .before .before .before
+      .before .before .before .pre .0) _
+      (c .before .before .before .before .before .before .before .before .before .standing .ensures) _
+      (c .before .before .before .before .before .before .before .before .next-item .ensures .0)
+      (c .before .before .before .before .before .before .before .before .next-item .ensures .1) _
+      (c .before .before .before .before .before .before .e .given .1),
+  (
+    first-stands _ _ (c .before .before .before .before .before .before .before .before .before .before .before .before .before
+        .before .before .before .args .left) _ _ _ _
+        (c .before .before .before .before .before .before .before .before .before .before .before .before .before .before .before
+        .before .args .place .now) (c .before .before .before .before .before .before .before .before .before .before .before .before
+        .before .before .before .before .args .taken .now)
+        (c .before .before .before .before .before .before .before .before .before .before .before .before .before .before .before
+        .before .pre .1 .1) (c .before .before .before .before .before .before .before .before .before .before .before .before .before
+        .before .before .before .pre .0) _
+        (c .before .before .before .before .before .before .before .before .before .standing .ensures) _
+        (c .before .before .before .before .before .before .before .before .next-item .ensures .0)
+        (c .before .before .before .before .before .before .before .before .next-item .ensures .1) _
+        (c .before .before .before .before .before .before .e .given .1),
+    c .before .before .before .before .before .before .before .before .before .before .before .before .before .before .before
+        .before .pre .1,
+  ),
+)
+
+-- src/met.rt:176:26
+enum-known-n : tie.Need-enum-known-n
+enum-known-n c = search needs
+
+-- src/met.rt:176:32
+hand-over-requires : tie.Need-hand-over-requires
+hand-over-requires c κs = search needs
+
+-- src/met.rt:177:21
+enum-known-n-2 : tie.Need-enum-known-n-2
+enum-known-n-2 c = search needs
+
+-- src/met.rt:177:27
+hand-over-requires-2 : tie.Need-hand-over-requires-2
+hand-over-requires-2 c κs = search needs
+
+-- src/met.rt:178:21
+enum-known-n-3 : tie.Need-enum-known-n-3
+enum-known-n-3 c = search needs
+
+-- src/met.rt:179:13
+stand-requires : tie.Need-stand-requires
+stand-requires c κs = search needs
+
+-- src/met.rt:182:22
+enum-told : tie.Need-enum-told
+enum-told c = search needs
+
+-- src/met.rt:142:1
+same-length : tie.Need-same-length
+same-length c = search needs
+
+-- src/met.rt:142:1
+same-length-2 : tie.Need-same-length-2
+same-length-2 c = search needs
+
+-- src/met.rt:142:1
+same-length-3 : tie.Need-same-length-3
+same-length-3 c = search needs
+
+-- src/met.rt:142:1
+returns : tie.Need-returns
+returns c =
+    first-met _ _ (c .before .before .before .before .before .before .before .before .before .before .before .before .before
+    .before .before .before .before .before .before .before .before .before .before .args .left) _ _ _ _
+    (c .before .before .before .before .before .before .before .before .before .before .before .before .before .before .before
+    .before .before .before .before .before .before .before .before .args .place .now)
+    (c .before .before .before .before .before .before .before .before .before .before .before .before .before .before .before
+    .before .before .before .before .before .before .before .before .args .taken .now)
+    (c .before .before .before .before .before .before .before .before .before .before .before .before .before .before .before
+    .before .before .before .before .before .before .before .before .pre .1 .1)
+    (c .before .before .before .before .before .before .before .before .before .before .before .before .before .before .before
+    .before .before .before .before .before .before .before .before .pre .0) _
+    (c .before .before .before .before .before .before .before .before .before .before .before .before .before .before .before
+    .before .standing .ensures) _ (c .before .before .before .before .before .before .before .before .before .before .before
+    .before .before .before .before .next-item .ensures .0)
+    (c .before .before .before .before .before .before .before .before .before .before .before .before .before .before .before
+    .next-item .ensures .1) _
+    (c .before .before .before .before .before .before .before .before .before .before .before .before .before .e .given .1) _ _ _
+    _ (c .before .before .before .before .before .before .begin-at .ensures)
+
+-- src/met.rt:142:1
+returns-2 : tie.Need-returns-2
+returns-2 c =
+    text-met _ _ (c .before .before .before .before .before .before .before .before .before .before .before .before .before
+    .before .args .left) _ _ _ _ (c .before .before .before .before .before .before .before .before .before .before .before
+    .before .before .before .args .place .now)
+    (c .before .before .before .before .before .before .before .before .before .before .before .before .before .before .args
+    .taken .now)
+    (c .before .before .before .before .before .before .before .before .before .before .before .before .before .before .pre .1 .1)
+    (c .before .before .before .before .before .before .before .before .before .before .before .before .before .before .pre .0) _
+    (c .before .before .before .before .before .before .before .standing .ensures) _
+    (c .before .before .before .before .before .before .next-item .ensures .0)
+    (c .before .before .before .before .before .before .next-item .ensures .1) _ _ _
+    (c .before .before .before .before .n .given .1) _ _ (c .hand-over .result) (c .hand-over .ensures)
+
+-- src/met.rt:142:1
+returns-3 : tie.Need-returns-3
+returns-3 c =
+    other-met _ _ (c .before .before .before .before .before .before .before .before .before .before .before .before .before
+    .before .args .left) _ _ _ _ (c .before .before .before .before .before .before .before .before .before .before .before
+    .before .before .before .args .place .now)
+    (c .before .before .before .before .before .before .before .before .before .before .before .before .before .before .args
+    .taken .now)
+    (c .before .before .before .before .before .before .before .before .before .before .before .before .before .before .pre .1 .1)
+    (c .before .before .before .before .before .before .before .before .before .before .before .before .before .before .pre .0) _
+    (c .before .before .before .before .before .before .before .standing .ensures) _
+    (c .before .before .before .before .before .before .next-item .ensures .0)
+    (c .before .before .before .before .before .before .next-item .ensures .1) _ (c .before .before .before .before .n2 .given .1)
+    _ _ (c .hand-over2 .result) (c .hand-over2 .ensures)
+
+-- src/met.rt:142:1
+returns-4 : tie.Need-returns-4
+returns-4 c =
+    close-met _ _
+    (c .before .before .before .before .before .before .before .before .before .before .before .before .before .args .left) _ _ _
+    _
+    (c .before .before .before .before .before .before .before .before .before .before .before .before .before .args .place .now)
+    (c .before .before .before .before .before .before .before .before .before .before .before .before .before .args .taken .now)
+    (c .before .before .before .before .before .before .before .before .before .before .before .before .before .pre .1 .1)
+    (c .before .before .before .before .before .before .before .before .before .before .before .before .before .pre .0) _
+    (c .before .before .before .before .before .before .standing .ensures) _
+    (c .before .before .before .before .before .next-item .ensures .0)
+    (c .before .before .before .before .before .next-item .ensures .1) _ (c .before .before .before .n3 .given .1) _
+    (c .stand .ensures)
+
+-- src/met.rt:142:1
+returns-5 : tie.Need-returns-5
+returns-5 c =
+    end-met _ _ (c .before .before .before .before .before .before .before .before .before .before .args .left) _ _ _ _
+    (c .before .before .before .before .before .before .before .before .before .before .args .place .now)
+    (c .before .before .before .before .before .before .before .before .before .before .args .taken .now)
+    (c .before .before .before .before .before .before .before .before .before .before .pre .1 .1)
+    (c .before .before .before .before .before .before .before .before .before .before .pre .0) _
+    (c .before .before .before .standing .ensures) _ (c .before .before .next-item .ensures .0)
+    (c .before .before .next-item .ensures .1)
+    (c .before .before .before .before .before .before .before .before .before .before .pre .1 .0) (c .enum-told .given .1)
+
+pub meet-spec : {M : Type 1} → statement M
+meet-spec =
+    tie.close
+    (tie.spec
+    standing-requires
+    next-item-requires
+    enum-known-e
+    begin-at-requires
+    enum-known-n
+    hand-over-requires
+    enum-known-n-2
+    hand-over-requires-2
+    enum-known-n-3
+    stand-requires
+    enum-told
+    same-length
+    same-length-2
+    same-length-3
+    returns
+    returns-2
+    returns-3
+    returns-4
+    returns-5)
