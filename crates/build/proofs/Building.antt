@@ -2,14 +2,14 @@
 use mathlib.Core.Path.{_≡_, refl, sym, ap, _∙_, subst}
 use mathlib.Core.List.{List}
 use mathlib.Core.Bool.{Bool, true, false}
-use Prim.Native.Nat.{ℕ, zero, _*_, _/_, min, _≤_, _<_}
+use Prim.Native.Nat.{ℕ, zero, suc, _*_, _/_, min, _≤_, _<_}
 use native.Mathlib.Omega.{arith}
 use borrow.Author.Tests.{eqb-true, eqb-false, ne-eqb, ltb-false, lt-ltb, le-ltb}
 use lib.Dec.{eqb, ltb}
 use lib.ListN.{length, set, replicate, length-set, length-replicate}
 use Rattle.model.specs.Base.{pick, or}
 use Rattle.model.specs.Check.{check, checkFrom, starting, mostBytes}
-use Rattle.model.specs.Drawing.{commands, events, valuesIn, childrenFrom}
+use Rattle.model.specs.Drawing.{Event, commands, events, valuesIn, childrenFrom}
 use Rattle.model.specs.Tables.{Tree, Out, refused, done, then, most, word, setWord, nodeRoom, cleared, rooted}
 use Rattle.model.specs.Parse.{each, node, plain}
 use Rattle.model.specs.Repair.{repaired}
@@ -22,10 +22,9 @@ use Rattle.script.proofs.Commands.{placed-first}
 use Rattle.walk.specs.Values.{eventsAt}
 use Rattle.tree.specs.declared.Counts.{Counts}
 use Rattle.tree.specs.Lent.{treeOf, nodesRead}
-use Rattle.element.specs.declared.Parsed.{Parsed}
-use Rattle.element.specs.declared.Parsed.the-variants as parsed
-use Rattle.element.specs.Runs.{parsedOf}
-use Rattle.label.specs.Whole.{Underway, ClosedFit}
+use Rattle.label.specs.Whole.{Underway}
+use Rattle.parse.specs.State.{countsIn, numberIn}
+use Rattle.parse.specs.Met.{outcomeOf, Reached}
 use Rattle.build.specs.declared.Built.{Built}
 use Rattle.build.specs.Results.{resultOf, nothing, rootAlone, clearedAs, Tended, Rooted}
 
@@ -75,6 +74,11 @@ module _ (script chars ns es bs : List ℕ) (c : Counts) (h : Tended script char
 
 -- BEHIND THE ROOT
 
+-- An answer that is not 0 is a refusal.
+outcome-refused : (k : List ℕ) (t : Tree) (r : ℕ) → (r ≡ 0 → ⊥) → outcomeOf k t r ≡ refused (numberIn k)
+outcome-refused k t zero z = absurd (z refl)
+outcome-refused k t (suc r) z = refl
+
 -- Tables of the same lengths.
 pub cleared-same : (ns es bs ns′ es′ bs′ : List ℕ) → length ns′ ≡ length ns → length es′ ≡ length es → length bs′ ≡ length bs →
     clearedAs ns′ es′ bs′ ≡ clearedAs ns es bs
@@ -101,12 +105,14 @@ module _ (script chars ns es bs : List ℕ) (h : Rooted script chars (treeOf ns 
         below = omega arith;
       }
 
-  module _ (ns′ es′ bs′ : List ℕ) (r : Parsed)
-      (o : parsedOf ns′ es′ bs′ r ≡ each (node (plain chars) (events script chars) 1025)
-      (childrenFrom zero (eventsAt script chars from)) 0 false 0 first) where
-    is-parsed : (x : Parsed) → r ≡ x → parsed (plain chars) (events script chars) first ≡ parsedOf ns′ es′ bs′ x
+  -- The recursion's answer, and what it leaves.
+  module _ (ns′ es′ bs′ k′ : List ℕ) (r : ℕ)
+      (o : outcomeOf k′ (treeOf ns′ es′ bs′ (countsIn k′)) r
+      ≡ each (node (plain chars) (events script chars) 1025) (childrenFrom zero (eventsAt script chars from)) 0 false 0 first) where
+    is-parsed : (x : Out Tree) → outcomeOf k′ (treeOf ns′ es′ bs′ (countsIn k′)) r ≡ x →
+        parsed (plain chars) (events script chars) first ≡ x
     unfolding parsed
-    is-parsed x f = sym (rw all-still at o) ∙ ap (parsedOf ns′ es′ bs′) f
+    is-parsed x f = sym (rw all-still at o) ∙ f
 
     abbrev whole : Out Tree → Out Tree
     whole x = withRepairs chars (events script chars) (then x tested)
@@ -118,19 +124,24 @@ module _ (script chars ns es bs : List ℕ) (h : Rooted script chars (treeOf ns 
       same-answer x f = ap (λ (t : Tree). answered chars t (whole x)) (cleared-same ns es bs ns′ es′ bs′ p q s)
           ∙ ap (λ (y : Out Tree). answered chars (clearedAs ns es bs) (whole y)) (sym f)
 
-      pub fill-refused : (k : ℕ) → r ≡ parsed.Refused k → answered chars (clearedAs ns′ es′ bs′) (refused k)
+      pub fill-refused : (r ≡ 0 → ⊥) → answered chars (clearedAs ns′ es′ bs′) (refused (numberIn k′))
           ≡ answered chars (clearedAs ns es bs) (whole (parsed (plain chars) (events script chars) first))
-      fill-refused k f = same-answer (refused k) (is-parsed (parsed.Refused k) f)
+      fill-refused z = same-answer (refused (numberIn k′)) (is-parsed (refused (numberIn k′)) (outcome-refused k′ _ r z))
 
-      pub fill-done : (c : Counts) (n : Cursor) → r ≡ parsed.Done c n →
+      pub fill-done : r ≡ 0 → (c : Counts) → c ≡ countsIn k′ →
           answered chars (clearedAs ns′ es′ bs′) (withRepairs chars (events script chars) (tested (treeOf ns′ es′ bs′ c)))
           ≡ answered chars (clearedAs ns es bs) (whole (parsed (plain chars) (events script chars) first))
-      fill-done c n f = same-answer (done (treeOf ns′ es′ bs′ c)) (is-parsed (parsed.Done c n) f)
+      fill-done z c g =
+          ap (λ (m : Counts). answered chars (clearedAs ns′ es′ bs′) (withRepairs chars (events script chars) (tested (treeOf ns′ es′ bs′ m)))) g
+          ∙ same-answer (done (treeOf ns′ es′ bs′ (countsIn k′)))
+          (is-parsed (done (treeOf ns′ es′ bs′ (countsIn k′))) (ap (outcomeOf k′ (treeOf ns′ es′ bs′ (countsIn k′))) z))
 
-    pub fill-tended : ClosedFit script chars from 1 ns′ es′ bs′ r → (c : Counts) (n : Cursor) → r ≡ parsed.Done c n →
+    pub fill-tended : (xs : List Event) (low n origin : ℕ) (s′ : List ℕ) →
+        (r ≡ 0 → Reached script chars origin xs low n s′ k′ (treeOf ns′ es′ bs′ (countsIn k′))) → r ≡ 0 → (c : Counts) → c ≡ countsIn k′ →
         Tended script chars (treeOf ns′ es′ bs′ c)
-    fill-tended g c n f =
-        record { checked = h .checked; tidy = subst (ClosedFit script chars from 1 ns′ es′ bs′) f g .tidy }
+    fill-tended xs low n origin s′ g z c f =
+        subst (λ (m : Counts). Tended script chars (treeOf ns′ es′ bs′ m)) (sym f)
+        (record { checked = h .checked; tidy = g z .tidy })
 
 -- FROM THE BEGINNING
 

@@ -4,11 +4,10 @@ use crate::tables::clear;
 use crate::tables::first_is_svg;
 use crate::tables::refusal;
 use crate::tables::refuse;
-use element::Parsed;
 use parse::node::parse_xml_node_children;
+use parse::state::counted;
 use repair::whole::repair;
 use script::check::check;
-use script::cursor::Cursor;
 use tree::Counts;
 use tree::room::node_room;
 use tree::write::put_root;
@@ -49,7 +48,7 @@ fn finish(
     }
 }
 
-// What is still to do behind the root.
+// What is still to do behind the root. The recursion begins before the first command, with the root alone taken.
 fn fill(
     script: &[u8],
     characters: &[u8],
@@ -64,28 +63,25 @@ fn fill(
         (then (parsed (plain (now (characters .entry))) (events (now (script .entry)) (now (characters .entry)))
         (treeOf (now (nodes .entry)) (now (attributes .entry)) (now (text .entry)) rootAlone)) tested)) ⌝ }
 {
-    let root = Counts {
-        nodes: 1,
-        attributes: 0,
-        text: 0,
-    };
-    let first = Cursor::start();
-    match parse_xml_node_children(
+    let mut place: [usize; 10] = [0; 10];
+    let mut taken: [u32; 4] = [1, 0, 0, 0];
+    let refused = parse_xml_node_children(
+        &mut place,
+        &mut taken,
+        1025,
+        0,
         script,
         characters,
         nodes,
         attributes,
         text,
-        root,
-        1025,
-        0,
-        false,
-        0,
-        first,
-    ) {
-        Parsed::Refused(k) => refuse(nodes, attributes, text, k, true),
-        Parsed::Done(counts, _) => finish(script, characters, nodes, attributes, text, counts),
+    );
+    if refused != 0 {
+        let number = taken[3];
+        return refuse(nodes, attributes, text, number, true);
     }
+    let counts = counted(&taken);
+    finish(script, characters, nodes, attributes, text, counts)
 }
 
 // The build of a drawing that check takes.
