@@ -1,0 +1,132 @@
+//! Documents made by hand: what the project's tests of the host have, and what random documents seldom hit.
+
+/// What stands within a drawing that has the usual namespaces.
+#[rustfmt::skip]
+const INSIDE: [&str; 58] = [
+    "",
+    // Rules by weight, by order, important ones, and the style attribute behind them.
+    "<style>#a { fill: red } rect { fill: green !important; x: 1 } .b { fill: blue }</style><rect id='a' class='c b' style='fill: none' fill='white'/>",
+    "<style>rect { fill: a } rect { fill: b }</style><style>rect { fill: c } * { fill: d }</style><rect/><g fill='e'/>",
+    "<style>.x.y { fill: a } .x { fill: b } rect.x { fill: c } #r { fill: d } [id=r] { fill: e }</style><rect id='r' class='x y'/>",
+    "<style>rect { fill: a !important; fill: b !important } #r { fill: c !important }</style><rect id='r' style='fill: d !important'/>",
+    "<style>rect { fill: inherit } g { fill: red !important }</style><g><rect/><rect fill='blue' style='fill: green'/></g>",
+    "<style>rect:first-child { fill: a } g > rect { stroke: b } g rect + rect { opacity: c } svg g rect { color: d }</style><g><rect/><rect/><g><rect/></g></g>",
+    "<style>g:first-child:first-child { fill: a } g.b { fill: c } g g { fill: d }</style><g class='b'><g class='b'/></g>",
+    "<style type='text/css'>g { fill: a }</style><style type='text/less'>g { fill: b }</style><style type=''>g { fill: c }</style><g/>",
+    "<style><![CDATA[g { fill: a }]]> g { stroke: b }<g/>g { color: c }</style><style><!-- d -->g { opacity: e }</style><g/>",
+    "<style/><style></style><style> </style><style>g</style><style>g {</style><style>g { fill: a</style><g/>",
+    "<o:style>g { fill: a }</o:style><g><style>g { stroke: b }</style></g><style><style>g { color: c }</style></style>",
+    "<style>@media screen { g { fill: a } } g { stroke: b } @import 'c'; g { color: d }</style><g/>",
+    "<style>g, rect , .a,#b { fill: c } g,, rect { stroke: d }</style><g/><rect class='a'/><path id='b'/>",
+    "<style>svg|g { fill: a } g { fill: b }</style><style>g::before { fill: c } g:not(.a) { stroke: d } g ~ rect { color: e }</style><g/><rect/>",
+    "<style>[class~=a] { fill: b } [class|=a] { stroke: c } [class='a d'] { color: e } [xlink:href] { opacity: f } [href] { opacity: g }</style>\
+     <g class='a d'/><g class='a-b'/><g class='a' xlink:href='#h'/>",
+    "<style>/* a */ g /* b */ { /* c */ fill /* d */ : /* e */ red /* f */ ; /* g */ }</style><g/>",
+    "<style>g { fill: url( '#a' ) red; font: bold 12px/1.5 \"A B\", serif; marker: url(#m) !important; stroke: #ABC }</style><g/>",
+    // Shorthands beside what they stand for.
+    "<g style='font-weight: bold; font: 12px a; font-size: 1px'/><g style='font: italic 12px a !important; font-style: b'/><g font='12px a'/>",
+    "<g style='marker: none; marker-end: url(#a)' marker-start='url(#b)'/><g marker='url(#c)'/><g style='marker: inherit'/>",
+    "<g style='font: inherit'/><g style='font: 12px'/><g style='font: small-caps 700 condensed oblique x-large a, b'/><g style='font:1e1px a'/>",
+    "<g style='font: normal normal normal normal normal 1px a'/><g style='font: bold 100 5% a'/><g style='font: 12px / 1.2 a'/>",
+    "<g style='*fill: red; fill: blue; -x: y; stroke:none'/><g style='fill: red stroke: blue'/><g style='fill:;stroke:red'/><g style=';;fill:red'/>",
+    "<g style='filter: drop-shadow(1px 2px rgba(0, 0, 0, .5)); fill: red'/><g style=\"font-family: 'a;b', c; fill: d\"/>",
+    // Attributes: which are kept, and in which namespaces.
+    "<g s:fill='a' fill='b' o:fill='c' xml:fill='d' xlink:fill='e'/><g xmlns:t='http://www.w3.org/2000/svg' t:stroke='f'/>",
+    "<image image-rendering='smooth'/><image image-rendering='auto' style='image-rendering: pixelated'/><g mix-blend-mode='a' isolation='b' font-kerning='c'/>",
+    "<g style='mix-blend-mode: a; isolation: isolate; font-kerning: none; x: 1; clip: auto; kerning: 2; transform: none'/>",
+    "<g xlink:href='#a' href='#b'/><g href='#b' xlink:href='#a'/><g s:href='#c'/><g xml:href='#d'/><g xlink:href='#e' s:href='#f'/>",
+    "<g fill='inherit' opacity='inherit' color='inherit' kerning='inherit' transform='inherit' font-family='inherit'/>",
+    "<g fill='a' kerning='b' opacity='c' filter='url(#d)'><g><g fill='inherit' kerning='inherit' opacity='inherit' filter='inherit'/></g></g>",
+    "<g id='a'/><g xml:id='b'/><g o:id='c'/><g s:id='d'/><use href='#a'/><use href='#b'/><use href='#c'/><use href='#d'/>",
+    "<Rect/><clippath/><clipPath/><RECT/><rect Fill='a' FILL='b' fill='c' viewbox='d' viewBox='e'/>",
+    // Elements of others.
+    "<foreignObject><html xmlns='http://www.w3.org/1999/xhtml'><svg xmlns='http://www.w3.org/2000/svg'><rect/></svg></html></foreignObject>",
+    "<o:g><rect/></o:g><g xmlns='urn:n'><rect/></g><g xmlns=''><rect/></g><s:g><s:rect/></s:g><desc>a</desc><title>b</title>",
+    "<svg><svg><rect/></svg></svg><switch><g systemLanguage='en'/><g/></switch><symbol id='s'><rect/></symbol><use href='#s'/>",
+    // Uses and quotes.
+    "<g id='g'><rect id='r'/></g><use href='#g' id='u'/><use href='#u'/><use href=' #r '/><use href='#none'/><use href='other#r'/><use/>",
+    "<g id='g'><use href='#g'/></g><g id='h'><use href='#u' id='v'/></g><use id='u' href='#h'/><use id='w' href='#w'/>",
+    "<g id='a'><use href='#b'/></g><g id='b'><use href='#c'/></g><g id='c'><use href='#a'/></g>",
+    "<use href='#t'/><text id='t'>a <tspan>b</tspan></text><use href='#t'><g/></use><use href='#s'/><style id='s'>g { fill: a }</style>",
+    "<text id='a'>x<tspan id='b'> y </tspan>z<!-- c --></text><text><tref href='#a'/><tref xlink:href='#b' href='#a'/><tref href='#none'/><tref/></text>",
+    "<o:t id='a'>x</o:t><g id='b'>y<desc>z</desc></g><text><tref href='#a'/><tref href='#b'/><tref href='b'/><tref href='#c'/></text><g id='c'/>",
+    "<text><a href='#b'>a<a>b</a></a><textPath href='#p'>c<textPath>d</textPath></textPath><tspan><textPath>e</textPath></tspan><g>f</g></text>",
+    "<a href='#a' fill='b'><rect/><text><a fill='c'>d</a></text></a><tspan>e</tspan><tref href='#f'/><textPath>g</textPath>",
+    // White space.
+    "<text> a  b\n\tc </text><text xml:space='preserve'> a  b\n\tc </text><g xml:space='preserve'><text> a <tspan xml:space='default'> b </tspan></text></g>",
+    "<text>a<tspan> b</tspan></text><text> <tspan>b </tspan></text><text><tspan> </tspan> b</text><text> a <tspan>b</tspan> c </text><text> </text>",
+    "<text space='preserve'> a </text><text s:space='preserve'> a </text><text o:space='preserve'> a </text><text xml:space='Preserve'> a </text>",
+    "<text>a\r\nb\rc&#13;d&#10;e&#9;f&#32; g</text><text xml:space='preserve'>a\r\nb\rc&#13;d&#13;&#10;e\r</text><text>\u{a0}a\u{2003}\u{3000}</text>",
+    "<text>a<![CDATA[ b\r\n<c> ]]>d<![CDATA[]]></text><text><![CDATA[]]></text><text><![CDATA[a]]><!-- b --><![CDATA[c]]></text>",
+    "<text>a<!-- b -->c<?d e?>f</text><text><!-- g --></text><text><tspan/></text><text/>",
+    "<g fill='a\r\nb\tc  d&#10;e&#13;f&#9;g'/><g id=' a '/><use href='# a '/><g class='\n'/>",
+    // Links that lead to themselves.
+    "<pattern id='p'><rect fill='url(#p)' stroke='url(#p) red'/></pattern><pattern id='q'><rect fill=\"url('#r')\"/></pattern><pattern id='r'><rect fill='url(#q)'/></pattern>",
+    "<clipPath id='a' clip-path='url(#a)'><rect clip-path='url(#b)'/></clipPath><clipPath id='b'><g clip-path='url(#a)'/></clipPath>",
+    "<mask id='a'><g style='mask: url(#a)'/></mask><mask id='b' mask='url( \"#c\" )'/><mask id='c'><g mask='url(#b)'/></mask><mask id='a'/>",
+    "<filter id='f'><feImage href='#r'/></filter><rect id='r' filter='url(#f)'/><filter id='h'><feImage href='#s'/></filter><rect id='s' filter='blur(1) url(#h)'/>",
+    "<filter id='f'><feImage xlink:href='#r'/><feImage href='#t'/></filter><rect id='r' style='filter: sepia(1) url(#f)'/><g id='t' filter='nothing(1) url(#f)'/>",
+    "<filter id='f'><g filter='url(#f)'/></filter><filter id='a'><g filter='url(#b)'/></filter><filter id='b'><g filter='url(#a) '/></filter>",
+    "<g id=''><pattern><rect fill='url(#)'/></pattern></g><clipPath><g clip-path='url(#none)'/></clipPath><mask id='m'><g mask='none'/></mask>",
+    "<g id='é'><rect fill='url(#é)'/></g><use href='#é'/><use href='#&#233;'/><use href='#%C3%A9'/>",
+];
+
+/// Whole documents.
+#[rustfmt::skip]
+const WHOLE: [&str; 32] = [
+    "",
+    "text",
+    "<svg/>",
+    "<svg></svg>",
+    "<g/>",
+    "<svg xmlns=''/>",
+    "<svg xmlns='urn:a'><svg xmlns='http://www.w3.org/2000/svg'/></svg>",
+    "<a><svg/></a>",
+    "<svg/><svg/>",
+    "<!-- a --><svg/><!-- b -->",
+    "\u{feff}<?xml version='1.0'?><svg/>",
+    " <?xml version='1.0'?><svg/>",
+    "<?xml version='1.0' encoding='ISO-8859-1'?><svg><text>é</text></svg>",
+    "<svg",
+    "<svg>",
+    "<svg><g></svg>",
+    "<svg><g>",
+    "<svg><g/",
+    "<svg a='1",
+    "<svg><!-- a",
+    "<svg><![CDATA[ a",
+    "<svg>&nbsp;</svg>",
+    "<svg a='<'/>",
+    "<svg a='1' a='2'/>",
+    "<svg a:b='1'/>",
+    "<svg xmlns:a='urn:1' xmlns:b='urn:1' a:c='1' b:c='2'/>",
+    "<!DOCTYPE svg [<!ENTITY a '&b;'><!ENTITY b '&a;'>]><svg>&a;</svg>",
+    "<!DOCTYPE svg [<!ENTITY a '<g>'>]><svg>&a;</g></svg>",
+    "<!DOCTYPE svg [<!ENTITY a 'fill'><!ENTITY b '<rect fill=\"c\"/>'>]><svg style='&a;: d'><style>rect { stroke: &a; }</style>&b;<text>&a; &b; e</text></svg>",
+    "<!DOCTYPE svg [<!ENTITY ns 'http://www.w3.org/2000/svg'>]><svg xmlns='&ns;' xmlns:s='&ns;'><s:rect s:fill='a'/></svg>",
+    "<!DOCTYPE svg SYSTEM 'a.dtd'><svg><text>a</text></svg>",
+    "<s:svg xmlns:s='http://www.w3.org/2000/svg'><g/><s:g/><style>g { fill: a }</style><s:style>g { stroke: b }</s:style></s:svg>",
+];
+
+/// Elements within one another, so many.
+fn nested(depth: usize, name: &str, inside: &str) -> String {
+    format!("<svg>{}{inside}{}</svg>", format!("<{name}>").repeat(depth), format!("</{name}>").repeat(depth))
+}
+
+/// All documents.
+pub fn documents() -> Vec<String> {
+    let svg = "<svg xmlns='http://www.w3.org/2000/svg' xmlns:s='http://www.w3.org/2000/svg' xmlns:xlink='http://www.w3.org/1999/xlink' \
+               xmlns:o='urn:o'>";
+    let mut all: Vec<String> = WHOLE.iter().map(|text| text.to_string()).collect();
+    all.extend(INSIDE.iter().map(|inside| format!("{svg}{inside}</svg>")));
+    for depth in [1022, 1023, 1024, 1025] {
+        all.push(nested(depth, "g", ""));
+        all.push(nested(depth, "g", "<use href='#a'/><rect id='a'/>"));
+        all.push(nested(depth, "g", "<text><tspan>a</tspan></text><!-- b -->"));
+        all.push(nested(depth, "unknown", "<rect/>"));
+    }
+    all.push(format!("<svg><text>{}a{}</text></svg>", "<tspan>".repeat(1500), "</tspan>".repeat(1500)));
+    let levels = |count: usize| (1..count).map(|k| format!("<g id='a{k}'><use href='#a{0}'/><use href='#a{0}'/></g>", k - 1));
+    all.push(format!("<svg><rect id='a0'/>{}</svg>", levels(12).collect::<String>()));
+    all
+}

@@ -1,0 +1,44 @@
+//! Compares the tree that the Rust makes of an SVG file with the one that the host and the library make of it. `tests/compare/real/run`
+//! calls it. usage: real files|documents LIST, real record-files|record-documents, real random SEED COUNT, real damaged SEED COUNT
+mod corpus;
+mod damage;
+mod generate;
+mod hand;
+mod hash;
+mod library;
+#[cfg(feature = "rust")]
+#[path = "../../src/outside.rs"]
+mod outside;
+mod random;
+#[cfg(feature = "rust")]
+mod rust;
+#[cfg(feature = "rust")]
+#[allow(warnings)]
+mod svgtree;
+mod tally;
+mod tree;
+
+#[cfg(feature = "rust")]
+use outside::*;
+
+fn main() {
+    let arguments: Vec<String> = std::env::args().skip(1).collect();
+    let words: Vec<&str> = arguments.iter().map(String::as_str).collect();
+    let read = |list: &str| std::fs::read_to_string(list).unwrap_or_else(|error| panic!("{list}: {error}"));
+    let number = |word: &str| word.parse().unwrap_or_else(|_| panic!("{word}: no number"));
+    let is_good = match words[..] {
+        ["files", list] => corpus::compare(&read(list)).told(),
+        ["record-files"] => printed(corpus::record()),
+        ["documents", list] => generate::compare(&read(list)).told(),
+        ["record-documents"] => printed(generate::record()),
+        ["random", seed, count] => generate::random(number(seed), number(count)).told(),
+        ["damaged", seed, count] => damage::compare(number(seed), number(count)).told(),
+        _ => panic!("usage: real files|documents LIST, real record-files|record-documents, real random|damaged SEED COUNT"),
+    };
+    std::process::exit(if is_good { 0 } else { 1 });
+}
+
+fn printed(lines: Vec<String>) -> bool {
+    lines.iter().for_each(|line| println!("{line}"));
+    !lines.is_empty()
+}

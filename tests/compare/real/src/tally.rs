@@ -1,0 +1,78 @@
+//! Counts of what was compared.
+use crate::library;
+use crate::tree::Answer;
+use std::collections::BTreeMap;
+
+#[derive(Default)]
+pub struct Tally {
+    cases: u32,
+    /// How many cases have which answer.
+    answers: BTreeMap<String, u32>,
+    /// Differences that a limit of the port explains.
+    limits: BTreeMap<String, u32>,
+    differences: Vec<String>,
+}
+
+/// The Rust's answer for a file, where the Rust is at hand.
+#[cfg(feature = "rust")]
+pub fn rust(file: &[u8]) -> Option<Answer> {
+    Some(crate::rust::answer(file))
+}
+
+#[cfg(not(feature = "rust"))]
+pub fn rust(_: &[u8]) -> Option<Answer> {
+    None
+}
+
+/// A limit that the Rust does not have (docs/MANUAL.md, numbers 1, 5, 22, 23 and 24, and what the host gives up).
+fn limit(answer: &Answer) -> Option<String> {
+    match answer {
+        Answer::Refused(1 | 5 | 22 | 23 | 24) | Answer::GivenUp(_) => Some(answer.line()),
+        _ => None,
+    }
+}
+
+impl Tally {
+    /// Compares the library's answer with the Rust's, and the Rust's with the recorded one. Without the Rust, the library's with the
+    /// recorded one.
+    pub fn add(&mut self, name: &str, file: &[u8], recorded: Option<&str>) {
+        let own = library::answer(file);
+        let judged = rust(file);
+        self.cases += 1;
+        let what = if let Answer::Tree(_) = own { "trees".to_string() } else { own.line() };
+        *self.answers.entry(what).or_default() += 1;
+        let difference = match &judged {
+            Some(judged) => judged.difference(&own),
+            None => None,
+        };
+        match (difference, limit(&own)) {
+            (None, _) => {}
+            (Some(_), Some(limit)) => *self.limits.entry(limit).or_default() += 1,
+            (Some(words), None) => self.differences.push(format!("{name}: the Rust and the library: {words}")),
+        }
+        let line = judged.as_ref().unwrap_or(&own).line();
+        if let Some(recorded) = recorded.filter(|recorded| **recorded != line) {
+            let who = if judged.is_some() { "the Rust" } else { "the library" };
+            self.differences.push(format!("{name}: recorded '{recorded}', {who} gives '{line}'"));
+        }
+    }
+
+    /// Something else that is wrong.
+    pub fn fail(&mut self, words: String) {
+        self.differences.push(words);
+    }
+
+    /// Prints the counts, and the first differences. True if there are none.
+    pub fn told(&self) -> bool {
+        let counts = |map: &BTreeMap<String, u32>| map.iter().map(|(what, count)| format!("{count} {what}")).collect::<Vec<_>>();
+        let judge = if cfg!(feature = "rust") { "the Rust" } else { "the list" };
+        println!("{} compared with {judge}: {}; {} differ", self.cases, counts(&self.answers).join(", "), self.differences.len());
+        if !self.limits.is_empty() {
+            println!("past a limit that the Rust does not have: {}", counts(&self.limits).join(", "));
+        }
+        for words in self.differences.iter().take(10) {
+            println!("  {}", words.chars().take(1500).collect::<String>());
+        }
+        self.differences.is_empty()
+    }
+}
