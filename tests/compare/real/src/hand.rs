@@ -108,6 +108,97 @@ const WHOLE: [&str; 32] = [
     "<s:svg xmlns:s='http://www.w3.org/2000/svg'><g/><s:g/><style>g { fill: a }</style><s:style>g { stroke: b }</s:style></s:svg>",
 ];
 
+/// Values of fill, each with a link LINK that leads back to the pattern that it stands in. It is cut if the value is read as a link.
+const PAINTS: [&str; 30] = [
+    "url(#LINK)", " url(#LINK) ", "url( #LINK )", "url('#LINK')", "url( ' #LINK ' )", "url(\"#LINK\")", "url('#LINK)",
+    "url(#LINK')", "url(#LINK", "URL(#LINK)", "url (#LINK)", "url(LINK)", "url(a#LINK)", "#LINK", "url(#LINK) none",
+    "url(#LINK)none", "url(#LINK) currentColor", "url(#LINK) red", "url(#LINK) Red", "url(#LINK) nothing", "url(#LINK) #123",
+    "url(#LINK) #12345678", "url(#LINK) #12", "url(#LINK) rgb(1, 2, 3)", "url(#LINK) rgba(1 2 3 / 50%)",
+    "url(#LINK) hsl(120deg, 5%, 5%)", "url(#LINK) rgb(1)", "url(#LINK) inherit", "url(#LINK) url(#LINK)",
+    "url(#LINK) transparent",
+];
+
+/// Values of filter, each on an element that a feImage within the filter LINK leads to.
+const FILTERS: [&str; 26] = [
+    "url(#LINK)", "url(#a) url(#LINK)", "url('#LINK')", "blur() url(#LINK)", "blur(2px)url(#LINK)", "blur(2%) url(#LINK)",
+    "sepia(1) url(#LINK)", "sepia(50%) url(#LINK)", "sepia(-1) url(#LINK)", "sepia(a) url(#LINK)",
+    "hue-rotate(90deg) url(#LINK)", "hue-rotate(1turn2) url(#LINK)", "drop-shadow(1 2) url(#LINK)",
+    "drop-shadow(1 2 3 red) url(#LINK)", "drop-shadow(red 1 2) url(#LINK)", "drop-shadow(rgb(1, 2, 3) 1 2) url(#LINK)",
+    "drop-shadow(1) url(#LINK)", "drop-shadow(1 2 3 4) url(#LINK)", "drop-shadow() url(#LINK)", "nothing(1) url(#LINK)",
+    "nothing() url(#LINK)", "none url(#LINK)", "url(LINK) url(#LINK)", "url(#LINK) nothing", "blur (1) url(#LINK)",
+    "BLUR(1) url(#LINK)",
+];
+
+/// Values of font.
+const FONTS: [&str; 24] = [
+    "12px a", "12 a", "12pt a, b", "1.5em 'a b'", ".5em a", "12% a", "-1px a", "12px", "12px ", "a", "bold", "bold a",
+    "bold 1px a", "normal 1px a", "italic oblique 1px a", "900 condensed small-caps italic 1px a",
+    "bold bold bold bold bold 1px a", "100 1px a", "150 1px a", "x-large a", "X-large a", "larger a b c", "Bold 1px a",
+    "inherit",
+];
+
+/// Links of an element `use`, each to LINK.
+const LINKS: [&str; 14] = [
+    "#LINK", " #LINK", "#LINK ", "#LINK a", "# LINK", "LINK", "a#LINK", "#LINK&#10;", "&#9;#LINK", "#LINK&#160;", "##LINK",
+    "#LINK#", "url(#LINK)", "",
+];
+
+/// Selectors. The elements that they are asked of stand in `selected`.
+const SELECTORS: [&str; 38] = [
+    "*", "rect", "Rect", "o|rect", "#a", "#A", ".b", ".b.c", ".c.b", ".B", "rect.b", "rect#a.b", "[x]", "[x=y]", "[x='y']",
+    "[x=\"y z\"]", "[x~=z]", "[x|=y]", "[x^=y]", "[class=b]", "[id]", "[xlink:href]", "[href]", "g rect", "g > rect", "g>rect",
+    "g + rect", "g+rect", "rect + rect", "svg > g > g > rect", "svg rect + path", ":first-child", "g :first-child",
+    "rect:first-child", "rect:hover", "rect:lang(en)", "rect:nth-child(1)", "rect ~ path",
+];
+
+/// For each selector a sheet with the rule before and behind another that weighs as much as a name, and elements to ask.
+fn selected(selector: &str) -> String {
+    format!(
+        "<style>rect {{ fill: 1 }} {selector} {{ fill: 2; stroke: 3 }} rect {{ fill: 4 }} .b {{ fill: 5 }} {selector} {{ color: 6 }}</style>\
+         <rect id='a' class='b' x='y'/><g><rect class='b c' x='y z'/><rect x='y-z' xml:lang='en'/><path id='a'/><g class='b'><rect/></g>\
+         <rect o:x='y' xlink:href='#a'/><path href='#a'/></g><o:rect/><o:g><rect/></o:g>"
+    )
+}
+
+/// A list of values, each in an element of its own. LINK is i and the number of the value.
+fn each(values: &[&str], element: impl Fn(&str, &str) -> String) -> String {
+    let one = |(k, value): (usize, &&str)| {
+        let link = format!("i{k}");
+        element(&link, &value.replace("LINK", &link).replace('"', "&quot;"))
+    };
+    values.iter().enumerate().map(one).collect()
+}
+
+/// All values of each list: in attributes, in style attributes and in rules.
+fn catalogues() -> Vec<String> {
+    let filter =
+        |link: &str, image: &str| format!("<filter id='{link}'><feImage href='#r{link}'/></filter><rect id='r{link}' {image}/>");
+    let pattern = |link: &str, rect: &str| format!("<pattern id='{link}'><rect {rect}/></pattern>");
+    let clip = |link: &str, rect: &str| format!("<clipPath id='{link}'><rect {rect}/></clipPath>");
+    let mut all = vec![
+        each(&PAINTS, |link, value| pattern(link, &format!("fill=\"{value}\""))),
+        each(&PAINTS, |link, value| pattern(link, &format!("style=\"stroke: {value}; color: red\""))),
+        each(&PAINTS, |link, value| clip(link, &format!("clip-path=\"{value}\""))),
+        each(&PAINTS, |link, value| clip(link, &format!("style=\"clip-path: {value}\" mask='none'"))),
+        each(&FILTERS, |link, value| filter(link, &format!("filter=\"{value}\""))),
+        each(&FILTERS, |link, value| filter(link, &format!("style=\"filter: {value}; fill: red\""))),
+        each(&FILTERS, |link, value| format!("<filter id='{link}'><g filter=\"{value}\"/></filter>")),
+        each(&FONTS, |link, value| format!("<g id='{link}' font=\"{value}\" style=\"font: {value}; fill: red\"/>")),
+        each(&FONTS, |link, value| {
+            format!("<style>#{link} {{ font-style: a; font: {value} !important }}</style><g id='{link}'/>")
+        }),
+        each(&LINKS, |link, value| format!("<g id='{link}'/><use href=\"{value}\"/>")),
+        each(&LINKS, |link, value| format!("<g id='{link}'/><use xlink:href=\"{value}\"/>")),
+        each(&LINKS, |link, value| {
+            format!("<desc id='{link}'/><g id='{link}'>a</g><text id='t{link}'>{link}<tref href=\"{value}\"/></text>")
+        }),
+        each(&LINKS, |link, value| format!("<text id='{link}'>a{link}</text><text><tref href=\"{value}\"/></text>")),
+        each(&LINKS, |link, value| filter(link, &format!("filter='url(#{link})' href=\"{value}\""))),
+    ];
+    all.extend(SELECTORS.iter().map(|selector| selected(&selector.replace('>', "&gt;"))));
+    all
+}
+
 /// Elements within one another, so many.
 fn nested(depth: usize, name: &str, inside: &str) -> String {
     format!("<svg>{}{inside}{}</svg>", format!("<{name}>").repeat(depth), format!("</{name}>").repeat(depth))
@@ -119,8 +210,11 @@ pub fn documents() -> Vec<String> {
                xmlns:o='urn:o'>";
     let mut all: Vec<String> = WHOLE.iter().map(|text| text.to_string()).collect();
     all.extend(INSIDE.iter().map(|inside| format!("{svg}{inside}</svg>")));
+    all.extend(catalogues().iter().map(|inside| format!("{svg}{inside}</svg>")));
     for depth in [1022, 1023, 1024, 1025] {
         all.push(nested(depth, "g", ""));
+        all.push(nested(depth, "g", "<!-- a -->"));
+        all.push(nested(depth, "g", "a"));
         all.push(nested(depth, "g", "<use href='#a'/><rect id='a'/>"));
         all.push(nested(depth, "g", "<text><tspan>a</tspan></text><!-- b -->"));
         all.push(nested(depth, "unknown", "<rect/>"));

@@ -41,19 +41,19 @@ impl Tally {
         self.cases += 1;
         let what = if let Answer::Tree(_) = own { "trees".to_string() } else { own.line() };
         *self.answers.entry(what).or_default() += 1;
-        let difference = match &judged {
-            Some(judged) => judged.difference(&own),
-            None => None,
-        };
-        match (difference, limit(&own)) {
+        let mut differences = Vec::new();
+        match (judged.as_ref().and_then(|judged| judged.difference(&own)), limit(&own)) {
             (None, _) => {}
             (Some(_), Some(limit)) => *self.limits.entry(limit).or_default() += 1,
-            (Some(words), None) => self.differences.push(format!("{name}: the Rust and the library: {words}")),
+            (Some(words), None) => differences.push(format!("the Rust and the library: {words}")),
         }
         let line = judged.as_ref().unwrap_or(&own).line();
         if let Some(recorded) = recorded.filter(|recorded| **recorded != line) {
             let who = if judged.is_some() { "the Rust" } else { "the library" };
-            self.differences.push(format!("{name}: recorded '{recorded}', {who} gives '{line}'"));
+            differences.push(format!("recorded '{recorded}', {who} gives '{line}'"));
+        }
+        if !differences.is_empty() {
+            self.differences.push(format!("{name}: {}", differences.join("; ")));
         }
     }
 
