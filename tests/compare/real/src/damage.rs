@@ -30,19 +30,40 @@ fn damaged(whole: &[u8], random: &mut Random) -> Vec<u8> {
     file
 }
 
-/// Damaged documents, and damaged files of at most 20,000 bytes where there are any: each file about as often.
-pub fn compare(seed: u64, count: u64) -> Tally {
-    let by_hand = hand::documents();
-    let files: Vec<_> = corpus::files().into_iter().filter(|file| file.bytes.len() <= 20_000).collect();
-    let mut tally = Tally::default();
-    for turn in 0..count {
+/// What is damaged: documents, and files of at most 20,000 bytes where there are any, each file about as often.
+struct Whole {
+    by_hand: Vec<String>,
+    files: Vec<corpus::File>,
+}
+
+impl Whole {
+    fn read() -> Whole {
+        let files = corpus::files().into_iter().filter(|file| file.bytes.len() <= 20_000).collect();
+        Whole { by_hand: hand::documents(), files }
+    }
+
+    /// The damaged file of a seed and a turn.
+    fn damaged(&self, seed: u64, turn: u64) -> Vec<u8> {
         let mut random = Random::new(seed ^ 0xda3a, turn);
         let whole = match turn % 3 {
-            0 if !files.is_empty() => files[(turn / 3) as usize % files.len()].bytes.clone(),
-            1 => by_hand[random.below(by_hand.len())].clone().into_bytes(),
+            0 if !self.files.is_empty() => self.files[(turn / 3) as usize % self.files.len()].bytes.clone(),
+            1 => self.by_hand[random.below(self.by_hand.len())].clone().into_bytes(),
             _ => generate::document(seed, turn).into_bytes(),
         };
-        tally.add(&format!("damaged {turn} of seed {seed}"), &damaged(&whole, &mut random), None);
+        damaged(&whole, &mut random)
+    }
+}
+
+/// One damaged file.
+pub fn one(seed: u64, turn: u64) -> Vec<u8> {
+    Whole::read().damaged(seed, turn)
+}
+
+pub fn compare(seed: u64, count: u64) -> Tally {
+    let whole = Whole::read();
+    let mut tally = Tally::default();
+    for turn in 0..count {
+        tally.add(&format!("damaged {turn} of seed {seed}"), &whole.damaged(seed, turn), None);
     }
     tally
 }

@@ -73,7 +73,7 @@ const INSIDE: [&str; 58] = [
 
 /// Whole documents.
 #[rustfmt::skip]
-const WHOLE: [&str; 32] = [
+const WHOLE: [&str; 37] = [
     "",
     "text",
     "<svg/>",
@@ -104,6 +104,11 @@ const WHOLE: [&str; 32] = [
     "<!DOCTYPE svg [<!ENTITY a '<g>'>]><svg>&a;</g></svg>",
     "<!DOCTYPE svg [<!ENTITY a 'fill'><!ENTITY b '<rect fill=\"c\"/>'>]><svg style='&a;: d'><style>rect { stroke: &a; }</style>&b;<text>&a; &b; e</text></svg>",
     "<!DOCTYPE svg [<!ENTITY ns 'http://www.w3.org/2000/svg'>]><svg xmlns='&ns;' xmlns:s='&ns;'><s:rect s:fill='a'/></svg>",
+    "<!DOCTYPE svg [<!ENTITY a '<g>b'>]><svg>&a;<rect id='c'/><use href='#c'/></svg>",
+    "<!DOCTYPE svg [<!ENTITY a '<g b=\"1\"'>]><svg>&a;<rect/></svg>",
+    "<!DOCTYPE svg [<!ENTITY a '<g>b'><!ENTITY c 'd &a;'>]><svg><text>&c; e</text></svg>",
+    "<!DOCTYPE svg [<!ENTITY a '<g>b'><!ENTITY c 'd &a;'>]><svg><text>e</text></svg>",
+    "<!DOCTYPE svg [<!ENTITY a '<o:g>b</o:g><o:g/>'>]><svg xmlns:o='http://www.w3.org/2000/svg'>&a;<rect/>&a;</svg>",
     "<!DOCTYPE svg SYSTEM 'a.dtd'><svg><text>a</text></svg>",
     "<s:svg xmlns:s='http://www.w3.org/2000/svg'><g/><s:g/><style>g { fill: a }</style><s:style>g { stroke: b }</s:style></s:svg>",
 ];

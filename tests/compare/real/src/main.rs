@@ -1,5 +1,8 @@
 //! Compares the tree that the Rust makes of an SVG file with the one that the host and the library make of it. `tests/compare/real/run`
-//! calls it. usage: real files|documents LIST, real record-files|record-documents, real random SEED COUNT, real damaged SEED COUNT
+//! calls it. usage: real files|documents LIST, real record-files|record-documents, real random|damaged SEED COUNT; to look at a difference:
+//! real write-random|write-damaged SEED TURN writes a document, and real file FILE compares one.
+use std::io::Write;
+
 mod corpus;
 mod damage;
 mod generate;
@@ -33,9 +36,23 @@ fn main() {
         ["record-documents"] => printed(generate::record()),
         ["random", seed, count] => generate::random(number(seed), number(count)).told(),
         ["damaged", seed, count] => damage::compare(number(seed), number(count)).told(),
-        _ => panic!("usage: real files|documents LIST, real record-files|record-documents, real random|damaged SEED COUNT"),
+        ["file", file] => one(&std::fs::read(file).unwrap_or_else(|error| panic!("{file}: {error}"))).told(),
+        ["write-random", seed, turn] => written(generate::document(number(seed), number(turn)).as_bytes()),
+        ["write-damaged", seed, turn] => written(&damage::one(number(seed), number(turn))),
+        _ => panic!("the arguments stand at the top of src/main.rs"),
     };
     std::process::exit(if is_good { 0 } else { 1 });
+}
+
+/// One file alone.
+fn one(file: &[u8]) -> tally::Tally {
+    let mut tally = tally::Tally::default();
+    tally.add("the file", file, None);
+    tally
+}
+
+fn written(bytes: &[u8]) -> bool {
+    std::io::stdout().write_all(bytes).is_ok()
 }
 
 fn printed(lines: Vec<String>) -> bool {

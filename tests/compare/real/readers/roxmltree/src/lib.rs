@@ -1,7 +1,8 @@
 //! Debian's roxmltree 0.16 as the Rust calls roxmltree: every answer is Debian's. Added are a value that is kept (`StringStorage`), and the
-//! refusal of a document that ends before its elements do, which Debian's takes.
+//! refusal of a document that ends before its elements do, or has an entity that leaves an element open, which Debian's takes.
 use debian::ParsingOptions;
 pub use debian::{Error, ExpandedName};
+use std::collections::BTreeMap;
 use std::fmt;
 use std::ops::Deref;
 
@@ -52,10 +53,51 @@ fn is_closed(text: &str) -> bool {
     parsed(&more).map_or(false, |xml| last(&xml))
 }
 
+/// Whether the entities that a document asks for leave no element open: an element behind such an entity in a small document is then a child
+/// of the top element, and has no attribute.
+fn entities_are_closed(text: &str, xml: &debian::Document) -> bool {
+    let (before, body) = text.split_at(xml.root_element().position());
+    let mut namespaces = BTreeMap::new();
+    for namespace in xml.descendants().flat_map(|node| node.namespaces().iter()) {
+        let uri = namespace.uri().replace('&', "&amp;").replace('<', "&lt;").replace('"', "&quot;");
+        namespaces.extend(namespace.name().filter(|prefix| *prefix != "xml").map(|prefix| (prefix, uri)));
+    }
+    let declared: String = namespaces.iter().map(|(prefix, uri)| format!(" xmlns:{prefix}=\"{uri}\"")).collect();
+    let is_closed = |name: &str| {
+        let more = format!("{before}<x{declared}>&{name};<y/></x>");
+        let is_last = |xml: &debian::Document| {
+            let last = xml.root_element().children().last();
+            last.map_or(false, |last| last.has_tag_name("y") && last.attributes().len() == 0)
+        };
+        parsed(&more).map_or(true, |xml| is_last(&xml))
+    };
+    asked(before, body).into_iter().all(is_closed)
+}
+
+/// The names of the entities that a text asks for, and those of the entities that these ask for.
+fn asked<'a>(declarations: &'a str, body: &str) -> Vec<&'a str> {
+    let declaration = |part: &'a str| {
+        let (name, rest) = part.trim_start().split_once(char::is_whitespace)?;
+        let quote = rest.trim_start().chars().next().filter(|c| matches!(c, '\'' | '"'))?;
+        Some((name, rest.trim_start()[1..].split(quote).next()?))
+    };
+    let mut left: Vec<(&str, &str)> = declarations.split("<!ENTITY").skip(1).filter_map(declaration).collect();
+    let mut texts = vec![body];
+    let mut names = Vec::new();
+    while let Some(text) = texts.pop() {
+        let (found, others) = left.into_iter().partition(|(name, _)| text.contains(&format!("&{name};")));
+        let found: Vec<(&str, &str)> = found;
+        texts.extend(found.iter().map(|(_, value)| *value));
+        names.extend(found.iter().map(|(name, _)| *name));
+        left = others;
+    }
+    names
+}
+
 impl<'input> Document<'input> {
     /// The document of a text, as usvg asks for it: with a DTD if there is one. None if the text is no XML.
     pub fn read(text: &'input str) -> Option<Document<'input>> {
-        parsed(text).ok().filter(|_| is_closed(text)).map(Document)
+        parsed(text).ok().filter(|xml| is_closed(text) && entities_are_closed(text, xml)).map(Document)
     }
 
     pub fn root<'a>(&'a self) -> Node<'a, 'input> {
