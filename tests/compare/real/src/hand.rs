@@ -73,7 +73,7 @@ const INSIDE: [&str; 58] = [
 
 /// Whole documents.
 #[rustfmt::skip]
-const WHOLE: [&str; 37] = [
+const WHOLE: [&str; 40] = [
     "",
     "text",
     "<svg/>",
@@ -109,6 +109,9 @@ const WHOLE: [&str; 37] = [
     "<!DOCTYPE svg [<!ENTITY a '<g>b'><!ENTITY c 'd &a;'>]><svg><text>&c; e</text></svg>",
     "<!DOCTYPE svg [<!ENTITY a '<g>b'><!ENTITY c 'd &a;'>]><svg><text>e</text></svg>",
     "<!DOCTYPE svg [<!ENTITY a '<o:g>b</o:g><o:g/>'>]><svg xmlns:o='http://www.w3.org/2000/svg'>&a;<rect/>&a;</svg>",
+    "<!DOCTYPE svg [<!ENTITY a '<g>b</g><g'>]><svg>&a;<rect/></svg>",
+    "<!DOCTYPE svg [<!ENTITY a 'b<g>c'>]><svg id='&a;'><rect/></svg>",
+    "<!DOCTYPE svg [<!ENTITY a 'b<g>c'>]><svg xmlns:o='&a;'><rect/><o:rect/></svg>",
     "<!DOCTYPE svg SYSTEM 'a.dtd'><svg><text>a</text></svg>",
     "<s:svg xmlns:s='http://www.w3.org/2000/svg'><g/><s:g/><style>g { fill: a }</style><s:style>g { stroke: b }</s:style></s:svg>",
 ];

@@ -63,35 +63,51 @@ fn entities_are_closed(text: &str, xml: &debian::Document) -> bool {
         namespaces.extend(namespace.name().filter(|prefix| *prefix != "xml").map(|prefix| (prefix, uri)));
     }
     let declared: String = namespaces.iter().map(|(prefix, uri)| format!(" xmlns:{prefix}=\"{uri}\"")).collect();
-    let is_closed = |name: &str| {
+    let is_closed = |(name, value): (&str, &str)| {
+        let ends_in_tag = value.rfind('<') > value.rfind('>');
         let more = format!("{before}<x{declared}>&{name};<y/></x>");
         let is_last = |xml: &debian::Document| {
             let last = xml.root_element().children().last();
             last.map_or(false, |last| last.has_tag_name("y") && last.attributes().len() == 0)
         };
-        parsed(&more).map_or(true, |xml| is_last(&xml))
+        !ends_in_tag && parsed(&more).map_or(true, |xml| is_last(&xml))
     };
     asked(before, body).into_iter().all(is_closed)
 }
 
-/// The names of the entities that a text asks for, and those of the entities that these ask for.
-fn asked<'a>(declarations: &'a str, body: &str) -> Vec<&'a str> {
+/// The entities that a text asks for outside of its tags, and those that these ask for: names and values.
+fn asked<'a>(declarations: &'a str, body: &str) -> Vec<(&'a str, &'a str)> {
     let declaration = |part: &'a str| {
         let (name, rest) = part.trim_start().split_once(char::is_whitespace)?;
         let quote = rest.trim_start().chars().next().filter(|c| matches!(c, '\'' | '"'))?;
         Some((name, rest.trim_start()[1..].split(quote).next()?))
     };
     let mut left: Vec<(&str, &str)> = declarations.split("<!ENTITY").skip(1).filter_map(declaration).collect();
-    let mut texts = vec![body];
-    let mut names = Vec::new();
+    let mut texts = vec![without_tags(body)];
+    let mut all = Vec::new();
     while let Some(text) = texts.pop() {
-        let (found, others) = left.into_iter().partition(|(name, _)| text.contains(&format!("&{name};")));
-        let found: Vec<(&str, &str)> = found;
-        texts.extend(found.iter().map(|(_, value)| *value));
-        names.extend(found.iter().map(|(name, _)| *name));
+        let (found, others): (Vec<_>, Vec<_>) = left.into_iter().partition(|(name, _)| text.contains(&format!("&{name};")));
+        texts.extend(found.iter().map(|(_, value)| without_tags(value)));
+        all.extend(found);
         left = others;
     }
-    names
+    all
+}
+
+/// What stands outside of `<` and `>`, of which those in quotes within a tag do not count.
+fn without_tags(text: &str) -> String {
+    let (mut in_tag, mut quote) = (false, None);
+    let is_outside = |c: &char| {
+        match (in_tag, quote) {
+            (true, Some(end)) if end == *c => quote = None,
+            (true, Some(_)) => {}
+            (true, None) if matches!(c, '\'' | '"') => quote = Some(*c),
+            (_, None) if matches!(c, '<' | '>') => in_tag = *c == '<',
+            _ => return !in_tag,
+        }
+        false
+    };
+    text.chars().filter(is_outside).collect()
 }
 
 impl<'input> Document<'input> {
