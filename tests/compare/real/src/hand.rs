@@ -2,7 +2,7 @@
 
 /// What stands within a drawing that has the usual namespaces.
 #[rustfmt::skip]
-const INSIDE: [&str; 58] = [
+const INSIDE: [&str; 60] = [
     "",
     // Rules by weight, by order, important ones, and the style attribute behind them.
     "<style>#a { fill: red } rect { fill: green !important; x: 1 } .b { fill: blue }</style><rect id='a' class='c b' style='fill: none' fill='white'/>",
@@ -23,6 +23,8 @@ const INSIDE: [&str; 58] = [
      <g class='a d'/><g class='a-b'/><g class='a' xlink:href='#h'/>",
     "<style>/* a */ g /* b */ { /* c */ fill /* d */ : /* e */ red /* f */ ; /* g */ }</style><g/>",
     "<style>g { fill: url( '#a' ) red; font: bold 12px/1.5 \"A B\", serif; marker: url(#m) !important; stroke: #ABC }</style><g/>",
+    "<style s:type='text/plain' o:type='a'>g { fill: a }</style><style type='TEXT/CSS'>g { fill: b }</style><style type='text/css '>g { fill: c }</style><g/>",
+    "<style>.a { fill: b } #c { stroke: d }</style><g s:class='a' s:id='c' s:style='color: e' o:style='opacity: f'/><g xml:class='a' xlink:style='color: g'/>",
     // Shorthands beside what they stand for.
     "<g style='font-weight: bold; font: 12px a; font-size: 1px'/><g style='font: italic 12px a !important; font-style: b'/><g font='12px a'/>",
     "<g style='marker: none; marker-end: url(#a)' marker-start='url(#b)'/><g marker='url(#c)'/><g style='marker: inherit'/>",
@@ -222,6 +224,7 @@ pub fn documents() -> Vec<String> {
     for depth in [1022, 1023, 1024, 1025] {
         all.push(nested(depth, "g", ""));
         all.push(nested(depth, "g", "<!-- a -->"));
+        all.push(nested(depth, "g", "<?a b?>"));
         all.push(nested(depth, "g", "a"));
         all.push(nested(depth, "g", "<use href='#a'/><rect id='a'/>"));
         all.push(nested(depth, "g", "<text><tspan>a</tspan></text><!-- b -->"));

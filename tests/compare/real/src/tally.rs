@@ -8,8 +8,8 @@ pub struct Tally {
     cases: u32,
     /// How many cases have which answer.
     answers: BTreeMap<String, u32>,
-    /// Differences that a limit of the port explains.
-    limits: BTreeMap<String, u32>,
+    /// Differences that a limit of the port explains, each limit with the names of its cases.
+    limits: BTreeMap<String, Vec<String>>,
     differences: Vec<String>,
 }
 
@@ -44,7 +44,7 @@ impl Tally {
         let mut differences = Vec::new();
         match (judged.as_ref().and_then(|judged| judged.difference(&own)), limit(&own)) {
             (None, _) => {}
-            (Some(_), Some(limit)) => *self.limits.entry(limit).or_default() += 1,
+            (Some(_), Some(limit)) => self.limits.entry(limit).or_default().push(name.to_string()),
             (Some(words), None) => differences.push(format!("the Rust and the library: {words}")),
         }
         let line = judged.as_ref().unwrap_or(&own).line();
@@ -64,11 +64,11 @@ impl Tally {
 
     /// Prints the counts, and the first differences. True if there are none.
     pub fn told(&self) -> bool {
-        let counts = |map: &BTreeMap<String, u32>| map.iter().map(|(what, count)| format!("{count} {what}")).collect::<Vec<_>>();
+        let counts: Vec<String> = self.answers.iter().map(|(what, count)| format!("{count} {what}")).collect();
         let judge = if cfg!(feature = "rust") { "the Rust" } else { "the list" };
-        println!("{} compared with {judge}: {}; {} differ", self.cases, counts(&self.answers).join(", "), self.differences.len());
-        if !self.limits.is_empty() {
-            println!("past a limit that the Rust does not have: {}", counts(&self.limits).join(", "));
+        println!("{} compared with {judge}: {}; {} differ", self.cases, counts.join(", "), self.differences.len());
+        for (limit, names) in &self.limits {
+            println!("past a limit that the Rust does not have, {limit}: {}, first {}", names.len(), names[0]);
         }
         for words in self.differences.iter().take(10) {
             println!("  {}", words.chars().take(1500).collect::<String>());
