@@ -49,6 +49,21 @@ pub fn random(seed: u64, count: u64) -> Tally {
     tally
 }
 
+/// Documents of random values, which are not recorded.
+pub fn values(seed: u64, count: u64) -> Tally {
+    let mut tally = Tally::default();
+    for turn in 0..count {
+        let text = document_of_values(seed, turn);
+        tally.add(&format!("values {turn} of seed {seed}"), text.as_bytes(), None);
+    }
+    tally
+}
+
+/// The document of random values of a seed and a turn.
+pub fn document_of_values(seed: u64, turn: u64) -> String {
+    hand::values(&mut Random::new(seed, turn))
+}
+
 /// The document of a seed and a turn.
 pub fn document(seed: u64, turn: u64) -> String {
     let mut writer =

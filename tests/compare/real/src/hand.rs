@@ -1,4 +1,5 @@
 //! Documents made by hand: what the project's tests of the host have, and what random documents seldom hit.
+use crate::random::Random;
 
 /// What stands within a drawing that has the usual namespaces.
 #[rustfmt::skip]
@@ -171,42 +172,79 @@ fn selected(selector: &str) -> String {
 }
 
 /// A list of values, each in an element of its own. LINK is i and the number of the value.
-fn each(values: &[&str], element: impl Fn(&str, &str) -> String) -> String {
-    let one = |(k, value): (usize, &&str)| {
+fn each<S: AsRef<str>>(values: &[S], element: impl Fn(&str, &str) -> String) -> String {
+    let one = |(k, value): (usize, &S)| {
         let link = format!("i{k}");
-        element(&link, &value.replace("LINK", &link).replace('"', "&quot;"))
+        element(&link, &value.as_ref().replace("LINK", &link).replace('"', "&quot;"))
     };
     values.iter().enumerate().map(one).collect()
 }
 
-/// All values of each list: in attributes, in style attributes and in rules.
-fn catalogues() -> Vec<String> {
+/// All values of four lists (paints, filters, fonts, links): in attributes, in style attributes and in rules.
+fn catalogues<S: AsRef<str>>([paints, filters, fonts, links]: [&[S]; 4]) -> Vec<String> {
     let filter =
         |link: &str, image: &str| format!("<filter id='{link}'><feImage href='#r{link}'/></filter><rect id='r{link}' {image}/>");
     let pattern = |link: &str, rect: &str| format!("<pattern id='{link}'><rect {rect}/></pattern>");
     let clip = |link: &str, rect: &str| format!("<clipPath id='{link}'><rect {rect}/></clipPath>");
-    let mut all = vec![
-        each(&PAINTS, |link, value| pattern(link, &format!("fill=\"{value}\""))),
-        each(&PAINTS, |link, value| pattern(link, &format!("style=\"stroke: {value}; color: red\""))),
-        each(&PAINTS, |link, value| clip(link, &format!("clip-path=\"{value}\""))),
-        each(&PAINTS, |link, value| clip(link, &format!("style=\"clip-path: {value}\" mask='none'"))),
-        each(&FILTERS, |link, value| filter(link, &format!("filter=\"{value}\""))),
-        each(&FILTERS, |link, value| filter(link, &format!("style=\"filter: {value}; fill: red\""))),
-        each(&FILTERS, |link, value| format!("<filter id='{link}'><g filter=\"{value}\"/></filter>")),
-        each(&FONTS, |link, value| format!("<g id='{link}' font=\"{value}\" style=\"font: {value}; fill: red\"/>")),
-        each(&FONTS, |link, value| {
+    vec![
+        each(paints, |link, value| pattern(link, &format!("fill=\"{value}\""))),
+        each(paints, |link, value| pattern(link, &format!("style=\"stroke: {value}; color: red\""))),
+        each(paints, |link, value| clip(link, &format!("clip-path=\"{value}\""))),
+        each(paints, |link, value| clip(link, &format!("style=\"clip-path: {value}\" mask='none'"))),
+        each(filters, |link, value| filter(link, &format!("filter=\"{value}\""))),
+        each(filters, |link, value| filter(link, &format!("style=\"filter: {value}; fill: red\""))),
+        each(filters, |link, value| format!("<filter id='{link}'><g filter=\"{value}\"/></filter>")),
+        each(fonts, |link, value| format!("<g id='{link}' font=\"{value}\" style=\"font: {value}; fill: red\"/>")),
+        each(fonts, |link, value| {
             format!("<style>#{link} {{ font-style: a; font: {value} !important }}</style><g id='{link}'/>")
         }),
-        each(&LINKS, |link, value| format!("<g id='{link}'/><use href=\"{value}\"/>")),
-        each(&LINKS, |link, value| format!("<g id='{link}'/><use xlink:href=\"{value}\"/>")),
-        each(&LINKS, |link, value| {
+        each(links, |link, value| format!("<g id='{link}'/><use href=\"{value}\"/>")),
+        each(links, |link, value| format!("<g id='{link}'/><use xlink:href=\"{value}\"/>")),
+        each(links, |link, value| {
             format!("<desc id='{link}'/><g id='{link}'>a</g><text id='t{link}'>{link}<tref href=\"{value}\"/></text>")
         }),
-        each(&LINKS, |link, value| format!("<text id='{link}'>a{link}</text><text><tref href=\"{value}\"/></text>")),
-        each(&LINKS, |link, value| filter(link, &format!("filter='url(#{link})' href=\"{value}\""))),
+        each(links, |link, value| format!("<text id='{link}'>a{link}</text><text><tref href=\"{value}\"/></text>")),
+        each(links, |link, value| filter(link, &format!("filter='url(#{link})' href=\"{value}\""))),
+    ]
+}
+
+/// A drawing with the usual namespaces.
+fn svg(inside: &str) -> String {
+    let namespaces =
+        "xmlns='http://www.w3.org/2000/svg' xmlns:s='http://www.w3.org/2000/svg' xmlns:xlink='http://www.w3.org/1999/xlink'";
+    format!("<svg {namespaces} xmlns:o='urn:o'>{inside}</svg>")
+}
+
+/// One document of random values, put together from parts.
+pub fn values(random: &mut Random) -> String {
+    const PARTS: [[&str; 30]; 4] = [
+        [
+            "url(", "url(", "#LINK", "#LINK", "#LINK", ")", ")", ")", "url(#LINK)", "url(#LINK)", "url(#LINK) ", "url('#LINK')",
+            "'", "&quot;", " ", " ", "none", "red", "rgb(", "rgba(", "hsl(", "1", "2%", ",", " / ", "#12", "ab", "currentColor",
+            "120deg", ".5",
+        ],
+        [
+            "url(", "#LINK", ")", ")", "url(#LINK)", "url(#LINK)", " url(#LINK)", "url('#LINK')", "'", " ", " ", "none", "blur(",
+            "blur(", "sepia(", "sepia()", "hue-rotate(", "drop-shadow(", "drop-shadow(", "opacity(1)", "1", "2px", " 3", "50%",
+            "deg", "red", "-", ".5", "rgb(1, 2, 3)", "contrast(2) ",
+        ],
+        [
+            "12px", "12px ", "1.5em", ".5", "5%", "bold ", "bold", "italic ", "small-caps ", "condensed ", "normal ", "700 ",
+            "450 ", "x-large ", "larger", " ", " ", "a", "b, c", "'d e'", "serif", "-", "1e", "em", "px ", "0", "9pt", ",",
+            "oblique ", "_",
+        ],
+        [
+            "#LINK", "#LINK", "#LINK", "#LINK", "#", "#", " ", " ", "&#9;", "&#10;", "LINK", "a", "&#160;", "'", "(", ")",
+            "url(", ".svg", "/", "%20", "é", "", "", "", "", "", "", "", "", "&#13;",
+        ],
     ];
-    all.extend(SELECTORS.iter().map(|selector| selected(&selector.replace('>', "&gt;"))));
-    all
+    let mut list = |parts: &[&str]| -> Vec<String> {
+        (0..12).map(|_| (0..1 + random.below(6)).map(|_| random.one_of(parts)).collect()).collect()
+    };
+    let [paints, filters, fonts, links] = [0, 1, 2, 3].map(|k| list(&PARTS[k]));
+    let mut all = catalogues([&paints, &filters, &fonts, &links]);
+    let which = random.below(all.len());
+    svg(&all.swap_remove(which))
 }
 
 /// Elements within one another, so many.
@@ -216,11 +254,10 @@ fn nested(depth: usize, name: &str, inside: &str) -> String {
 
 /// All documents.
 pub fn documents() -> Vec<String> {
-    let svg = "<svg xmlns='http://www.w3.org/2000/svg' xmlns:s='http://www.w3.org/2000/svg' xmlns:xlink='http://www.w3.org/1999/xlink' \
-               xmlns:o='urn:o'>";
     let mut all: Vec<String> = WHOLE.iter().map(|text| text.to_string()).collect();
-    all.extend(INSIDE.iter().map(|inside| format!("{svg}{inside}</svg>")));
-    all.extend(catalogues().iter().map(|inside| format!("{svg}{inside}</svg>")));
+    all.extend(INSIDE.iter().map(|inside| svg(inside)));
+    all.extend(catalogues([&PAINTS[..], &FILTERS, &FONTS, &LINKS]).iter().map(|inside| svg(inside)));
+    all.extend(SELECTORS.iter().map(|selector| svg(&selected(&selector.replace('>', "&gt;")))));
     for depth in [1022, 1023, 1024, 1025] {
         all.push(nested(depth, "g", ""));
         all.push(nested(depth, "g", "<!-- a -->"));

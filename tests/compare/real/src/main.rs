@@ -1,6 +1,6 @@
 //! Compares the tree that the Rust makes of an SVG file with the one that the host and the library make of it. `tests/compare/real/run`
-//! calls it. usage: real files|documents LIST, real record-files|record-documents, real random|damaged SEED COUNT; to look at a difference:
-//! real write-random|write-damaged SEED TURN writes a document, and real file FILE compares one.
+//! calls it. usage: real files|documents LIST, real record-files|record-documents, real random|values|damaged SEED COUNT; to look at a
+//! difference: real write-random|write-values|write-damaged SEED TURN writes a document, and real file FILE compares one.
 use std::io::Write;
 
 mod corpus;
@@ -35,9 +35,11 @@ fn main() {
         ["documents", list] => generate::compare(&read(list)).told(),
         ["record-documents"] => printed(generate::record()),
         ["random", seed, count] => generate::random(number(seed), number(count)).told(),
+        ["values", seed, count] => generate::values(number(seed), number(count)).told(),
         ["damaged", seed, count] => damage::compare(number(seed), number(count)).told(),
         ["file", file] => one(&std::fs::read(file).unwrap_or_else(|error| panic!("{file}: {error}"))).told(),
         ["write-random", seed, turn] => written(generate::document(number(seed), number(turn)).as_bytes()),
+        ["write-values", seed, turn] => written(generate::document_of_values(number(seed), number(turn)).as_bytes()),
         ["write-damaged", seed, turn] => written(&damage::one(number(seed), number(turn))),
         _ => panic!("the arguments stand at the top of src/main.rs"),
     };
