@@ -215,6 +215,48 @@ fn svg(inside: &str) -> String {
     format!("<svg {namespaces} xmlns:o='urn:o'>{inside}</svg>")
 }
 
+/// A function with some amounts.
+fn call(name: &str, random: &mut Random) -> String {
+    let amount = |random: &mut Random| {
+        let (sign, unit) =
+            (random.one_of(&["", "", "", "-", "+"]), random.one_of(&["", "", "%", "px", "deg", "rad", "mm", "turn", "q"]));
+        format!("{sign}{}{unit}", random.one_of(&["0", "1", "2.5", ".5", "120", "1e1", "a", ""]))
+    };
+    let by = random.one_of(&[" ", ", ", ",", " / "]);
+    let amounts: Vec<String> = (0..random.below(6)).map(|_| amount(random)).collect();
+    format!("{name}{}{}{}", random.one_of(&["(", "(", "( ", " ("]), amounts.join(by), random.one_of(&[")", ")", " )", ""]))
+}
+
+/// A colour, or something like it.
+fn color(random: &mut Random) -> String {
+    match random.below(4) {
+        0 => "#123456789abcdefg"[..1 + random.below(10)].to_string(),
+        1 => random
+            .one_of(&["red", "Red", "transparent", "none", "currentColor", "currentcolor", "nothing", "inherit"])
+            .to_string(),
+        _ => {
+            let name = random.one_of(&["rgb", "rgba", "hsl", "hsla", "RGB", "lab"]);
+            call(name, random)
+        }
+    }
+}
+
+/// A filter that is no link, or something like it.
+fn function(random: &mut Random) -> String {
+    let name = random.one_of(&["blur", "sepia", "opacity", "hue-rotate", "contrast", "Blur", "nothing"]);
+    match random.below(3) {
+        0 => {
+            let lengths: Vec<&str> = (0..random.below(5)).map(|_| random.one_of(&["1", "2px", "-3", "4mm", "5%", "a"])).collect();
+            let (lengths, color) = (lengths.join(" "), if random.once_in(2) { color(random) } else { String::new() });
+            format!(
+                "drop-shadow({})",
+                if random.once_in(2) { format!("{lengths} {color}") } else { format!("{color} {lengths}") }
+            )
+        }
+        _ => call(name, random),
+    }
+}
+
 /// One document of random values, put together from parts.
 pub fn values(random: &mut Random) -> String {
     const PARTS: [[&str; 30]; 4] = [
@@ -238,10 +280,15 @@ pub fn values(random: &mut Random) -> String {
             "url(", ".svg", "/", "%20", "é", "", "", "", "", "", "", "", "", "&#13;",
         ],
     ];
-    let mut list = |parts: &[&str]| -> Vec<String> {
-        (0..12).map(|_| (0..1 + random.below(6)).map(|_| random.one_of(parts)).collect()).collect()
+    let mut list = |kind: usize| -> Vec<String> {
+        let one = |_| match (kind, random.once_in(2)) {
+            (0, true) => format!("url(#LINK){}{}", random.one_of(&["", " ", "  "]), color(random)),
+            (1, true) => format!("{}{}url(#LINK)", function(random), random.one_of(&["", " ", "  "])),
+            _ => (0..1 + random.below(6)).map(|_| random.one_of(&PARTS[kind])).collect(),
+        };
+        (0..12).map(one).collect()
     };
-    let [paints, filters, fonts, links] = [0, 1, 2, 3].map(|k| list(&PARTS[k]));
+    let [paints, filters, fonts, links] = [0, 1, 2, 3].map(&mut list);
     let mut all = catalogues([&paints, &filters, &fonts, &links]);
     let which = random.below(all.len());
     svg(&all.swap_remove(which))

@@ -96,7 +96,6 @@ fn is_later_color(text: &str) -> bool {
         Some((name, inside)) => {
             let parts: Vec<&str> =
                 inside.split(|c| SPACES.contains(&c) || c == ',' || c == '/').filter(|p| !p.is_empty()).collect();
-            let name = name.trim_end_matches(SPACES);
             ["rgb", "rgba", "hsl", "hsla"].contains(&name) && [3, 4].contains(&parts.len()) && parts.into_iter().all(is_number)
         }
         None => text == "transparent",
