@@ -4,7 +4,9 @@ use crate::readings::{readings, Kind, Place};
 use crate::style::Sheet;
 use roxmltree::{Document, Node, NodeType, ParsingOptions};
 use std::borrow::Cow;
+use std::collections::HashMap;
 use std::fmt;
+use xmlparser::{ElementEnd, EntityDefinition, StrSpan, Token, Tokenizer};
 
 /// A drawing as the panel takes it: the commands, and the strings that they have, one after another.
 ///
@@ -194,19 +196,18 @@ fn no_xml(error: &roxmltree::Error) -> Fault {
     Fault { line: place.row, column: place.col, words, is_no_xml: true }
 }
 
-/// Debian's roxmltree takes a document that ends before its elements do. This one does not: the place is that of the last element that
-/// was left open.
+/// Debian's roxmltree takes a document that ends before its elements do, and one with an entity that leaves an element open, of which it
+/// then loses what stands behind. This one takes neither: the place is that of the last element that was left open.
 fn all_closed(text: &str, xml: &Document) -> Result<(), Fault> {
-    use xmlparser::{ElementEnd, Token, Tokenizer};
-    let mut open = Vec::new();
-    for token in Tokenizer::from(text).flatten() {
-        match token {
-            Token::ElementStart { span, .. } => open.push(span),
-            Token::ElementEnd { end: ElementEnd::Close(..) | ElementEnd::Empty, .. } => drop(open.pop()),
-            _ => {}
+    let mut entities = HashMap::new();
+    let mut asked = Vec::new();
+    let mut open = left_open(Tokenizer::from(text), &mut entities, &mut asked);
+    while let (None, Some(name)) = (open, asked.pop()) {
+        if let Some(value) = entities.remove(name) {
+            open = left_open(Tokenizer::from_fragment(text, value.range()), &mut entities, &mut asked);
         }
     }
-    match open.last() {
+    match open {
         None => Ok(()),
         Some(span) => {
             let place = xml.text_pos_at(span.start());
@@ -214,4 +215,26 @@ fn all_closed(text: &str, xml: &Document) -> Result<(), Fault> {
             Err(Fault { line: place.row, column: place.col, words, is_no_xml: true })
         }
     }
+}
+
+/// The last element that is left open by a document or by the text of an entity. The entities that it declares are added, and the names of
+/// those that its texts ask for.
+fn left_open<'a>(
+    tokens: Tokenizer<'a>,
+    entities: &mut HashMap<&'a str, StrSpan<'a>>,
+    asked: &mut Vec<&'a str>,
+) -> Option<StrSpan<'a>> {
+    let mut open = Vec::new();
+    for token in tokens.flatten() {
+        match token {
+            Token::EntityDeclaration { name, definition: EntityDefinition::EntityValue(value), .. } => {
+                entities.entry(name.as_str()).or_insert(value);
+            }
+            Token::Text { text } => asked.extend(text.as_str().split('&').skip(1).filter_map(|part| part.split(';').next())),
+            Token::ElementStart { span, .. } => open.push(span),
+            Token::ElementEnd { end: ElementEnd::Close(..) | ElementEnd::Empty, .. } => drop(open.pop()),
+            _ => {}
+        }
+    }
+    open.pop()
 }

@@ -55,7 +55,7 @@ fn run(arguments: &[&OsStr]) -> Done {
         [] => return wrong("there is no command (storkvanity --help tells what there is)"),
         [name, rest @ ..] => (name.to_str().unwrap_or("?"), rest),
     };
-    if is_help(name) {
+    if is_help(name) || name == "help" && rest.is_empty() {
         return print(&help::all());
     }
     let command = match help::COMMANDS.iter().find(|command| command.name == name) {
@@ -80,6 +80,18 @@ fn run(arguments: &[&OsStr]) -> Done {
 
 fn is_help(word: &str) -> bool {
     matches!(word, "--help" | "-h")
+}
+
+/// What is refused when a question is asked, with what the tree and the lists have.
+fn not_asked<'a>(tree: &'a Tree, name: &'a str) -> impl Fn(Refusal) -> Failure + 'a {
+    move |refusal| {
+        let more = match refusal.number() {
+            41 => format!(" The nodes of this tree are 0 to {}.", tree.len() - 1),
+            42 => format!(" The panel knows no attribute '{name}'."),
+            _ => String::new(),
+        };
+        Failure::Words(format!("{refusal}{more}"))
+    }
 }
 
 /// One clear sentence about arguments that cannot be followed.
@@ -182,12 +194,12 @@ fn ask(file: &OsStr, question: &OsStr, words: &[&OsStr]) -> Done {
     let answer = match (question.to_str().unwrap_or("?"), &words[..]) {
         ("attribute", [node, name]) => {
             let tree = load_tree(file)?;
-            let entry = tree.attribute(node_of(&tree, node)?, name).map_err(refused)?;
+            let entry = tree.attribute(node_of(&tree, node)?, name).map_err(not_asked(&tree, name))?;
             entry.map(|entry| show::entry(&tree, entry))
         }
         ("find", [node, name]) => {
             let tree = load_tree(file)?;
-            let entry = tree.find_attribute(node_of(&tree, node)?, name).map_err(refused)?;
+            let entry = tree.find_attribute(node_of(&tree, node)?, name).map_err(not_asked(&tree, name))?;
             entry.map(|entry| show::entry(&tree, entry))
         }
         ("id", [id]) => {

@@ -127,7 +127,7 @@ fn is_color(value: &str) -> bool {
 /// `rgb`, `rgba`, `hsl` or `hsla` of three or four numbers, each with a unit or without one.
 fn color_function(value: &str) -> Option<()> {
     let (name, numbers) = value.strip_suffix(')')?.split_once('(')?;
-    if !["rgb", "rgba", "hsl", "hsla"].iter().any(|n| n.eq_ignore_ascii_case(name.trim())) {
+    if !["rgb", "rgba", "hsl", "hsla"].iter().any(|n| n.eq_ignore_ascii_case(name)) {
         return None;
     }
     let mut s = Stream::from(numbers);
@@ -326,7 +326,7 @@ mod tests {
         let read =
             ["url(#a)", " url(#a) none ", "url(#a) red", "url(#a)#fff8", "url(#a) rgba(1, 2, 3, .5)", "url(#a) hsl(120 50% 50%)"];
         assert_eq!(read.map(paint), [Some("a"); 6]);
-        assert_eq!(["none", "red", "url(#a) unknown", "url(#a) rgb(1)"].map(paint), [None; 4]);
+        assert_eq!(["none", "red", "url(#a) unknown", "url(#a) rgb(1)", "url(#a) rgb (1, 2, 3)"].map(paint), [None; 5]);
     }
 
     #[test]

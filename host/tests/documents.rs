@@ -247,6 +247,14 @@ fn what_is_no_xml_has_a_line_and_a_column() {
     assert_eq!(fault("<svg>\n<g>"), "line 2, column 1: the element 'g' is never closed");
     assert_eq!(fault("<svg>\n <g/>\n"), "line 1, column 1: the element 'svg' is never closed");
     assert_eq!(fault("<svg>\n <g a='1'"), "line 2, column 2: the element 'g' is never closed");
+    let entity =
+        |value: &str, inside: &str| format!("<!DOCTYPE svg [\n<!ENTITY e '{value}'><!ENTITY f '&e;'>]><svg>{inside}<g/></svg>");
+    assert_eq!(fault(&entity("a<g>b", "&e;")), "line 2, column 14: the element 'g' is never closed");
+    assert_eq!(fault(&entity("<g a=\"1\"", "&f;")), "line 2, column 13: the element 'g' is never closed");
+    assert!(["a", "&#38;e;", "<!-- &e; --><![CDATA[&f;]]>"]
+        .iter()
+        .all(|inside| Drawing::from_xml(&entity("<g>", inside)).is_ok()));
+    assert!(Drawing::from_xml(&entity("<g>a</g><g/>", "&e;&f;")).is_ok());
     assert_eq!(fault("<svg>&nbsp;</svg>"), "line 1, column 6: unknown entity reference 'nbsp'");
     assert_eq!(fault("<svg>\n<a:g/></svg>"), "line 2, column 2: an unknown namespace prefix 'a'");
     assert_eq!(fault("<svg a='1' a='2'/>"), "line 1, column 12: attribute 'a' is already defined");

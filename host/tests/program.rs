@@ -113,8 +113,8 @@ fn questions_go_by_names() {
     assert_eq!(ask(&["text", "#load"]), "\"12.5 kg\"\n");
     assert_eq!(ask(&["text", "99"]), "\"\"\n");
     for (words, told) in [
-        (["attribute", "99", "fill"], "41: There is no node with that index."),
-        (["attribute", "1", "unknown"], "42: There is no attribute with that code."),
+        (["attribute", "99", "fill"], "41: There is no node with that index. The nodes of this tree are 0 to 17."),
+        (["attribute", "1", "unknown"], "42: There is no attribute with that code. The panel knows no attribute 'unknown'."),
         (["find", "#nobody", "fill"], "the tree has no element with the id 'nobody'"),
     ] {
         let (status, lines, errors) = run(&[&["ask", GRIPPER], &words[..]].concat());
@@ -206,4 +206,5 @@ fn help_for_each_command() {
         assert!(printed(&[name, "--help"]).starts_with(&format!("storkvanity {name} ")), "{name}");
     }
     assert_eq!(all.matches("\nstorkvanity ").count(), names.len() + 1);
+    assert_eq!((printed(&["-h"]), printed(&["help"])), (all.clone(), all));
 }
