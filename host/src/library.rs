@@ -105,7 +105,7 @@ pub fn exchange(script: &[u8], characters: &mut [u8], number: u32, new: &[u8], l
 }
 
 /// The stack of a thread that builds: twice what docs/MANUAL.md asks for.
-const STACK: usize = 4 << 20;
+const STACK: usize = 512 << 10;
 
 /// Runs a call that takes more stack the deeper a drawing nests, in a thread that has enough for every drawing.
 fn with_stack<T: Send>(call: impl FnOnce() -> T + Send) -> T {
