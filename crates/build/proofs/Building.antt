@@ -2,15 +2,15 @@
 use mathlib.Core.Path.{_≡_, refl, sym, ap, _∙_, subst}
 use mathlib.Core.List.{List}
 use mathlib.Core.Bool.{Bool, true, false}
-use Prim.Native.Nat.{ℕ, zero, suc, _*_, _/_, min, _≤_, _<_}
+use Prim.Native.Nat.{ℕ, zero, suc, _*_, _/_, _≤_, _<_}
 use native.Mathlib.Omega.{arith}
 use borrow.Author.Tests.{eqb-true, eqb-false, ne-eqb, ltb-false, lt-ltb, le-ltb}
 use lib.Dec.{eqb, ltb}
-use lib.ListN.{length, set, replicate, length-set, length-replicate}
+use lib.ListN.{length, length-set, length-replicate}
 use Rattle.model.specs.Base.{pick, or}
 use Rattle.model.specs.Check.{check, checkFrom, starting, mostBytes}
 use Rattle.model.specs.Drawing.{Event, commands, events, valuesIn, childrenFrom}
-use Rattle.model.specs.Tables.{Tree, Out, refused, done, then, most, word, setWord, nodeRoom, cleared, rooted}
+use Rattle.model.specs.Tables.{Tree, Out, refused, done, then, word, setWord, nodeRoom, cleared, rooted}
 use Rattle.model.specs.Parse.{each, node, plain}
 use Rattle.model.specs.Repair.{repaired}
 use Rattle.model.specs.Build.{withRoot, parsed, firstIsSvg, tested, parseTree, withRepairs, answered, build}
@@ -25,7 +25,6 @@ use Rattle.tree.specs.Lent.{treeOf, nodesRead}
 use Rattle.label.specs.Whole.{Underway}
 use Rattle.parse.specs.State.{countsIn, numberIn}
 use Rattle.parse.specs.Met.{outcomeOf, Reached}
-use Rattle.build.specs.declared.Built.{Built}
 use Rattle.build.specs.Results.{resultOf, nothing, rootAlone, clearedAs, Tended, Rooted}
 
 -- The sizes of a drawing that check takes.

@@ -1,19 +1,13 @@
 -- Demand 3 of the code, from demand 3 of the definitions. Assumes nothing.
 use mathlib.Core.Path.{_≡_, sym, ap, _∙_}
 use Prim.Native.Nat.{ℕ, _+_}
-use mathlib.Core.List.{List}
 use lib.ListN.{length, length-replicate}
-use lib.Seq.{sets}
-use Rattle.model.specs.Drawing.{Source}
 use Rattle.model.specs.Tables.{Tree, cleared}
-use Rattle.model.specs.Build.{Result, build, exchange, exchanged}
-use Rattle.model.specs.Noted.{notes}
-use Rattle.model.specs.Demand3.{Alike, Exchangeable, Demand3}
+use Rattle.model.specs.Build.{Result, build, exchanged}
+use Rattle.model.specs.Demand3.{Exchangeable}
 use Rattle.model.specs.Theorems.Whole.{demand3}
 use Rattle.model.specs.Theorems.Sealed.{built-as-lent, built-characters}
-use Rattle.build.specs.declared.Built.{Built}
-use Rattle.build.specs.Results.{resultOf}
-use Rattle.exchange.specs.Demand.{Calls, Demand3OfCalls}
+use Rattle.exchange.specs.Demand.{Demand3OfCalls}
 
 pub demand3-of-calls : Demand3OfCalls
 unfolding cleared

@@ -3,12 +3,10 @@ use Prim.Native.Nat.{ℕ, zero}
 use mathlib.Core.Path.{_≡_, refl, sym, ap, _∙_}
 use mathlib.Core.Bool.{Bool, true, false, not}
 use mathlib.Core.List.{List, [], _∷_}
-use mathlib.Core.Option.{Option, none, some}
-use borrow.Author.Tests.{eqb-true, eq-eqb, ne-eqb, not-false}
+use mathlib.Core.Option.{some}
+use borrow.Author.Tests.{eqb-true, ne-eqb, not-false}
 use lib.Dec.{eqb}
 use lib.ListN.{length}
-use lib.Seq.{sets}
-use Rattle.model.specs.Base.{pick, given}
 use Rattle.model.specs.Utf8.{isUtf8}
 use Rattle.model.specs.Drawing.{Source, sourceAt, events, textNumbered, isInStyle}
 use Rattle.model.specs.Check.{_if_, Test, firstOf, check}

@@ -50,17 +50,20 @@ module _ (script chars : List ℕ) (left i : ℕ) (s k : List ℕ) (t : Tree) (b
 
   -- Nothing is left.
   none-left : (b : ℕ) → RestFit script chars left i s k t b → (b ≡ 1 → ⊥) → (b ≡ 2 → ⊥) → Done s k t b b
-  none-left zero h x y = (refl, λ z. record {
-    long = h .long;
-    wide = h .wide;
-    by = refl;
-    fit = h .fit;
-    later = omega arith;
-    behind = refl;
-    tidy = h .tidy;
-    few = h .few;
-    more = omega arith;
-  })
+  none-left zero h x y = (
+    refl,
+    λ z. record {
+      long = h .long;
+      wide = h .wide;
+      by = refl;
+      fit = h .fit;
+      later = omega arith;
+      behind = refl;
+      tidy = h .tidy;
+      few = h .few;
+      more = omega arith;
+    },
+  )
   none-left (suc zero) h x y = absurd (x refl)
   none-left (suc (suc zero)) h x y = absurd (y refl)
   none-left (suc (suc (suc m))) h x y = (refl, λ z. absurd (omega (arith, z)))

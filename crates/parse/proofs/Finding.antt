@@ -1,12 +1,12 @@
 -- What stands at the cursor, by the item that was read there. Assumes nothing.
 use Prim.Native.Nat.{ℕ, zero, suc, _+_, _≤_, _<_}
 use mathlib.Core.Path.{_≡_, refl, ap, sym, _∙_, subst}
-use mathlib.Core.List.{List, [], _∷_}
+use mathlib.Core.List.{List, _∷_}
 use native.Mathlib.Omega.{arith}
 use lib.ListN.{length}
 use Rattle.model.specs.Drawing as model
-use Rattle.model.specs.Drawing.{Event, begin, close, events, childrenFrom, sourceAt}
-use Rattle.model.specs.Tables.{Tree, refused, done}
+use Rattle.model.specs.Drawing.{Event, close, events, childrenFrom, sourceAt}
+use Rattle.model.specs.Tables.{Tree, refused}
 use Rattle.model.specs.Parse.{each, node, plain}
 use Rattle.script.specs.declared.cursor.Cursor.{Cursor}
 use Rattle.script.specs.Step.{Fit, markOf}
@@ -19,8 +19,8 @@ use Rattle.walk.proofs.Walks.{ItemIs, item-told}
 use Rattle.tree.specs.Lent.{treeOf}
 use Rattle.label.specs.Walk.{Lies}
 use Rattle.label.specs.Whole.{Underway, Beginning}
-use Rattle.parse.specs.State.{placeIn, originIn, countsIn, numberIn, Stood}
-use Rattle.parse.specs.Met.{isCopied, nextOf, Opens, firstOf, levelBuilt, MetNode, MetFirst, MetEnd, MetFit, HandedFit, HandedOn, HandedDeep}
+use Rattle.parse.specs.State.{placeIn, originIn, countsIn, Stood}
+use Rattle.parse.specs.Met.{isCopied, nextOf, Opens, firstOf, MetNode, MetFirst, MetEnd, MetFit, HandedFit, HandedOn, HandedDeep}
 use Rattle.parse.proofs.Following.{Handed, handed-next, handed-done, handed-deep}
 
 -- A node that was met is none that ends the element around it.

@@ -1,10 +1,10 @@
 -- One node after another, whatever stands before it. Assumes nothing.
-use Prim.Native.Nat.{ℕ, zero, suc, _≤_}
+use Prim.Native.Nat.{ℕ, zero, _≤_}
 use mathlib.Core.Path.{_≡_, refl, ap, sym, _∙_}
 use mathlib.Core.Bool.{Bool}
 use mathlib.Core.List.{List, [], _∷_}
 use Rattle.model.specs.Drawing as model
-use Rattle.model.specs.Drawing.{Event, begin, close, events, childrenFrom}
+use Rattle.model.specs.Drawing.{Event, begin, close, childrenFrom}
 use Rattle.model.specs.Tables.{Tree, Out, refused, done, then}
 use Rattle.model.specs.Parse.{Builder, each, level, node, plain}
 use Rattle.walk.specs.Nodes.{leave}

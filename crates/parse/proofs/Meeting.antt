@@ -2,34 +2,29 @@
 use Prim.Native.Nat.{ℕ, zero, suc, _+_, _-_, _≤_, _<_}
 use mathlib.Core.Path.{_≡_, refl, ap, sym, _∙_, subst}
 use mathlib.Core.Bool.{Bool, true, not}
-use mathlib.Core.List.{List, [], _∷_}
+use mathlib.Core.List.{List, _∷_}
 use native.Mathlib.Omega.{arith}
 use borrow.Author.Tests.{ne-eqb}
-use lib.Dec.{eqb}
-use lib.ListN.{length}
-use Rattle.model.specs.Drawing as model
-use Rattle.model.specs.Drawing.{Event, begin, close, events, eventsFrom, elementAt, attributesAt, declarationsAt, useTarget}
-use Rattle.model.specs.Tables.{Tree, Out, refused, done}
-use Rattle.model.specs.Parse.{Builder, copy, node, plain}
+use Rattle.model.specs.Drawing.{Event, begin, events, eventsFrom, elementAt, attributesAt, declarationsAt, useTarget}
+use Rattle.model.specs.Tables.{Tree, Out, refused}
+use Rattle.model.specs.Parse.{copy, node, plain}
 use Rattle.script.specs.declared.cursor.Cursor.{Cursor}
-use Rattle.script.specs.Step.{Fit, commandsAt, markOf}
+use Rattle.script.specs.Step.{Fit, commandsAt}
 use Rattle.walk.specs.declared.node.Opened.{Opened}
-use Rattle.walk.specs.declared.node.Item.{Item}
-use Rattle.walk.specs.declared.node.Item.the-variants as item
-use Rattle.walk.specs.Nodes.{elementOf, nodeAt, leave, Standing, Further, eventsOf, ItemFit}
-use Rattle.walk.specs.Values.{eventsAt, SameNodes}
+use Rattle.walk.specs.Nodes.{elementOf, nodeAt, leave, Standing}
+use Rattle.walk.specs.Values.{eventsAt}
 use Rattle.walk.proofs.Walks.{stepped}
 use Rattle.links.specs.declared.link.FoundElement.{FoundElement}
 use Rattle.links.specs.declared.link.FoundElement.the-variants as found
 use Rattle.links.specs.Links.{nodeOf, NodeFit}
 use Rattle.tree.specs.declared.Counts.{Counts}
 use Rattle.tree.specs.Lent.{treeOf}
-use Rattle.label.specs.Whole.{Underway, Beginning, Closed}
+use Rattle.label.specs.Whole.{Beginning}
 use Rattle.parse.specs.declared.Begun.{Begun}
 use Rattle.parse.specs.declared.Begun.the-variants as begun
-use Rattle.parse.specs.Cycle.{nodeBuilt, childrenBuilt, copyBuilt, Made, BegunFit}
-use Rattle.parse.specs.State.{placeIn, asideIn, copierIn, originIn, countsIn, numberIn, Stood, StoodAside, Taken, Numbered}
-use Rattle.parse.specs.Met.{isCopied, nextOf, Opens, firstOf, levelBuilt, restBuilt, MetNode, CopyAt, CopyNone, CopyFit}
+use Rattle.parse.specs.Cycle.{BegunFit}
+use Rattle.parse.specs.State.{placeIn, originIn, countsIn, Stood, StoodAside, Taken, Numbered}
+use Rattle.parse.specs.Met.{isCopied, Opens, firstOf, levelBuilt, MetNode, CopyAt, CopyNone, CopyFit}
 use Rattle.parse.proofs.Nodes.{target-begins}
 
 -- WHAT A USE COPIES
@@ -179,7 +174,7 @@ module _ (script chars : List ℕ) (left p : ℕ) (e : Opened) (ns ats bs s k : 
                 ∙ ap copies (w .same)
                 ∙ use-told .0 o;
             some = λ z. omega (arith, z);
-          rest = record {
+            rest = record {
               long = w .stood .stood .long;
               wide = j .long;
               above = use-told .1 .above;

@@ -2,15 +2,15 @@
 use Prim.Native.Nat.{ℕ, _≤_}
 use mathlib.Core.Path.{_≡_, refl, ap, sym, _∙_, subst}
 use mathlib.Core.Bool.{Bool, true, false, not}
-use mathlib.Core.List.{List, _∷_}
+use mathlib.Core.List.{List}
 use native.Mathlib.Omega.{arith}
 use lib.Dec.{eqb, leb}
 use lib.ListN.{length}
 use Rattle.model.specs.Base.{pick, and}
 use Rattle.model.specs.EId
 use Rattle.model.specs.Names.{isElement}
-use Rattle.model.specs.Drawing.{Element, Event, begin, events, useTarget}
-use Rattle.model.specs.Tables.{Tree, Out, done, addElement}
+use Rattle.model.specs.Drawing.{Element, events, useTarget}
+use Rattle.model.specs.Tables.{Tree, done, addElement}
 use Rattle.model.specs.Element.{parseSvgElement}
 use Rattle.model.specs.Theorems.Sim.{and-left, and-right, events-target}
 use Rattle.model.specs.Theorems.Inside.{LiesElement, LiesText}
@@ -21,12 +21,9 @@ use Rattle.walk.specs.Nodes.{elementOf, nodeAt, leave, Standing}
 use Rattle.walk.specs.Values.{eventsAt, SameNodes}
 use Rattle.tree.specs.declared.Counts.{Counts}
 use Rattle.tree.specs.Lent.{treeOf}
-use Rattle.element.specs.declared.Parsed.{Parsed}
-use Rattle.element.specs.declared.Parsed.the-variants as parsed
-use Rattle.element.specs.Runs.{parsedOf}
 use Rattle.element.proofs.Keeping.{Grown, element-grown}
 use Rattle.label.specs.Walk.{Lies}
-use Rattle.label.specs.Whole.{Underway, Beginning, Closed, ClosedFit}
+use Rattle.label.specs.Whole.{Underway, Beginning, Closed}
 use Rattle.label.proofs.Growing.{made-element}
 use Rattle.parse.specs.Cycle.{isParsed, tagNamed}
 
@@ -44,38 +41,6 @@ tag-element name space h = go (eqb name EId.A)
     go : (b : Bool) → isElement (pick b (λ u. EId.G) (λ u. name)) ≡ true
     go true = group-element
     go false = named
-
--- From behind an element of at least that many nodes before it.
-closed-from : (script chars : List ℕ) (from behind : Cursor) (n m : ℕ) → SameNodes script chars from behind → n ≤ m → (t : Tree)
-    (c : Cursor) → Closed script chars behind m t c → Closed script chars from n t c
-closed-from script chars from behind n m s l t c h = record {
-  fit = h .fit;
-  later = omega (arith, s .later, h .later);
-  behind = h .behind ∙ ap (leave 0) (s .events);
-  tidy = h .tidy;
-  few = h .few;
-  more = omega (arith, l, h .more);
-}
-
-closed-fit-from : (script chars : List ℕ) (from behind : Cursor) (n m : ℕ) → SameNodes script chars from behind → n ≤ m →
-    (ns ats bs : List ℕ) (r : Parsed) → ClosedFit script chars behind m ns ats bs r → ClosedFit script chars from n ns ats bs r
-closed-fit-from script chars from behind n m s l ns ats bs (parsed.Refused k) h = tt
-closed-fit-from script chars from behind n m s l ns ats bs (parsed.Done k c) h =
-    closed-from script chars from behind n m s l (treeOf ns ats bs k) c h
-
--- What stands below a node comes to what the node comes to.
-pub made-closes : (script chars : List ℕ) (from behind : Cursor) (n m : ℕ) → SameNodes script chars from behind → n ≤ m →
-    (ns ats bs : List ℕ) (r : Parsed) (x y : Out Tree) → parsedOf ns ats bs r ≡ x → x ≡ y → ClosedFit script chars behind m ns ats bs r →
-    (parsedOf ns ats bs r ≡ y) × ClosedFit script chars from n ns ats bs r
-made-closes script chars from behind n m s l ns ats bs r x y p q h =
-    (p ∙ q, closed-fit-from script chars from behind n m s l ns ats bs r h)
-
--- Passed over, with the tables that another element left.
-pub closed-past : (script chars : List ℕ) (from past : Cursor) (n : ℕ) (t : Tree) →
-    eventsAt script chars past ≡ leave 0 (eventsAt script chars from) → Fit script past → from .at ≤ past .at → (x c : Cursor) →
-    Closed script chars x n t c → Closed script chars from n t past
-closed-past script chars from past n t q f l x c h =
-    record { fit = f; later = l; behind = q; tidy = h .tidy; few = h .few; more = h .more }
 
 -- Passed over, with the tables as they were.
 pub closed-same : (script chars : List ℕ) (t : Tree) (p : ℕ) (from past : Cursor) → Underway script chars t p from →

@@ -15,10 +15,9 @@ use Rattle.script.specs.Step.{Fit}
 use Rattle.walk.specs.declared.node.Opened.{Opened}
 use Rattle.walk.specs.Nodes.{elementOf, nodeAt, leave, Standing}
 use Rattle.walk.specs.Values.{eventsAt}
-use Rattle.tree.specs.Lent.{treeOf}
 use Rattle.label.specs.Whole.{Counted, Underway}
 use Rattle.parse.specs.Cycle.{childrenBuilt}
-use Rattle.parse.specs.State.{placeIn, asideIn, copierIn, originIn, countsIn, numberIn, Stood, StoodAside}
+use Rattle.parse.specs.State.{placeIn, asideIn, copierIn, originIn, numberIn, Stood, StoodAside}
 
 -- Are nodes copied that have this origin? Then their ids are ignored.
 abbrev pub isCopied : ℕ → Bool
@@ -123,8 +122,8 @@ restAt s (suc (suc m)) = asideIn s .at
 -- A NODE MET
 
 -- The first of the nodes xs, met below p in the tables t: what is left of it, in the tables u, makes it whole.
-pub record MetNode (script chars : List ℕ) (left origin p : ℕ) (xs : List Event) (low : ℕ) (t : Tree) (s k : List ℕ) (u : Tree) (code : ℕ)
-    : Type 0 where
+pub record MetNode (script chars : List ℕ) (left origin p : ℕ) (xs : List Event) (low : ℕ) (t : Tree) (s k : List ℕ) (u : Tree)
+    (code : ℕ) : Type 0 where
   pub built : restBuilt script chars left (t .nodeCount) s k u code ≡ firstOf script chars left origin p xs t
   pub some : code ≡ 3 → ⊥
   pub rest : RestFit script chars left (t .nodeCount) s k u code

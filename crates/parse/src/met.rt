@@ -16,13 +16,12 @@ use walk::node::Opened;
 use walk::node::next_item;
 use walk::node::past_element;
 ghost use mathlib.Core.Path.{_≡_};
-ghost use Prim.Native.Nat.{_≤_};
 ghost use lib.ListN.{length};
 ghost use Rattle.script.specs.Step.{Fit};
 ghost use Rattle.walk.specs.Nodes.{nodeAt, Standing};
 ghost use Rattle.tree.specs.Lent.{treeOf};
 ghost use Rattle.label.specs.Whole.{Underway, Beginning};
-ghost use Rattle.parse.specs.State.{placeIn, originIn, countsIn, Stood, Taken, Numbered};
+ghost use Rattle.parse.specs.State.{placeIn, originIn, countsIn};
 ghost use Rattle.parse.specs.Met.{MetNode, MetFit, CopyFit, HandedFit};
 
 // The node is done, and the cursor stands behind it.
@@ -81,7 +80,8 @@ fn begin_at(
     text: &mut [u8],
     e: Opened,
 ) -> u32
-    requires { ⌜ Beginning (now script) (now characters) (treeOf (now nodes) (now attributes) (now text) (countsIn (now taken))) parent e ⌝ }
+    requires { ⌜ Beginning (now script) (now characters)
+        (treeOf (now nodes) (now attributes) (now text) (countsIn (now taken))) parent e ⌝ }
     requires { ⌜ Standing (now script) e ⌝ }
     requires { ⌜ (length (now place) ≡ 10) × (length (now taken) ≡ 4) ⌝ }
     ensures { λ r. ⌜ MetNode (now (script .entry)) (now (characters .entry)) left (originIn (now (place .entry))) parent

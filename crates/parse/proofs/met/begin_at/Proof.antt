@@ -87,8 +87,7 @@ take-requires-3 c κs =
 begin-copy-requires : tie.Need-begin-copy-requires
 begin-copy-requires c κs =
     let start = c .before .before .before .before .before .before .before .before .before .before .before .before .before .before .before .before .before .before .before .before .before .before .before .before .before in
-    let a = start .args in
-    (
+    let a = start .args in (
       start .pre .1 .0,
       (
         use-fit (a .script .now) (a .characters .now) (a .left) (a .parent) (a .e) (a .nodes .now) (a .attributes .now) (a .text .now)
