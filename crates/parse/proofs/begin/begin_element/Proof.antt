@@ -14,12 +14,11 @@ tag-of-requires : tie.Need-tag-of-requires
 tag-of-requires c κs = search needs
 
 parse-svg-element-requires : tie.Need-parse-svg-element-requires
-parse-svg-element-requires c κs = (
-  label-ready _ _ _ _ _ _ _ _ (c .before .before .before .before .before .before .before .before .before .pre .0)
-      (c .before .before .before .before .before .before .before .before .before .args .ignored),
-  label-values _ _ _ _ _ _ _ _ (c .before .before .before .before .before .before .before .before .before .pre .0)
-      (c .before .before .before .before .before .before .before .before .before .args .ignored),
-)
+parse-svg-element-requires c κs =
+    let at-pre = c .before .before .before .before .before .before .before .before .before in (
+      label-ready _ _ _ _ _ _ _ _ (at-pre .pre .0) (at-pre .args .ignored),
+      label-values _ _ _ _ _ _ _ _ (at-pre .pre .0) (at-pre .args .ignored),
+    )
 
 enum-known-k : tie.Need-enum-known-k
 enum-known-k c = search needs
@@ -35,18 +34,13 @@ same-length-2 c = search needs
 
 returns : tie.Need-returns
 returns c =
-    let named = c .before .before .before .before .before .before .before .before .before .tag-of .ensures
-    ∙ ap tagNamed
-    (c .before .before .before .before .before .before .before .before .before .before .before .before .code-of .ensures) in
-    other-use _ _ _ _ _ _ _ _ _ _ (c .before .before .before .before .before .before .before .before .before .before .before
-    .before .before .before .before .before .before .before .pre .0)
-    (c .before .before .before .before .before .before .before .before .before .before .before .before .before .before .before
-    .before .before .before .pre .1) _ named _ _ _
-    (c .before .before .before .before .before .before .before .before .parse-svg-element .ensures .0 _)
-    (c .before .before .before .before .before .before .before .before .parse-svg-element .ensures .1) _ _
-    (c .before .before .taken .given .1) (eq-eqb _ _ (sym
-    (c .before .before .before .before .before .before .before .before .before .before .before .before .code-of .ensures)
-    ∙ c .if1 .taken))
+    let at-parse-svg-element = c .before .before .before .before .before .before .before .before in
+    let code-of-ensures = at-parse-svg-element .before .before .before .before .code-of .ensures in
+    let pre = at-parse-svg-element .before .before .before .before .before .before .before .before .before .before .pre in
+    let named = at-parse-svg-element .before .tag-of .ensures ∙ ap tagNamed code-of-ensures in
+    other-use _ _ _ _ _ _ _ _ _ _ (pre .0) (pre .1) _ named _ _ _ (at-parse-svg-element .parse-svg-element .ensures .0 _)
+    (at-parse-svg-element .parse-svg-element .ensures .1) _ _ (c .before .before .taken .given .1)
+    (eq-eqb _ _ (sym code-of-ensures ∙ c .if1 .taken))
 
 same-length-3 : tie.Need-same-length-3
 same-length-3 c = search needs
@@ -56,14 +50,12 @@ same-length-4 c = search needs
 
 returns-2 : tie.Need-returns-2
 returns-2 c =
-    let named = c .before .before .before .before .before .before .before .before .tag-of .ensures
-    ∙ ap tagNamed (c .before .before .before .before .before .before .before .before .before .before .before .code-of .ensures) in
-    other-refused _ _ _ _ _ _ _ _ _ _ (c .before .before .before .before .before .before .before .before .before .before .before
-    .before .before .before .before .before .before .pre .0)
-    (c .before .before .before .before .before .before .before .before .before .before .before .before .before .before .before
-    .before .before .pre .1) _ named _ _ _
-    (c .before .before .before .before .before .before .before .parse-svg-element .ensures .0 _)
-    (c .before .before .before .before .before .before .before .parse-svg-element .ensures .1) _ (c .before .k .given .1)
+    let at-tag-of = c .before .before .before .before .before .before .before .before in
+    let parse-svg-element-ensures = c .before .before .before .before .before .before .before .parse-svg-element .ensures in
+    let pre = at-tag-of .before .before .before .before .before .before .before .before .before .pre in
+    let named = at-tag-of .tag-of .ensures ∙ ap tagNamed (at-tag-of .before .before .before .code-of .ensures) in
+    other-refused _ _ _ _ _ _ _ _ _ _ (pre .0) (pre .1) _ named _ _ _ (parse-svg-element-ensures .0 _)
+    (parse-svg-element-ensures .1) _ (c .before .k .given .1)
 
 same-length-5 : tie.Need-same-length-5
 same-length-5 c = search needs
@@ -73,17 +65,13 @@ same-length-6 c = search needs
 
 returns-3 : tie.Need-returns-3
 returns-3 c =
-    let named = c .before .before .before .before .before .before .before .before .before .tag-of .ensures
-    ∙ ap tagNamed
-    (c .before .before .before .before .before .before .before .before .before .before .before .before .code-of .ensures) in
-    other-children _ _ _ _ _ _ _ _ _ _ (c .before .before .before .before .before .before .before .before .before .before .before
-    .before .before .before .before .before .before .before .pre .0)
-    (c .before .before .before .before .before .before .before .before .before .before .before .before .before .before .before
-    .before .before .before .pre .1) _ named _ _ _
-    (c .before .before .before .before .before .before .before .before .parse-svg-element .ensures .0 _)
-    (c .before .before .before .before .before .before .before .before .parse-svg-element .ensures .1) _ _
-    (c .before .before .taken .given .1) (ne-eqb _ _ (λ q. c .if1 .left
-    (c .before .before .before .before .before .before .before .before .before .before .before .before .code-of .ensures ∙ q)))
+    let at-parse-svg-element = c .before .before .before .before .before .before .before .before in
+    let code-of-ensures = at-parse-svg-element .before .before .before .before .code-of .ensures in
+    let pre = at-parse-svg-element .before .before .before .before .before .before .before .before .before .before .pre in
+    let named = at-parse-svg-element .before .tag-of .ensures ∙ ap tagNamed code-of-ensures in
+    other-children _ _ _ _ _ _ _ _ _ _ (pre .0) (pre .1) _ named _ _ _ (at-parse-svg-element .parse-svg-element .ensures .0 _)
+    (at-parse-svg-element .parse-svg-element .ensures .1) _ _ (c .before .before .taken .given .1)
+    (ne-eqb _ _ (λ q. c .if1 .left (code-of-ensures ∙ q)))
 
 pub begin-element-spec : {M : Type 1} → statement M
 begin-element-spec =

@@ -18,24 +18,24 @@ past-element-requires c κs = search needs
 
 returns-2 : tie.Need-returns-2
 returns-2 c =
-    begun-skipped _ _ _ _ _ _ (c .before .before .before .before .before .before .before .before .before .before .args .left) _ _
-    _ (c .before .before .before .before .before .before .before .before .before .before .pre)
-    (omega (arith, c .before .before .before .if1 .left)) (fails (c .before .before .is-parsed .ensures) (c .before .if2 .taken))
-    (c .past-element .result) (c .past-element .ensures .0) (c .past-element .ensures .1 .0) (c .past-element .ensures .1 .1)
+    let at-args = c .before .before .before .before .before .before .before .before .before .before in
+    begun-skipped _ _ _ _ _ _ (at-args .args .left) _ _ _ (at-args .pre) (omega (arith, c .before .before .before .if1 .left))
+    (fails (c .before .before .is-parsed .ensures) (c .before .if2 .taken)) _ (c .past-element .ensures .0)
+    (c .past-element .ensures .1 .0) (c .past-element .ensures .1 .1)
 
 code-of-requires : tie.Need-code-of-requires
 code-of-requires c κs = search needs
 
 begin-text-requires : tie.Need-begin-text-requires
-begin-text-requires c κs = (
-  c .before .before .before .before .before .before .before .before .before .before .before .before .before .before .pre,
-  (
-    omega (arith, c .before .before .before .before .before .before .before .if1 .left),
-    passes (c .before .before .before .before .before .before .is-parsed .ensures)
-        (c .before .before .before .before .before .if2 .left),
-    eq-eqb _ _ (sym (c .before .before .before .before .code-of .ensures) ∙ c .before .before .before .if3 .taken),
-  ),
-)
+begin-text-requires c κs =
+    let at-is-parsed = c .before .before .before .before .before .before in (
+      at-is-parsed .before .before .before .before .before .before .before .before .pre,
+      (
+        omega (arith, at-is-parsed .before .if1 .left),
+        passes (at-is-parsed .is-parsed .ensures) (c .before .before .before .before .before .if2 .left),
+        eq-eqb _ _ (sym (c .before .before .before .before .code-of .ensures) ∙ c .before .before .before .if3 .taken),
+      ),
+    )
 
 same-length : tie.Need-same-length
 same-length c = search needs
@@ -50,15 +50,15 @@ returns-3 : tie.Need-returns-3
 returns-3 c = search needs
 
 begin-element-requires : tie.Need-begin-element-requires
-begin-element-requires c κs = (
-  c .before .before .before .before .before .before .before .before .before .before .before .before .before .before .pre,
-  (
-    omega (arith, c .before .before .before .before .before .before .before .if1 .left),
-    passes (c .before .before .before .before .before .before .is-parsed .ensures)
-        (c .before .before .before .before .before .if2 .left),
-    ne-eqb _ _ (λ q. c .before .before .before .if3 .left (c .before .before .before .before .code-of .ensures ∙ q)),
-  ),
-)
+begin-element-requires c κs =
+    let at-is-parsed = c .before .before .before .before .before .before in (
+      at-is-parsed .before .before .before .before .before .before .before .before .pre,
+      (
+        omega (arith, at-is-parsed .before .if1 .left),
+        passes (at-is-parsed .is-parsed .ensures) (c .before .before .before .before .before .if2 .left),
+        ne-eqb _ _ (λ q. c .before .before .before .if3 .left (c .before .before .before .before .code-of .ensures ∙ q)),
+      ),
+    )
 
 same-length-4 : tie.Need-same-length-4
 same-length-4 c = search needs

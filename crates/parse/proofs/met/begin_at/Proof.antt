@@ -27,9 +27,8 @@ counted-requires c κs = search needs
 -- src/met.rt:95:11
 begin-node-requires : tie.Need-begin-node-requires
 begin-node-requires c κs =
-    begins-as _ _ _ _ _ (c .before .before .before .before .before .before .before .before .before .before .before .before .args .taken .now) _ _ _
-    (c .before .before .before .counted .ensures)
-    (c .before .before .before .before .before .before .before .before .before .before .before .before .pre .0)
+    let at-args = c .before .before .before .before .before .before .before .before .before .before .before .before in
+    begins-as _ _ _ _ _ (at-args .args .taken .now) _ _ _ (c .before .before .before .counted .ensures) (at-args .pre .0)
 
 -- src/met.rt:107:24
 enum-known-n : tie.Need-enum-known-n
@@ -86,13 +85,15 @@ take-requires-3 c κs =
 -- src/met.rt:123:13
 begin-copy-requires : tie.Need-begin-copy-requires
 begin-copy-requires c κs =
-    let start = c .before .before .before .before .before .before .before .before .before .before .before .before .before .before .before .before .before .before .before .before .before .before .before .before .before in
+    let at-begin-node = c .before .before .before .before .before .before .before .before .before .before .before .before in
+    let at-is-copied = at-begin-node .before .before .before .before .before .before in
+    let start = at-is-copied .before .before .before .before .before .before .before in
     let a = start .args in (
       start .pre .1 .0,
       (
-        use-fit (a .script .now) (a .characters .now) (a .left) (a .parent) (a .e) (a .nodes .now) (a .attributes .now) (a .text .now)
-            (a .place .now) (a .taken .now) _ _ (c .before .before .before .before .before .before .before .before .before .before .before .before .before .before .before .before .before .before .is-copied .ensures) (c .before .before .before .before .before .before .before .before .before .before .before .before .before .before .before .before .counted .ensures) _ _ _ _
-            (c .before .before .before .before .before .before .before .before .before .before .before .before .begin-node .ensures) _ _ (c .before .before .before .before .k3 .given .1),
+        use-fit _ _ (a .left) (a .parent) (a .e) _ _ _ (a .place .now) (a .taken .now) _ _
+            (at-is-copied .is-copied .ensures) (at-begin-node .before .before .before .before .counted .ensures) _ _ _ _
+            (at-begin-node .begin-node .ensures) _ _ (c .before .before .before .before .k3 .given .1),
         start .pre .1 .1 .0,
       ),
     )
@@ -112,14 +113,11 @@ same-length-3 c = search needs
 -- src/met.rt:72:1
 returns : tie.Need-returns
 returns c =
-    met-refused _ _ _ _ _ _ _ _ (c .before .before .before .before .before .before .before .before .before .before .before .before
-    .before .before .before .before .before .before .before .before .before .before .before .before .args .place .now)
-    (c .before .before .before .before .before .before .before .before .before .before .before .before .before .before .before
-    .before .before .before .before .before .before .before .before .before .args .taken .now) _ _
-    (c .before .before .before .before .before .before .before .before .before .before .before .before .before .before .before
-    .before .before .is-copied .ensures) (c .before .before .before .before .before .before .before .before .before .before
-    .before .before .before .before .before .counted .ensures) _ _ _ _
-    (c .before .before .before .before .before .before .before .before .before .before .before .begin-node .ensures) _
+    let at-begin-node = c .before .before .before .before .before .before .before .before .before .before .before in
+    let at-is-copied = at-begin-node .before .before .before .before .before .before in
+    let args = at-is-copied .before .before .before .before .before .before .before .args in
+    met-refused _ _ _ _ _ _ _ _ (args .place .now) (args .taken .now) _ _ (at-is-copied .is-copied .ensures)
+    (at-begin-node .before .before .before .before .counted .ensures) _ _ _ _ (at-begin-node .begin-node .ensures) _
     (c .before .before .before .n .given .1) _ _ (c .refuse .ensures)
 
 -- src/met.rt:72:1
@@ -137,17 +135,13 @@ same-length-6 c = search needs
 -- src/met.rt:72:1
 returns-2 : tie.Need-returns-2
 returns-2 c =
-    met-passed _ _ _ _ _ _ _ _ (c .before .before .before .before .before .before .before .before .before .before .before .before
-    .before .before .before .before .before .before .before .before .before .before .before .before .before .before .args .place
-    .now) (c .before .before .before .before .before .before .before .before .before .before .before .before .before .before
-    .before .before .before .before .before .before .before .before .before .before .before .before .args .taken .now) _ _
-    (c .before .before .before .before .before .before .before .before .before .before .before .before .before .before .before
-    .before .before .before .before .is-copied .ensures)
-    (c .before .before .before .before .before .before .before .before .before .before .before .before .before .before .before
-    .before .before .counted .ensures) _ _ _ _
-    (c .before .before .before .before .before .before .before .before .before .before .before .before .before .begin-node
-    .ensures) _ _ _ _ (c .before .before .take .ensures) (c .before .before .before .before .before .k .given .1)
-    (c .stand .ensures)
+    let at-begin-node = c .before .before .before .before .before .before .before .before .before .before .before .before
+    .before in
+    let at-is-copied = at-begin-node .before .before .before .before .before .before in
+    met-passed _ _ _ _ _ _ _ _ _ (at-is-copied .before .before .before .before .before .before .before .args .taken .now) _ _
+    (at-is-copied .is-copied .ensures) (at-begin-node .before .before .before .before .counted .ensures) _ _ _ _
+    (at-begin-node .begin-node .ensures) _ _ _ _ (c .before .before .take .ensures)
+    (c .before .before .before .before .before .k .given .1) (c .stand .ensures)
 
 -- src/met.rt:72:1
 same-length-7 : tie.Need-same-length-7
@@ -164,17 +158,13 @@ same-length-9 c = search needs
 -- src/met.rt:72:1
 returns-3 : tie.Need-returns-3
 returns-3 c =
-    met-children _ _ _ _ _ _ _ _ (c .before .before .before .before .before .before .before .before .before .before .before
-    .before .before .before .before .before .before .before .before .before .before .before .before .before .before .before .args
-    .place .now) (c .before .before .before .before .before .before .before .before .before .before .before .before .before
-    .before .before .before .before .before .before .before .before .before .before .before .before .before .args .taken .now) _ _
-    (c .before .before .before .before .before .before .before .before .before .before .before .before .before .before .before
-    .before .before .before .before .is-copied .ensures)
-    (c .before .before .before .before .before .before .before .before .before .before .before .before .before .before .before
-    .before .before .counted .ensures) _ _ _ _
-    (c .before .before .before .before .before .before .before .before .before .before .before .before .before .begin-node
-    .ensures) _ _ _ _ (c .before .before .take2 .ensures) (c .before .before .before .before .before .k2 .given .1)
-    (c .stand2 .ensures)
+    let at-begin-node = c .before .before .before .before .before .before .before .before .before .before .before .before
+    .before in
+    let at-is-copied = at-begin-node .before .before .before .before .before .before in
+    met-children _ _ _ _ _ _ _ _ _ (at-is-copied .before .before .before .before .before .before .before .args .taken .now) _ _
+    (at-is-copied .is-copied .ensures) (at-begin-node .before .before .before .before .counted .ensures) _ _ _ _
+    (at-begin-node .begin-node .ensures) _ _ _ _ (c .before .before .take2 .ensures)
+    (c .before .before .before .before .before .k2 .given .1) (c .stand2 .ensures)
 
 -- src/met.rt:72:1
 same-length-10 : tie.Need-same-length-10
@@ -191,17 +181,13 @@ same-length-12 c = search needs
 -- src/met.rt:72:1
 returns-4 : tie.Need-returns-4
 returns-4 c =
-    met-use _ _ _ _ _ _ _ _ (c .before .before .before .before .before .before .before .before .before .before .before .before
-    .before .before .before .before .before .before .before .before .before .before .before .before .before .before .args .place
-    .now) (c .before .before .before .before .before .before .before .before .before .before .before .before .before .before
-    .before .before .before .before .before .before .before .before .before .before .before .before .args .taken .now) _ _
-    (c .before .before .before .before .before .before .before .before .before .before .before .before .before .before .before
-    .before .before .before .before .is-copied .ensures)
-    (c .before .before .before .before .before .before .before .before .before .before .before .before .before .before .before
-    .before .before .counted .ensures) _ _ _ _
-    (c .before .before .before .before .before .before .before .before .before .before .before .before .before .begin-node
-    .ensures) _ _ _ _ (c .before .before .take3 .ensures) (c .before .before .before .before .before .k3 .given .1) _
-    (c .begin-copy .ensures)
+    let at-begin-node = c .before .before .before .before .before .before .before .before .before .before .before .before
+    .before in
+    let at-is-copied = at-begin-node .before .before .before .before .before .before in
+    met-use _ _ _ _ _ _ _ _ _ (at-is-copied .before .before .before .before .before .before .before .args .taken .now) _ _
+    (at-is-copied .is-copied .ensures) (at-begin-node .before .before .before .before .counted .ensures) _ _ _ _
+    (at-begin-node .begin-node .ensures) _ _ _ _ (c .before .before .take3 .ensures)
+    (c .before .before .before .before .before .k3 .given .1) _ (c .begin-copy .ensures)
 
 pub begin-at-spec : {M : Type 1} → statement M
 begin-at-spec =

@@ -27,36 +27,20 @@ enum-known-e c = search needs
 
 -- src/met.rt:164:27
 begin-at-requires : tie.Need-begin-at-requires
-begin-at-requires c κs = (
-  first-begins _ _ (c .before .before .before .before .before .before .before .before .before .before .before .before .before
-      .before .before .before .args .left) _ _ _ _
-      (c .before .before .before .before .before .before .before .before .before .before .before .before .before .before .before
-      .before .args .place .now) (c .before .before .before .before .before .before .before .before .before .before .before .before
-      .before .before .before .before .args .taken .now)
-      (c .before .before .before .before .before .before .before .before .before .before .before .before .before .before .before
-      .before .pre .1 .1) (c .before .before .before .before .before .before .before .before .before .before .before .before .before
-      .before .before .before .pre .0) _
-      (c .before .before .before .before .before .before .before .before .before .standing .ensures) _
-      (c .before .before .before .before .before .before .before .before .next-item .ensures .0)
-      (c .before .before .before .before .before .before .before .before .next-item .ensures .1) _
-      (c .before .before .before .before .before .before .e .given .1),
-  (
-    first-stands _ _ (c .before .before .before .before .before .before .before .before .before .before .before .before .before
-        .before .before .before .args .left) _ _ _ _
-        (c .before .before .before .before .before .before .before .before .before .before .before .before .before .before .before
-        .before .args .place .now) (c .before .before .before .before .before .before .before .before .before .before .before .before
-        .before .before .before .before .args .taken .now)
-        (c .before .before .before .before .before .before .before .before .before .before .before .before .before .before .before
-        .before .pre .1 .1) (c .before .before .before .before .before .before .before .before .before .before .before .before .before
-        .before .before .before .pre .0) _
-        (c .before .before .before .before .before .before .before .before .before .standing .ensures) _
-        (c .before .before .before .before .before .before .before .before .next-item .ensures .0)
-        (c .before .before .before .before .before .before .before .before .next-item .ensures .1) _
-        (c .before .before .before .before .before .before .e .given .1),
-    c .before .before .before .before .before .before .before .before .before .before .before .before .before .before .before
-        .before .pre .1,
-  ),
-)
+begin-at-requires c κs =
+    let e = c .before .before .before .before .before .before .e .given .1 in
+    let at-next-item = c .before .before .before .before .before .before .before .before in
+    let at-args = at-next-item .before .before .before .before .before .before .before .before in (
+      first-begins _ _ (at-args .args .left) _ _ _ _ (at-args .args .place .now) (at-args .args .taken .now) (at-args .pre .1 .1)
+          (at-args .pre .0) _ (at-next-item .before .standing .ensures) _ (at-next-item .next-item .ensures .0)
+          (at-next-item .next-item .ensures .1) _ e,
+      (
+        first-stands _ _ (at-args .args .left) _ _ _ _ (at-args .args .place .now) (at-args .args .taken .now) (at-args .pre .1 .1)
+            (at-args .pre .0) _ (at-next-item .before .standing .ensures) _ (at-next-item .next-item .ensures .0)
+            (at-next-item .next-item .ensures .1) _ e,
+        at-args .pre .1,
+      ),
+    )
 
 -- src/met.rt:176:26
 enum-known-n : tie.Need-enum-known-n
@@ -101,80 +85,46 @@ same-length-3 c = search needs
 -- src/met.rt:142:1
 returns : tie.Need-returns
 returns c =
-    first-met _ _ (c .before .before .before .before .before .before .before .before .before .before .before .before .before
-    .before .before .before .before .before .before .before .before .before .before .args .left) _ _ _ _
-    (c .before .before .before .before .before .before .before .before .before .before .before .before .before .before .before
-    .before .before .before .before .before .before .before .before .args .place .now)
-    (c .before .before .before .before .before .before .before .before .before .before .before .before .before .before .before
-    .before .before .before .before .before .before .before .before .args .taken .now)
-    (c .before .before .before .before .before .before .before .before .before .before .before .before .before .before .before
-    .before .before .before .before .before .before .before .before .pre .1 .1)
-    (c .before .before .before .before .before .before .before .before .before .before .before .before .before .before .before
-    .before .before .before .before .before .before .before .before .pre .0) _
-    (c .before .before .before .before .before .before .before .before .before .before .before .before .before .before .before
-    .before .standing .ensures) _ (c .before .before .before .before .before .before .before .before .before .before .before
-    .before .before .before .before .next-item .ensures .0)
-    (c .before .before .before .before .before .before .before .before .before .before .before .before .before .before .before
-    .next-item .ensures .1) _
-    (c .before .before .before .before .before .before .before .before .before .before .before .before .before .e .given .1) _ _ _
-    _ (c .before .before .before .before .before .before .begin-at .ensures)
+    let at-e = c .before .before .before .before .before .before .before .before .before .before .before .before .before in
+    let at-args = at-e .before .before .before .before .before .before .before .before .before .before in
+    first-met _ _ _ _ _ _ _ (at-args .args .place .now) (at-args .args .taken .now) (at-args .pre .1 .1) (at-args .pre .0) _
+    (at-e .before .before .before .standing .ensures) _ (at-e .before .before .next-item .ensures .0)
+    (at-e .before .before .next-item .ensures .1) _ (at-e .e .given .1) _ _ _ _
+    (c .before .before .before .before .before .before .begin-at .ensures)
 
 -- src/met.rt:142:1
 returns-2 : tie.Need-returns-2
 returns-2 c =
-    text-met _ _ (c .before .before .before .before .before .before .before .before .before .before .before .before .before
-    .before .args .left) _ _ _ _ (c .before .before .before .before .before .before .before .before .before .before .before
-    .before .before .before .args .place .now)
-    (c .before .before .before .before .before .before .before .before .before .before .before .before .before .before .args
-    .taken .now)
-    (c .before .before .before .before .before .before .before .before .before .before .before .before .before .before .pre .1 .1)
-    (c .before .before .before .before .before .before .before .before .before .before .before .before .before .before .pre .0) _
-    (c .before .before .before .before .before .before .before .standing .ensures) _
-    (c .before .before .before .before .before .before .next-item .ensures .0)
-    (c .before .before .before .before .before .before .next-item .ensures .1) _ _ _
+    let at-next-item = c .before .before .before .before .before .before in
+    let pre = at-next-item .before .before .before .before .before .before .before .before .pre in
+    text-met _ _ _ _ _ _ _ _ _ (pre .1 .1) (pre .0) _ (at-next-item .before .standing .ensures) _
+    (at-next-item .next-item .ensures .0) (at-next-item .next-item .ensures .1) _ _ _
     (c .before .before .before .before .n .given .1) _ _ (c .hand-over .result) (c .hand-over .ensures)
 
 -- src/met.rt:142:1
 returns-3 : tie.Need-returns-3
 returns-3 c =
-    other-met _ _ (c .before .before .before .before .before .before .before .before .before .before .before .before .before
-    .before .args .left) _ _ _ _ (c .before .before .before .before .before .before .before .before .before .before .before
-    .before .before .before .args .place .now)
-    (c .before .before .before .before .before .before .before .before .before .before .before .before .before .before .args
-    .taken .now)
-    (c .before .before .before .before .before .before .before .before .before .before .before .before .before .before .pre .1 .1)
-    (c .before .before .before .before .before .before .before .before .before .before .before .before .before .before .pre .0) _
-    (c .before .before .before .before .before .before .before .standing .ensures) _
-    (c .before .before .before .before .before .before .next-item .ensures .0)
-    (c .before .before .before .before .before .before .next-item .ensures .1) _ (c .before .before .before .before .n2 .given .1)
-    _ _ (c .hand-over2 .result) (c .hand-over2 .ensures)
+    let at-next-item = c .before .before .before .before .before .before in
+    let pre = at-next-item .before .before .before .before .before .before .before .before .pre in
+    other-met _ _ _ _ _ _ _ _ _ (pre .1 .1) (pre .0) _ (at-next-item .before .standing .ensures) _
+    (at-next-item .next-item .ensures .0) (at-next-item .next-item .ensures .1) _
+    (c .before .before .before .before .n2 .given .1) _ _ (c .hand-over2 .result) (c .hand-over2 .ensures)
 
 -- src/met.rt:142:1
 returns-4 : tie.Need-returns-4
 returns-4 c =
-    close-met _ _
-    (c .before .before .before .before .before .before .before .before .before .before .before .before .before .args .left) _ _ _
-    _
-    (c .before .before .before .before .before .before .before .before .before .before .before .before .before .args .place .now)
-    (c .before .before .before .before .before .before .before .before .before .before .before .before .before .args .taken .now)
-    (c .before .before .before .before .before .before .before .before .before .before .before .before .before .pre .1 .1)
-    (c .before .before .before .before .before .before .before .before .before .before .before .before .before .pre .0) _
-    (c .before .before .before .before .before .before .standing .ensures) _
-    (c .before .before .before .before .before .next-item .ensures .0)
-    (c .before .before .before .before .before .next-item .ensures .1) _ (c .before .before .before .n3 .given .1) _
+    let at-next-item = c .before .before .before .before .before in
+    let pre = at-next-item .before .before .before .before .before .before .before .before .pre in
+    close-met _ _ _ _ _ _ _ _ _ (pre .1 .1) (pre .0) _ (at-next-item .before .standing .ensures) _
+    (at-next-item .next-item .ensures .0) (at-next-item .next-item .ensures .1) _ (c .before .before .before .n3 .given .1) _
     (c .stand .ensures)
 
 -- src/met.rt:142:1
 returns-5 : tie.Need-returns-5
 returns-5 c =
-    end-met _ _ (c .before .before .before .before .before .before .before .before .before .before .args .left) _ _ _ _
-    (c .before .before .before .before .before .before .before .before .before .before .args .place .now)
-    (c .before .before .before .before .before .before .before .before .before .before .args .taken .now)
-    (c .before .before .before .before .before .before .before .before .before .before .pre .1 .1)
-    (c .before .before .before .before .before .before .before .before .before .before .pre .0) _
-    (c .before .before .before .standing .ensures) _ (c .before .before .next-item .ensures .0)
-    (c .before .before .next-item .ensures .1)
-    (c .before .before .before .before .before .before .before .before .before .before .pre .1 .0) (c .enum-told .given .1)
+    let pre = c .before .before .before .before .before .before .before .before .before .before .pre in
+    end-met _ _ _ _ _ _ _ _ _ (pre .1 .1) (pre .0) _ (c .before .before .before .standing .ensures) _
+    (c .before .before .next-item .ensures .0) (c .before .before .next-item .ensures .1) (pre .1 .0) (c .enum-told .given .1)
 
 pub meet-spec : {M : Type 1} → statement M
 meet-spec =

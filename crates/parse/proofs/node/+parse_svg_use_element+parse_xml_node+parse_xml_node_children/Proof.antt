@@ -206,15 +206,11 @@ parse-svg-use-element-meet-requires : (t : ℕ) → parse-svg-use-element-lts.Ne
   pass-over-reads.Asked,
   pass-over-reads.Learnt,
 ) (parse-svg-use-element-at t) parse-svg-use-element.Post
-parse-svg-use-element-meet-requires t c κs = (
-  copy-under _ _ _ _ _ _ _ (c .before .before .before .before .before .before .before .before .before .before .before .before
-      .before .before .before .before .before .before .pre .1) _ (c .before .before .before .before .before .copy-by .ensures),
-  (
-    c .before .before .before .before .before .copy-by .ensures .long,
-    c .before .before .before .before .before .before .before .before .before .before .before .before .before .before .before
-        .before .before .before .pre .1 .wide,
-  ),
-)
+parse-svg-use-element-meet-requires t c κs =
+    let at-copy-by = c .before .before .before .before .before in
+    let pre = at-copy-by .before .before .before .before .before .before .before .before .before .before .before .before .before
+    .pre .1 in
+    (copy-under _ _ _ _ _ _ _ pre _ (at-copy-by .copy-by .ensures), (at-copy-by .copy-by .ensures .long, pre .wide))
 
 parse-svg-use-element-parse-xml-node-requires :
     (t : ℕ) → parse-svg-use-element-lts.Need-parse-xml-node-requires (
@@ -231,32 +227,16 @@ parse-svg-use-element-parse-xml-node-requires :
       pass-over-reads.Asked,
       pass-over-reads.Learnt,
     ) (parse-svg-use-element-at t) parse-svg-use-element.Post
-parse-svg-use-element-parse-xml-node-requires t c κs = (
-  omega (
-    arith,
-    c .before .before .before .before .before .before .before .before .before .before .before .before .before
-        .before .before .before .before .before .before .before .before .before .before .before .before .before .before .before
-        .before .before .pre .0,
-    c .before .before .before .before .before .before .before .before .before .before .before .before
-        .before .before .before .before .before .before .before .before .two-less .ensures,
-    c .before .before .before .before .before .before .before .before .before .before .before .before .before .before .before
-        .before .before .before .before .before .before .before .before .before .before .before .before .before .before .before .pre
-        .1 .above,
-  ),
-  copy-rest _ _ _ _ (c .before .before .before .before .before .before .before .before .before .before .before
-      .before .before .before .before .before .before .before .before .before .before .before .before .before .before .before
-      .before .before .before .before .args .place .now)
-      (c .before .before .before .before .before .before .before .before .before .before .before .before .before .before .before
-      .before .before .before .before .before .before .before .before .before .before .before .before .before .before .before .args
-      .taken .now) _ (c .before .before .before .before .before .before .before .before .before .before .before .before .before
-      .before .before .before .before .before .before .before .before .before .before .before .before .before .before .before
-      .before .before .pre .1) _ (c .before .before .before .before .before .before .before .before .before .before .before .before
-      .before .before .before .before .before .copy-by .ensures) _
-      (c .before .before .before .before .before .before .before .before .before .before .before .before .before .before .before
-      .before .before .before .before .before .two-less .ensures) _ _ _
-      (c .before .before .before .before .before .before .before .before .before .before .before .meet .result)
-      (c .before .before .before .before .before .before .before .before .before .before .before .meet .ensures),
-)
+parse-svg-use-element-parse-xml-node-requires t c κs =
+    let at-meet = c .before .before .before .before .before .before .before .before .before .before .before in
+    let at-copy-by = at-meet .before .before .before .before .before .before in
+    let two-less-ensures = at-copy-by .before .before .before .two-less .ensures in
+    let pre = at-copy-by .before .before .before .before .before .before .before .before .before .before .before .before .before
+    .pre in (
+      omega (arith, pre .0, two-less-ensures, pre .1 .above),
+      copy-rest _ _ _ _ _ _ _ (pre .1) _ (at-copy-by .copy-by .ensures) _ two-less-ensures _ _ _ (at-meet .meet .result)
+          (at-meet .meet .ensures),
+    )
 
 parse-svg-use-element-same-length : (t : ℕ) → parse-svg-use-element-lts.Need-same-length (
   aside-reads.Asked,
@@ -320,29 +300,17 @@ parse-svg-use-element-returns : (t : ℕ) → parse-svg-use-element-lts.Need-ret
   pass-over-reads.Asked,
   pass-over-reads.Learnt,
 ) (parse-svg-use-element-at t) parse-svg-use-element.Post
-parse-svg-use-element-returns t c = (
-  copy-built _ _ _ _ (c .before .before .before .before .before .before .before .before .before .before .before .before .before
-      .before .before .before .before .before .before .before .before .before .before .before .before .before .before .before
-      .before .before .before .before .before .before .before .before .before .before .args .place .now)
-      (c .before .before .before .before .before .before .before .before .before .before .before .before .before .before .before
-      .before .before .before .before .before .before .before .before .before .before .before .before .before .before .before
-      .before .before .before .before .before .before .before .before .args .taken .now) _
-      (c .before .before .before .before .before .before .before .before .before .before .before .before .before .before .before
-      .before .before .before .before .before .before .before .before .before .before .before .before .before .before .before
-      .before .before .before .before .before .before .before .before .pre .1) _
-      (c .before .before .before .before .before .before .before .before .before .before .before .before .before .before .before
-      .before .before .before .before .before .before .before .before .before .before .copy-by .ensures) _
-      (c .before .before .before .before .before .before .before .before .before .before .before .before .before .before .before
-      .before .before .before .before .before .before .before .before .before .before .before .before .before .two-less .ensures) _
-      _ _ (c .before .before .before .before .before .before .before .before .before .before .before .before .before .before .before
-      .before .before .before .before .meet .result)
-      (c .before .before .before .before .before .before .before .before .before .before .before .before .before .before .before
-      .before .before .before .before .meet .ensures) _ _ _
-      (c .before .before .before .before .before .before .before .parse-xml-node .result)
-      (c .before .before .before .before .before .before .before .parse-xml-node .ensures .0)
-      (c .before .before .before .before .before .before .before .parse-xml-node .ensures .1),
-  λ z. absurd (c .if1 .taken z),
-)
+parse-svg-use-element-returns t c =
+    let parse-xml-node-ensures = c .before .before .before .before .before .before .before .parse-xml-node .ensures in
+    let at-meet = c .before .before .before .before .before .before .before .before .before .before .before .before .before
+    .before .before .before .before .before .before in
+    let at-copy-by = at-meet .before .before .before .before .before .before in (
+      copy-built _ _ _ _ _ _ _
+          (at-copy-by .before .before .before .before .before .before .before .before .before .before .before .before .before .pre .1) _
+          (at-copy-by .copy-by .ensures) _ (at-copy-by .before .before .before .two-less .ensures) _ _ _ (at-meet .meet .result)
+          (at-meet .meet .ensures) _ _ _ _ (parse-xml-node-ensures .0) (parse-xml-node-ensures .1),
+      λ z. absurd (c .if1 .taken z),
+    )
 
 parse-svg-use-element-pass-over-requires :
     (t : ℕ) → parse-svg-use-element-lts.Need-pass-over-requires (
@@ -359,37 +327,18 @@ parse-svg-use-element-pass-over-requires :
       pass-over-reads.Asked,
       pass-over-reads.Learnt,
     ) (parse-svg-use-element-at t) parse-svg-use-element.Post
-parse-svg-use-element-pass-over-requires t c κs = (
-  subst (Fit (c .before .before .before .before .before .before .before .before .before .before .before .before .before .before
-      .before .before .before .before .before .before .before .before .before .before .before .before .before .before .before
-      .before .before .before .before .before .before .before .before .before .before .args .script .now))
-      (sym (c .before .before .before .before .before .before .before .before .before .before .before .before .before .before
-      .before .before .before .before .before .before .before .before .before .before .before .before .before .before .before
-      .before .before .before .aside .ensures))
-      (c .before .before .before .before .before .before .before .before .before .before .before .before .before .before .before
-      .before .before .before .before .before .before .before .before .before .before .before .before .before .before .before
-      .before .before .before .before .before .before .before .before .before .pre .1 .aside .fit),
-  copy-long _ _ _ _ (c .before .before .before .before .before .before .before .before .before .before .before .before .before
-      .before .before .before .before .before .before .before .before .before .before .before .before .before .before .before
-      .before .before .before .before .before .before .before .before .before .before .before .args .place .now)
-      (c .before .before .before .before .before .before .before .before .before .before .before .before .before .before .before
-      .before .before .before .before .before .before .before .before .before .before .before .before .before .before .before
-      .before .before .before .before .before .before .before .before .before .args .taken .now) _
-      (c .before .before .before .before .before .before .before .before .before .before .before .before .before .before .before
-      .before .before .before .before .before .before .before .before .before .before .before .before .before .before .before
-      .before .before .before .before .before .before .before .before .before .pre .1) _
-      (c .before .before .before .before .before .before .before .before .before .before .before .before .before .before .before
-      .before .before .before .before .before .before .before .before .before .before .before .copy-by .ensures) _
-      (c .before .before .before .before .before .before .before .before .before .before .before .before .before .before .before
-      .before .before .before .before .before .before .before .before .before .before .before .before .before .before .two-less
-      .ensures) _ _ _ (c .before .before .before .before .before .before .before .before .before .before .before .before .before
-      .before .before .before .before .before .before .before .meet .result)
-      (c .before .before .before .before .before .before .before .before .before .before .before .before .before .before .before
-      .before .before .before .before .before .meet .ensures) _ _ _
-      (c .before .before .before .before .before .before .before .before .parse-xml-node .result)
-      (c .before .before .before .before .before .before .before .before .parse-xml-node .ensures .0)
-      (c .before .before .before .before .before .before .before .before .parse-xml-node .ensures .1) (c .before .if1 .left),
-)
+parse-svg-use-element-pass-over-requires t c κs =
+    let at-parse-xml-node = c .before .before .before .before .before .before .before .before in
+    let at-meet = at-parse-xml-node .before .before .before .before .before .before .before .before .before .before .before
+    .before in
+    let at-copy-by = at-meet .before .before .before .before .before .before in
+    let at-aside = at-copy-by .before .before .before .before .before .before in
+    let pre = at-aside .before .before .before .before .before .before .before .pre .1 in (
+      subst (Fit _) (sym (at-aside .aside .ensures)) (pre .aside .fit),
+      copy-long _ _ _ _ _ _ _ pre _ (at-copy-by .copy-by .ensures) _ (at-copy-by .before .before .before .two-less .ensures) _ _ _
+          (at-meet .meet .result) (at-meet .meet .ensures) _ _ _ _ (at-parse-xml-node .parse-xml-node .ensures .0)
+          (at-parse-xml-node .parse-xml-node .ensures .1) (c .before .if1 .left),
+    )
 
 parse-svg-use-element-copy-by-requires-2 :
     (t : ℕ) → parse-svg-use-element-lts.Need-copy-by-requires-2 (
@@ -470,55 +419,22 @@ parse-svg-use-element-returns-2 : (t : ℕ) → parse-svg-use-element-lts.Need-r
   pass-over-reads.Asked,
   pass-over-reads.Learnt,
 ) (parse-svg-use-element-at t) parse-svg-use-element.Post
-parse-svg-use-element-returns-2 t c = (
-  copy-done _ _ _ _ (c .before .before .before .before .before .before .before .before .before .before .before .before .before
-      .before .before .before .before .before .before .before .before .before .before .before .before .before .before .before
-      .before .before .before .before .before .before .before .before .before .before .before .before .before .before .args .place
-      .now) (c .before .before .before .before .before .before .before .before .before .before .before .before .before .before
-      .before .before .before .before .before .before .before .before .before .before .before .before .before .before .before
-      .before .before .before .before .before .before .before .before .before .before .before .before .before .args .taken .now) _
-      (c .before .before .before .before .before .before .before .before .before .before .before .before .before .before .before
-      .before .before .before .before .before .before .before .before .before .before .before .before .before .before .before
-      .before .before .before .before .before .before .before .before .before .before .before .before .pre .1) _
-      (c .before .before .before .before .before .before .before .before .before .before .before .before .before .before .before
-      .before .before .before .before .before .before .before .before .before .before .before .before .before .before .copy-by
-      .ensures) _ (c .before .before .before .before .before .before .before .before .before .before .before .before .before .before
-      .before .before .before .before .before .before .before .before .before .before .before .before .before .before .before
-      .before .before .before .two-less .ensures) _ _ _
-      (c .before .before .before .before .before .before .before .before .before .before .before .before .before .before .before
-      .before .before .before .before .before .before .before .before .meet .result)
-      (c .before .before .before .before .before .before .before .before .before .before .before .before .before .before .before
-      .before .before .before .before .before .before .before .before .meet .ensures) _ _ _
-      (c .before .before .before .before .before .before .before .before .before .before .before .parse-xml-node .result)
-      (c .before .before .before .before .before .before .before .before .before .before .before .parse-xml-node .ensures .0)
-      (c .before .before .before .before .before .before .before .before .before .before .before .parse-xml-node .ensures .1)
-      (c .before .before .before .before .if1 .left),
-  λ z. copy-reached _ _ _ _ (c .before .before .before .before .before .before .before .before .before .before .before .before
-      .before .before .before .before .before .before .before .before .before .before .before .before .before .before .before
-      .before .before .before .before .before .before .before .before .before .before .before .before .before .before .before .args
-      .place .now) (c .before .before .before .before .before .before .before .before .before .before .before .before .before
-      .before .before .before .before .before .before .before .before .before .before .before .before .before .before .before
-      .before .before .before .before .before .before .before .before .before .before .before .before .before .before .args .taken
-      .now) _ (c .before .before .before .before .before .before .before .before .before .before .before .before .before .before
-      .before .before .before .before .before .before .before .before .before .before .before .before .before .before .before
-      .before .before .before .before .before .before .before .before .before .before .before .before .before .pre .1) _
-      (c .before .before .before .before .before .before .before .before .before .before .before .before .before .before .before
-      .before .before .before .before .before .before .before .before .before .before .before .before .before .before .copy-by
-      .ensures) _ (c .before .before .before .before .before .before .before .before .before .before .before .before .before .before
-      .before .before .before .before .before .before .before .before .before .before .before .before .before .before .before
-      .before .before .before .two-less .ensures) _ _ _
-      (c .before .before .before .before .before .before .before .before .before .before .before .before .before .before .before
-      .before .before .before .before .before .before .before .before .meet .result)
-      (c .before .before .before .before .before .before .before .before .before .before .before .before .before .before .before
-      .before .before .before .before .before .before .before .before .meet .ensures) _ _ _
-      (c .before .before .before .before .before .before .before .before .before .before .before .parse-xml-node .result)
-      (c .before .before .before .before .before .before .before .before .before .before .before .parse-xml-node .ensures .0)
-      (c .before .before .before .before .before .before .before .before .before .before .before .parse-xml-node .ensures .1)
-      (c .before .before .before .before .if1 .left) _
-      (c .before .before .before .before .before .before .before .before .before .before .before .before .before .before .before
-      .before .before .before .before .before .before .before .before .before .before .before .before .before .before .before
-      .before .before .before .before .before .aside .ensures) _ (c .before .before .pass-over .ensures) _ (c .copy-by2 .ensures),
-)
+parse-svg-use-element-returns-2 t c =
+    let at-parse-xml-node = c .before .before .before .before .before .before .before .before .before .before .before in
+    let at-meet = at-parse-xml-node .before .before .before .before .before .before .before .before .before .before .before
+    .before in
+    let at-copy-by = at-meet .before .before .before .before .before .before in
+    let two-less-ensures = at-copy-by .before .before .before .two-less .ensures in
+    let at-aside = at-copy-by .before .before .before .before .before .before in
+    let pre = at-aside .before .before .before .before .before .before .before .pre .1 in (
+      copy-done _ _ _ _ _ _ _ pre _ (at-copy-by .copy-by .ensures) _ two-less-ensures _ _ _ (at-meet .meet .result)
+          (at-meet .meet .ensures) _ _ _ _ (at-parse-xml-node .parse-xml-node .ensures .0)
+          (at-parse-xml-node .parse-xml-node .ensures .1) (c .before .before .before .before .if1 .left),
+      λ z. copy-reached _ _ _ _ _ _ _ pre _ (at-copy-by .copy-by .ensures) _ two-less-ensures _ _ _ (at-meet .meet .result)
+          (at-meet .meet .ensures) _ _ _ _ (at-parse-xml-node .parse-xml-node .ensures .0)
+          (at-parse-xml-node .parse-xml-node .ensures .1) (c .before .before .before .before .if1 .left) _ (at-aside .aside .ensures) _
+          (c .before .before .pass-over .ensures) _ (c .copy-by2 .ensures),
+    )
 
 parse-xml-node-sub-parse-xml-node-children :
     (t : ℕ) → parse-xml-node-lts.Need-sub-parse-xml-node-children (
@@ -528,18 +444,8 @@ parse-xml-node-sub-parse-xml-node-children :
       parse-svg-use-element.Post,
     ) (parse-xml-node-at t) parse-xml-node.Post
 parse-xml-node-sub-parse-xml-node-children t c =
-    (rest-inside (c .before .before .before .before .before .before .before .before .args .script .now)
-    (c .before .before .before .before .before .before .before .before .args .characters .now)
-    (c .before .before .before .before .before .before .before .before .args .left)
-    (c .before .before .before .before .before .before .before .before .args .index)
-    (c .before .before .before .before .before .before .before .before .args .place .now)
-    (c .before .before .before .before .before .before .before .before .args .taken .now)
-    (treeOf (c .before .before .before .before .before .before .before .before .args .nodes .now)
-    (c .before .before .before .before .before .before .before .before .args .attributes .now)
-    (c .before .before .before .before .before .before .before .before .args .text .now)
-    (countsIn (c .before .before .before .before .before .before .before .before .args .taken .now)))
-    (c .before .before .before .before .before .before .before .before .args .begun)
-    (c .before .before .before .before .before .before .before .before .pre .1) (c .before .before .if1 .taken)) .above
+    (rest-inside _ _ _ _ _ _ _ _ (c .before .before .before .before .before .before .before .before .pre .1)
+    (c .before .before .if1 .taken)) .above
 
 parse-xml-node-parse-xml-node-children-requires :
     (t : ℕ) → parse-xml-node-lts.Need-parse-xml-node-children-requires (
@@ -548,68 +454,10 @@ parse-xml-node-parse-xml-node-children-requires :
       parse-svg-use-element-below t,
       parse-svg-use-element.Post,
     ) (parse-xml-node-at t) parse-xml-node.Post
-parse-xml-node-parse-xml-node-children-requires t c κs = (
-  omega (
-    arith,
-    c .before .before .before .before .before .before .before .before .before .before .before .pre .0,
-    (rest-inside (c .before .before .before .before .before .before .before .before .before .before .before .args .script .now)
-        (c .before .before .before .before .before .before .before .before .before .before .before .args .characters .now)
-        (c .before .before .before .before .before .before .before .before .before .before .before .args .left)
-        (c .before .before .before .before .before .before .before .before .before .before .before .args .index)
-        (c .before .before .before .before .before .before .before .before .before .before .before .args .place .now)
-        (c .before .before .before .before .before .before .before .before .before .before .before .args .taken .now)
-        (treeOf (c .before .before .before .before .before .before .before .before .before .before .before .args .nodes .now)
-        (c .before .before .before .before .before .before .before .before .before .before .before .args .attributes .now)
-        (c .before .before .before .before .before .before .before .before .before .before .before .args .text .now)
-        (countsIn (c .before .before .before .before .before .before .before .before .before .before .before .args .taken .now)))
-        (c .before .before .before .before .before .before .before .before .before .before .before .args .begun)
-        (c .before .before .before .before .before .before .before .before .before .before .before .pre .1)
-        (c .before .before .before .before .before .if1 .taken)) .above,
-  ),
-  (
-    (rest-inside (c .before .before .before .before .before .before .before .before .before .before .before .args .script .now)
-        (c .before .before .before .before .before .before .before .before .before .before .before .args .characters .now)
-        (c .before .before .before .before .before .before .before .before .before .before .before .args .left)
-        (c .before .before .before .before .before .before .before .before .before .before .before .args .index)
-        (c .before .before .before .before .before .before .before .before .before .before .before .args .place .now)
-        (c .before .before .before .before .before .before .before .before .before .before .before .args .taken .now)
-        (treeOf (c .before .before .before .before .before .before .before .before .before .before .before .args .nodes .now)
-        (c .before .before .before .before .before .before .before .before .before .before .before .args .attributes .now)
-        (c .before .before .before .before .before .before .before .before .before .before .before .args .text .now)
-        (countsIn (c .before .before .before .before .before .before .before .before .before .before .before .args .taken .now)))
-        (c .before .before .before .before .before .before .before .before .before .before .before .args .begun)
-        (c .before .before .before .before .before .before .before .before .before .before .before .pre .1)
-        (c .before .before .before .before .before .if1 .taken)) .under,
-    (
-      (rest-inside (c .before .before .before .before .before .before .before .before .before .before .before .args .script .now)
-          (c .before .before .before .before .before .before .before .before .before .before .before .args .characters .now)
-          (c .before .before .before .before .before .before .before .before .before .before .before .args .left)
-          (c .before .before .before .before .before .before .before .before .before .before .before .args .index)
-          (c .before .before .before .before .before .before .before .before .before .before .before .args .place .now)
-          (c .before .before .before .before .before .before .before .before .before .before .before .args .taken .now)
-          (treeOf (c .before .before .before .before .before .before .before .before .before .before .before .args .nodes .now)
-          (c .before .before .before .before .before .before .before .before .before .before .before .args .attributes .now)
-          (c .before .before .before .before .before .before .before .before .before .before .before .args .text .now)
-          (countsIn (c .before .before .before .before .before .before .before .before .before .before .before .args .taken .now)))
-          (c .before .before .before .before .before .before .before .before .before .before .before .args .begun)
-          (c .before .before .before .before .before .before .before .before .before .before .before .pre .1)
-          (c .before .before .before .before .before .if1 .taken)) .long,
-      (rest-inside (c .before .before .before .before .before .before .before .before .before .before .before .args .script .now)
-          (c .before .before .before .before .before .before .before .before .before .before .before .args .characters .now)
-          (c .before .before .before .before .before .before .before .before .before .before .before .args .left)
-          (c .before .before .before .before .before .before .before .before .before .before .before .args .index)
-          (c .before .before .before .before .before .before .before .before .before .before .before .args .place .now)
-          (c .before .before .before .before .before .before .before .before .before .before .before .args .taken .now)
-          (treeOf (c .before .before .before .before .before .before .before .before .before .before .before .args .nodes .now)
-          (c .before .before .before .before .before .before .before .before .before .before .before .args .attributes .now)
-          (c .before .before .before .before .before .before .before .before .before .before .before .args .text .now)
-          (countsIn (c .before .before .before .before .before .before .before .before .before .before .before .args .taken .now)))
-          (c .before .before .before .before .before .before .before .before .before .before .before .args .begun)
-          (c .before .before .before .before .before .before .before .before .before .before .before .pre .1)
-          (c .before .before .before .before .before .if1 .taken)) .wide,
-    ),
-  ),
-)
+parse-xml-node-parse-xml-node-children-requires t c κs =
+    let pre = c .before .before .before .before .before .before .before .before .before .before .before .pre in
+    let inside = rest-inside _ _ _ _ _ _ _ _ (pre .1) (c .before .before .before .before .before .if1 .taken) in
+    (omega (arith, pre .0, inside .above), (inside .under, (inside .long, inside .wide)))
 
 parse-xml-node-same-length : (t : ℕ) → parse-xml-node-lts.Need-same-length (
   parse-xml-node-children-below t,
@@ -642,30 +490,8 @@ parse-xml-node-returns : (t : ℕ) → parse-xml-node-lts.Need-returns (
   parse-svg-use-element.Post,
 ) (parse-xml-node-at t) parse-xml-node.Post
 parse-xml-node-returns t c =
-    rest-children (c .before .before .before .before .before .before .before .before .before .before .before .before .before
-    .before .before .before .before .before .args .script .now)
-    (c .before .before .before .before .before .before .before .before .before .before .before .before .before .before .before
-    .before .before .before .args .characters .now)
-    (c .before .before .before .before .before .before .before .before .before .before .before .before .before .before .before
-    .before .before .before .args .left) (c .before .before .before .before .before .before .before .before .before .before
-    .before .before .before .before .before .before .before .before .args .index)
-    (c .before .before .before .before .before .before .before .before .before .before .before .before .before .before .before
-    .before .before .before .args .place .now)
-    (c .before .before .before .before .before .before .before .before .before .before .before .before .before .before .before
-    .before .before .before .args .taken .now)
-    (treeOf (c .before .before .before .before .before .before .before .before .before .before .before .before .before .before
-    .before .before .before .before .args .nodes .now)
-    (c .before .before .before .before .before .before .before .before .before .before .before .before .before .before .before
-    .before .before .before .args .attributes .now)
-    (c .before .before .before .before .before .before .before .before .before .before .before .before .before .before .before
-    .before .before .before .args .text .now)
-    (countsIn (c .before .before .before .before .before .before .before .before .before .before .before .before .before .before
-    .before .before .before .before .args .taken .now)))
-    (c .before .before .before .before .before .before .before .before .before .before .before .before .before .before .before
-    .before .before .before .args .begun) (c .before .before .before .before .before .before .before .before .before .before
-    .before .before .before .before .before .before .before .before .pre .1) _ _ _
-    (c .before .before .before .before .before .before .parse-xml-node-children .result)
-    (c .before .before .before .before .before .before .before .before .before .before .before .before .if1 .taken)
+    let at-if1 = c .before .before .before .before .before .before .before .before .before .before .before .before in
+    rest-children _ _ _ _ _ _ _ _ (at-if1 .before .before .before .before .before .before .pre .1) _ _ _ _ (at-if1 .if1 .taken)
     (c .before .before .before .before .before .before .parse-xml-node-children .ensures)
 
 parse-xml-node-parse-svg-use-element-requires :
@@ -675,24 +501,9 @@ parse-xml-node-parse-svg-use-element-requires :
       parse-svg-use-element-below t,
       parse-svg-use-element.Post,
     ) (parse-xml-node-at t) parse-xml-node.Post
-parse-xml-node-parse-svg-use-element-requires t c κs = (
-  omega (arith, c .before .before .before .before .before .before .before .before .before .before .before .before .pre .0),
-  rest-copying
-      (c .before .before .before .before .before .before .before .before .before .before .before .before .args .script .now)
-      (c .before .before .before .before .before .before .before .before .before .before .before .before .args .characters .now)
-      (c .before .before .before .before .before .before .before .before .before .before .before .before .args .left)
-      (c .before .before .before .before .before .before .before .before .before .before .before .before .args .index)
-      (c .before .before .before .before .before .before .before .before .before .before .before .before .args .place .now)
-      (c .before .before .before .before .before .before .before .before .before .before .before .before .args .taken .now)
-      (treeOf (c .before .before .before .before .before .before .before .before .before .before .before .before .args .nodes .now)
-      (c .before .before .before .before .before .before .before .before .before .before .before .before .args .attributes .now)
-      (c .before .before .before .before .before .before .before .before .before .before .before .before .args .text .now)
-      (countsIn
-      (c .before .before .before .before .before .before .before .before .before .before .before .before .args .taken .now)))
-      (c .before .before .before .before .before .before .before .before .before .before .before .before .args .begun)
-      (c .before .before .before .before .before .before .before .before .before .before .before .before .pre .1)
-      (c .before .before .before .before .before .if2 .taken),
-)
+parse-xml-node-parse-svg-use-element-requires t c κs =
+    let pre = c .before .before .before .before .before .before .before .before .before .before .before .before .pre in
+    (omega (arith, pre .0), rest-copying _ _ _ _ _ _ _ _ (pre .1) (c .before .before .before .before .before .if2 .taken))
 
 parse-xml-node-same-length-4 : (t : ℕ) → parse-xml-node-lts.Need-same-length-4 (
   parse-xml-node-children-below t,
@@ -725,33 +536,9 @@ parse-xml-node-returns-2 : (t : ℕ) → parse-xml-node-lts.Need-returns-2 (
   parse-svg-use-element.Post,
 ) (parse-xml-node-at t) parse-xml-node.Post
 parse-xml-node-returns-2 t c =
-    rest-copied (c .before .before .before .before .before .before .before .before .before .before .before .before .before .before
-    .before .before .before .before .before .args .script .now)
-    (c .before .before .before .before .before .before .before .before .before .before .before .before .before .before .before
-    .before .before .before .before .args .characters .now)
-    (c .before .before .before .before .before .before .before .before .before .before .before .before .before .before .before
-    .before .before .before .before .args .left)
-    (c .before .before .before .before .before .before .before .before .before .before .before .before .before .before .before
-    .before .before .before .before .args .index)
-    (c .before .before .before .before .before .before .before .before .before .before .before .before .before .before .before
-    .before .before .before .before .args .place .now)
-    (c .before .before .before .before .before .before .before .before .before .before .before .before .before .before .before
-    .before .before .before .before .args .taken .now)
-    (treeOf (c .before .before .before .before .before .before .before .before .before .before .before .before .before .before
-    .before .before .before .before .before .args .nodes .now)
-    (c .before .before .before .before .before .before .before .before .before .before .before .before .before .before .before
-    .before .before .before .before .args .attributes .now)
-    (c .before .before .before .before .before .before .before .before .before .before .before .before .before .before .before
-    .before .before .before .before .args .text .now)
-    (countsIn (c .before .before .before .before .before .before .before .before .before .before .before .before .before .before
-    .before .before .before .before .before .args .taken .now)))
-    (c .before .before .before .before .before .before .before .before .before .before .before .before .before .before .before
-    .before .before .before .before .args .begun)
-    (c .before .before .before .before .before .before .before .before .before .before .before .before .before .before .before
-    .before .before .before .before .pre .1) _ _ _
-    (c .before .before .before .before .before .before .parse-svg-use-element .result)
-    (c .before .before .before .before .before .before .before .before .before .before .before .before .if2 .taken)
-    (c .before .before .before .before .before .before .parse-svg-use-element .ensures)
+    let at-if2 = c .before .before .before .before .before .before .before .before .before .before .before .before in
+    rest-copied _ _ _ _ _ _ _ _ (at-if2 .before .before .before .before .before .before .before .pre .1) _ _ _ _
+    (at-if2 .if2 .taken) (c .before .before .before .before .before .before .parse-svg-use-element .ensures)
 
 parse-xml-node-returns-3 : (t : ℕ) → parse-xml-node-lts.Need-returns-3 (
   parse-xml-node-children-below t,
@@ -760,18 +547,8 @@ parse-xml-node-returns-3 : (t : ℕ) → parse-xml-node-lts.Need-returns-3 (
   parse-svg-use-element.Post,
 ) (parse-xml-node-at t) parse-xml-node.Post
 parse-xml-node-returns-3 t c =
-    rest-none (c .before .before .before .before .before .before .before .args .script .now)
-    (c .before .before .before .before .before .before .before .args .characters .now)
-    (c .before .before .before .before .before .before .before .args .left)
-    (c .before .before .before .before .before .before .before .args .index)
-    (c .before .before .before .before .before .before .before .args .place .now)
-    (c .before .before .before .before .before .before .before .args .taken .now)
-    (treeOf (c .before .before .before .before .before .before .before .args .nodes .now)
-    (c .before .before .before .before .before .before .before .args .attributes .now)
-    (c .before .before .before .before .before .before .before .args .text .now)
-    (countsIn (c .before .before .before .before .before .before .before .args .taken .now)))
-    (c .before .before .before .before .before .before .before .args .begun)
-    (c .before .before .before .before .before .before .before .pre .1) (c .before .if1 .left) (c .if2 .left)
+    rest-none _ _ _ _ _ _ _ _ (c .before .before .before .before .before .before .before .pre .1) (c .before .if1 .left)
+    (c .if2 .left)
 
 abbrev parse-xml-node-children-Inv-loop : parse-xml-node-children-lts.InvT-loop
 parse-xml-node-children-Inv-loop place₀ taken₀ left parent script characters nodes₀ attributes₀ text₀ place taken nodes attributes text =
@@ -795,8 +572,7 @@ parse-xml-node-children-loop-holds : (t : ℕ) → parse-xml-node-children-lts.N
     parse-xml-node-children-Inv-loop
     parse-xml-node-children-μ-loop
 parse-xml-node-children-loop-holds t c = (
-  goes-none _ _ _ _ (c .before .before .before .before .before .args .place .now)
-      (c .before .before .before .before .before .args .taken .now) _ (c .before .before .before .before .before .pre .1 .0)
+  goes-none _ _ _ _ _ _ _ (c .before .before .before .before .before .pre .1 .0)
       (c .before .before .before .before .before .pre .1 .1),
   refl,
   refl,
@@ -826,13 +602,9 @@ parse-xml-node-children-meet-requires : (t : ℕ) → parse-xml-node-children-lt
     parse-xml-node-children.Post
     parse-xml-node-children-Inv-loop
     parse-xml-node-children-μ-loop
-parse-xml-node-children-meet-requires t c κs = (
-  c .before .before .before .before .before .before .loop .inv .0 .under,
-  (
-    c .before .before .before .before .before .before .loop .inv .0 .long,
-    c .before .before .before .before .before .before .loop .inv .0 .wide,
-  ),
-)
+parse-xml-node-children-meet-requires t c κs =
+    let loop-inv = c .before .before .before .before .before .before .loop .inv .0 in
+    (loop-inv .under, (loop-inv .long, loop-inv .wide))
 
 parse-xml-node-children-same-length : (t : ℕ) → parse-xml-node-children-lts.Need-same-length (
   meet-reads.Asked,
@@ -880,14 +652,13 @@ parse-xml-node-children-returns : (t : ℕ) → parse-xml-node-children-lts.Need
     parse-xml-node-children.Post
     parse-xml-node-children-Inv-loop
     parse-xml-node-children-μ-loop
-parse-xml-node-children-returns t c = (
-  ends-all _ _ _ _ _ _ _ _ _ _ _ (c .before .before .before .before .before .before .before .before .before .before .before
-      .before .before .before .loop .inv .0) _ _ _ (c .before .before .before .before .before .before .before .meet .result)
-      (c .before .before .before .before .before .before .before .meet .ensures) (c .if1 .taken),
-  λ z. ends-reached _ _ _ _ _ _ _ _ _ _ _ (c .before .before .before .before .before .before .before .before .before .before
-      .before .before .before .before .loop .inv .0) _ _ _ (c .before .before .before .before .before .before .before .meet .result)
-      (c .before .before .before .before .before .before .before .meet .ensures) (c .if1 .taken),
-)
+parse-xml-node-children-returns t c =
+    let meet-ensures = c .before .before .before .before .before .before .before .meet .ensures in
+    let loop-inv = c .before .before .before .before .before .before .before .before .before .before .before .before .before
+    .before .loop .inv .0 in (
+      ends-all _ _ _ _ _ _ _ _ _ _ _ loop-inv _ _ _ _ meet-ensures (c .if1 .taken),
+      λ z. ends-reached _ _ _ _ _ _ _ _ _ _ _ loop-inv _ _ _ _ meet-ensures (c .if1 .taken),
+    )
 
 parse-xml-node-children-parse-xml-node-requires :
     (t : ℕ) → parse-xml-node-children-lts.Need-parse-xml-node-requires (
@@ -900,18 +671,13 @@ parse-xml-node-children-parse-xml-node-requires :
     parse-xml-node-children.Post
     parse-xml-node-children-Inv-loop
     parse-xml-node-children-μ-loop
-parse-xml-node-children-parse-xml-node-requires t c κs = (
-  omega (
-    arith,
-    c .before .before .before .before .before .before .before .before .before .before .before .before .before
-        .before .before .before .before .before .before .before .before .before .before .before .before .pre .0,
-  ),
-  first-rest _ _ _ _ _ _ _ _ _ _ _ (c .before .before .before .before .before .before .before .before .before .before .before
-      .before .before .before .before .before .before .before .before .loop .inv .0) _ _ _
-      (c .before .before .before .before .before .before .before .before .before .before .before .before .meet .result)
-      (c .before .before .before .before .before .before .before .before .before .before .before .before .meet .ensures)
-      (c .before .before .before .before .before .if1 .left),
-)
+parse-xml-node-children-parse-xml-node-requires t c κs =
+    let at-meet = c .before .before .before .before .before .before .before .before .before .before .before .before in
+    let at-loop = at-meet .before .before .before .before .before .before .before in (
+      omega (arith, at-loop .before .before .before .before .before .before .pre .0),
+      first-rest _ _ _ _ _ _ _ _ _ _ _ (at-loop .loop .inv .0) _ _ _ _ (at-meet .meet .ensures)
+          (c .before .before .before .before .before .if1 .left),
+    )
 
 parse-xml-node-children-same-length-4 : (t : ℕ) → parse-xml-node-children-lts.Need-same-length-4 (
   meet-reads.Asked,
@@ -959,19 +725,14 @@ parse-xml-node-children-returns-2 : (t : ℕ) → parse-xml-node-children-lts.Ne
     parse-xml-node-children.Post
     parse-xml-node-children-Inv-loop
     parse-xml-node-children-μ-loop
-parse-xml-node-children-returns-2 t c = (
-  goes-refused _ _ _ _ _ _ _ _ _ _ _ (c .before .before .before .before .before .before .before .before .before .before .before
-      .before .before .before .before .before .before .before .before .before .before .before .before .before .before .before
-      .before .loop .inv .0) _ _ _ (c .before .before .before .before .before .before .before .before .before .before .before
-      .before .before .before .before .before .before .before .before .before .meet .result)
-      (c .before .before .before .before .before .before .before .before .before .before .before .before .before .before .before
-      .before .before .before .before .before .meet .ensures)
-      (c .before .before .before .before .before .before .before .before .before .before .before .before .before .if1 .left) _ _ _
-      (c .before .before .before .before .before .before .before .parse-xml-node .result)
-      (c .before .before .before .before .before .before .before .parse-xml-node .ensures .0)
-      (c .before .before .before .before .before .before .before .parse-xml-node .ensures .1) (c .if2 .taken),
-  λ z. absurd (c .if2 .taken z),
-)
+parse-xml-node-children-returns-2 t c =
+    let parse-xml-node-ensures = c .before .before .before .before .before .before .before .parse-xml-node .ensures in
+    let at-if1 = c .before .before .before .before .before .before .before .before .before .before .before .before .before in
+    let at-meet = at-if1 .before .before .before .before .before .before .before in (
+      goes-refused _ _ _ _ _ _ _ _ _ _ _ (at-meet .before .before .before .before .before .before .before .loop .inv .0) _ _ _ _
+          (at-meet .meet .ensures) (at-if1 .if1 .left) _ _ _ _ (parse-xml-node-ensures .0) (parse-xml-node-ensures .1) (c .if2 .taken),
+      λ z. absurd (c .if2 .taken z),
+    )
 
 parse-xml-node-children-loop-less : (t : ℕ) → parse-xml-node-children-lts.Need-loop-less (
   meet-reads.Asked,
@@ -984,17 +745,12 @@ parse-xml-node-children-loop-less : (t : ℕ) → parse-xml-node-children-lts.Ne
     parse-xml-node-children-Inv-loop
     parse-xml-node-children-μ-loop
 parse-xml-node-children-loop-less t c =
-    let w = goes-further _ _ _ _ _ _ _ _ _ _ _
-    (c .before .before .before .before .before .before .before .before .before .before .before .before .before .before .before
-    .before .before .before .before .before .before .before .before .before .before .before .before .loop .inv .0) _ _ _
-    (c .before .before .before .before .before .before .before .before .before .before .before .before .before .before .before
-    .before .before .before .before .before .meet .result)
-    (c .before .before .before .before .before .before .before .before .before .before .before .before .before .before .before
-    .before .before .before .before .before .meet .ensures)
-    (c .before .before .before .before .before .before .before .before .before .before .before .before .before .if1 .left) _ _ _
-    (c .before .before .before .before .before .before .before .parse-xml-node .result)
-    (c .before .before .before .before .before .before .before .parse-xml-node .ensures .0)
-    (c .before .before .before .before .before .before .before .parse-xml-node .ensures .1) (c .if2 .left) in
+    let parse-xml-node-ensures = c .before .before .before .before .before .before .before .parse-xml-node .ensures in
+    let at-if1 = c .before .before .before .before .before .before .before .before .before .before .before .before .before in
+    let at-meet = at-if1 .before .before .before .before .before .before .before in
+    let w = goes-further _ _ _ _ _ _ _ _ _ _ _ (at-meet .before .before .before .before .before .before .before .loop .inv .0) _ _
+    _ _ (at-meet .meet .ensures) (at-if1 .if1 .left) _ _ _ _ (parse-xml-node-ensures .0) (parse-xml-node-ensures .1)
+    (c .if2 .left) in
     omega (arith, w .0, w .1)
 
 parse-xml-node-children-loop-again : (t : ℕ) → parse-xml-node-children-lts.Need-loop-again (
@@ -1007,21 +763,16 @@ parse-xml-node-children-loop-again : (t : ℕ) → parse-xml-node-children-lts.N
     parse-xml-node-children.Post
     parse-xml-node-children-Inv-loop
     parse-xml-node-children-μ-loop
-parse-xml-node-children-loop-again t c = (
-  goes-on _ _ _ _ _ _ _ _ _ _ _ (c .before .before .before .before .before .before .before .before .before .before .before
-      .before .before .before .before .before .before .before .before .before .before .before .before .before .before .before
-      .before .loop .inv .0) _ _ _ (c .before .before .before .before .before .before .before .before .before .before .before
-      .before .before .before .before .before .before .before .before .before .meet .result)
-      (c .before .before .before .before .before .before .before .before .before .before .before .before .before .before .before
-      .before .before .before .before .before .meet .ensures)
-      (c .before .before .before .before .before .before .before .before .before .before .before .before .before .if1 .left) _ _ _
-      (c .before .before .before .before .before .before .before .parse-xml-node .result)
-      (c .before .before .before .before .before .before .before .parse-xml-node .ensures .0)
-      (c .before .before .before .before .before .before .before .parse-xml-node .ensures .1) (c .if2 .left),
-  search needs,
-  search needs,
-  search needs,
-)
+parse-xml-node-children-loop-again t c =
+    let parse-xml-node-ensures = c .before .before .before .before .before .before .before .parse-xml-node .ensures in
+    let at-if1 = c .before .before .before .before .before .before .before .before .before .before .before .before .before in
+    let at-meet = at-if1 .before .before .before .before .before .before .before in (
+      goes-on _ _ _ _ _ _ _ _ _ _ _ (at-meet .before .before .before .before .before .before .before .loop .inv .0) _ _ _ _
+          (at-meet .meet .ensures) (at-if1 .if1 .left) _ _ _ _ (parse-xml-node-ensures .0) (parse-xml-node-ensures .1) (c .if2 .left),
+      search needs,
+      search needs,
+      search needs,
+    )
 
 pub +parse-svg-use-element+parse-xml-node+parse-xml-node-children-spec : {M : Type 1} → statement M
 +parse-svg-use-element+parse-xml-node+parse-xml-node-children-spec =
