@@ -23,9 +23,9 @@ use Rattle.script.proofs.Commands.{placed-first}
 use Rattle.tree.specs.declared.Counts.{Counts}
 use Rattle.tree.specs.Lent.{treeOf}
 use Rattle.tree.proofs.Alike.{id-same}
-use Rattle.repair.specs.Links.{valuesOf}
-use Rattle.repair.specs.Passes.{seenOf, Mendable}
-use Rattle.repair.proofs.Writing.{applied-more, mend-on, long-on}
+use Rattle.leads.specs.Links.{valuesOf}
+use Rattle.cuts.specs.Seen.{seenOf, Mendable}
+use Rattle.cuts.proofs.Writing.{applied-more, mend-on, long-on}
 
 -- THE TEXT TABLE
 

@@ -18,10 +18,11 @@ use Rattle.model.specs.Theorems.Images.{imagesOn, passOn}
 use Rattle.script.specs.declared.cursor.Cursor.{Cursor}
 use Rattle.script.specs.Step.{Fit}
 use Rattle.tree.specs.declared.Counts.{Counts}
-use Rattle.repair.specs.Passes.{seenOf, Mendable, cutPairs, linkCuts, imageCuts}
-use Rattle.repair.proofs.Descending.{up-step, up-none, descendants-alike}
-use Rattle.repair.proofs.Writing.{mend-on, long-on}
-use Rattle.repair.proofs.Pairing.{pairs-first}
+use Rattle.cuts.specs.Seen.{seenOf, Mendable, cutPairs}
+use Rattle.repair.specs.Passes.{linkCuts, imageCuts}
+use Rattle.cuts.proofs.Descending.{up-step, up-none, descendants-alike}
+use Rattle.cuts.proofs.Writing.{mend-on, long-on}
+use Rattle.cuts.proofs.Pairing.{pairs-first}
 
 -- The last of the passes 1 to 5.
 pub last-element : (k : ℕ) → (k ≤ 2 → ⊥) → k ≤ 5 → (k ≡ 3 → ⊥) → (k ≡ 4 → ⊥) → EId.Filter ≡ elementOf k

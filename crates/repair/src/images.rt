@@ -1,7 +1,7 @@
 // The last pass: each feImage, one after another. It cuts as it finds: a filter that is cut has no link left, so that no node is cut twice.
-use crate::cut::cut;
 use crate::image::image_of;
 use crate::pass::is_named;
+use cuts::cut::cut;
 use names::eid;
 use script::cursor::Cursor;
 use tree::Counts;
@@ -11,8 +11,9 @@ ghost use Prim.Native.Nat.{_<_};
 ghost use Rattle.model.specs.Repair.{applied};
 ghost use Rattle.model.specs.Theorems.Images.{passOn};
 ghost use Rattle.script.specs.Step.{Fit};
-ghost use Rattle.repair.specs.Links.{valuesOf};
-ghost use Rattle.repair.specs.Passes.{seenOf, Mendable, imageCuts};
+ghost use Rattle.leads.specs.Links.{valuesOf};
+ghost use Rattle.cuts.specs.Seen.{seenOf, Mendable};
+ghost use Rattle.repair.specs.Passes.{imageCuts};
 
 // Node i, where it is a feImage: the filter of the node that it leads to is cut, if it leads back.
 fn cut_image(

@@ -1,5 +1,5 @@
 // One pass: each element that it looks at, one after another.
-use crate::pair::cut_element;
+use cuts::pair::cut_element;
 use names::eid;
 use script::cursor::Cursor;
 use tree::Counts;
@@ -15,8 +15,9 @@ ghost use Rattle.model.specs.Theorems.GoingOn.{elementOf};
 ghost use Rattle.model.specs.Theorems.Images.{passOn};
 ghost use Rattle.script.specs.Step.{Fit};
 ghost use Rattle.tree.specs.Lent.{nodesRead};
-ghost use Rattle.repair.specs.Links.{valuesOf};
-ghost use Rattle.repair.specs.Passes.{seenOf, Mendable, linkCuts};
+ghost use Rattle.leads.specs.Links.{valuesOf};
+ghost use Rattle.cuts.specs.Seen.{seenOf, Mendable};
+ghost use Rattle.repair.specs.Passes.{linkCuts};
 
 // The elements that one of the passes 1 to 5 looks at.
 fn element_code(pass: u32) -> u32

@@ -11,8 +11,8 @@ ghost use Rattle.model.specs.Check.{check};
 ghost use Rattle.model.specs.Repair.{repaired};
 ghost use Rattle.model.specs.Theorems.Kept.{Tidy};
 ghost use Rattle.tree.specs.Lent.{treeOf};
-ghost use Rattle.repair.specs.Links.{valuesOf};
-ghost use Rattle.repair.specs.Passes.{seenOf};
+ghost use Rattle.leads.specs.Links.{valuesOf};
+ghost use Rattle.cuts.specs.Seen.{seenOf};
 
 // The attributes with the repairs, whatever the text table has: no repair reads it. Each pass begins to look for links where the last one
 // stopped.

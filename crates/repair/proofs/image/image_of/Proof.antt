@@ -5,8 +5,8 @@ use Rattle.model.specs.AId
 use Rattle.model.specs.Drawing.{partAt}
 use Rattle.tree.proofs.Alike.{id-same}
 use Rattle.tree.proofs.Facts.{readable, readable-in}
-use Rattle.repair.proofs.Linking.{link-told}
-use Rattle.repair.proofs.Turning.{id-stands}
+use Rattle.leads.proofs.Linking.{link-told}
+use Rattle.cuts.proofs.Turning.{id-stands}
 use Rattle.repair.proofs.Imaging.{href-nowhere, href-on, image-nowhere, image-back, image-not}
 use borrow.Author.Needs.{needs}
 use Rattle.repair.proofs.image.image_of.Statement.{statement}

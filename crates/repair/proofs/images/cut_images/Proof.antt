@@ -2,7 +2,7 @@ use native.Mathlib.Omega.{arith}
 use mathlib.Core.Path.{ap, _∙_}
 use Prim.Native.Nat.{_-_}
 use Rattle.model.specs.Repair.{applied}
-use Rattle.repair.specs.Links.{valuesOf}
+use Rattle.leads.specs.Links.{valuesOf}
 use Rattle.repair.specs.Passes.{imageCuts}
 use Rattle.repair.proofs.Passing.{images-each, images-all, Pass, pass-start, pass-turn, pass-done}
 use Rattle.repair.proofs.images.cut_images.Statement.{statement}

@@ -2,7 +2,7 @@ use Prim.Native.Nat.{_-_}
 use native.Mathlib.Omega.{arith}
 use mathlib.Core.Path.{ap, _∙_}
 use Rattle.model.specs.Repair.{applied}
-use Rattle.repair.specs.Links.{valuesOf}
+use Rattle.leads.specs.Links.{valuesOf}
 use Rattle.repair.specs.Passes.{linkCuts}
 use Rattle.repair.proofs.Passing.{links-each, links-all, Pass, pass-start, pass-turn, pass-done}
 use Rattle.repair.proofs.pass.cut_pass.Statement.{statement}
