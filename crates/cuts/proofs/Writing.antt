@@ -65,10 +65,10 @@ applied-long (c ∷ cs) t = applied-long cs (applyCut t c) ∙ go (eqb (cutEntry
     go false = length-sets (t .attributes) (5 * (j - 1) + 2) (1 ∷ 0 ∷ 0 ∷ [])
 
 -- What is asked still holds behind cuts, and the table is as long as it was.
-module _ (script chars ns es : List ℕ) (c : Counts) (cs : List Cut) (es′ : List ℕ) (e : seenOf ns es′ c ≡ applied (seenOf ns es c) cs) where
-  pub mend-on : (hint : Cursor) → Mendable script chars ns es c hint → (n : Cursor) → Fit script n → Mendable script chars ns es′ c n
+module _ (script chars marks ns es : List ℕ) (c : Counts) (cs : List Cut) (es′ : List ℕ) (e : seenOf ns es′ c ≡ applied (seenOf ns es c) cs) where
+  pub mend-on : (hint : Cursor) → Mendable script chars marks ns es c hint → (n : Cursor) → Fit script n → Mendable script chars marks ns es′ c n
   mend-on hint g n f = record {
-    drawn = record { checked = g .drawn .checked; fit = f };
+    drawn = record { checked = g .drawn .checked; marked = g .drawn .marked; fit = f };
     tidy = subst (Tidy (length chars)) (sym e) (cuts-tidy (length chars) (seenOf ns es c) cs (g .tidy));
   }
 

@@ -25,9 +25,9 @@ counted ns n = treeOf ns [] [] (record { nodes = n; attributes = 0; text = 0 })
 abbrev pub seenOf : List ℕ → List ℕ → Counts → Tree
 seenOf ns es c = treeOf ns es (replicate (c .text) 0) c
 
--- What the repairs ask: a drawing that check takes, a cursor in it, and tables that are tidy beside its characters.
-pub record Mendable (script chars ns es : List ℕ) (c : Counts) (hint : Cursor) : Type 0 where
-  pub drawn : Drawn script chars hint
+-- What the repairs ask: a drawing that check takes, marks of its script, a cursor in it, and tables that are tidy beside its characters.
+pub record Mendable (script chars marks ns es : List ℕ) (c : Counts) (hint : Cursor) : Type 0 where
+  pub drawn : Drawn script chars marks hint
   pub tidy : Tidy (length chars) (seenOf ns es c)
 
 -- An element that one of the passes 1 to 5 aims at. A pattern is led to by its id, any other element by links that find it.

@@ -18,6 +18,7 @@ ghost use Rattle.cuts.specs.Seen.{seenOf, Mendable, Aimed, cutBack, cutN
 fn cut_back(
     script: &[u8],
     characters: &[u8],
+    marks: &[usize; 4097],
     nodes: &[u32],
     attributes: &mut [u32],
     counts: Counts,
@@ -25,7 +26,7 @@ fn cut_back(
     m: u32,
     hint: Cursor,
 ) -> Cursor
-    requires { ⌜ Mendable (now script) (now characters) (now nodes) (now attributes) counts hint ⌝ }
+    requires { ⌜ Mendable (now script) (now characters) (now marks) (now nodes) (now attributes) counts hint ⌝ }
     requires { ⌜ Aimed (now characters) (seenOf (now nodes) (now attributes) counts) aim ⌝ }
     requires { ⌜ m < counts .nodes ⌝ }
     ensures tables { λ r. ⌜ seenOf (now (nodes .entry)) (now (attributes .exit)) counts
@@ -33,7 +34,7 @@ fn cut_back(
         (seenOf (now (nodes .entry)) (now (attributes .entry)) counts) m ⌝ }
     ensures fit { λ r. ⌜ Fit (now (script .entry)) r ⌝ }
 {
-    match lead_of(script, characters, nodes, attributes, aim, m, hint) {
+    match lead_of(script, characters, marks, nodes, attributes, aim, m, hint) {
         Lead::Back(c) => {
             cut(nodes, attributes, aim.pass, m);
             c
@@ -47,6 +48,7 @@ fn cut_back(
 pub fn cut_below(
     script: &[u8],
     characters: &[u8],
+    marks: &[usize; 4097],
     nodes: &[u32],
     attributes: &mut [u32],
     counts: Counts,
@@ -54,7 +56,7 @@ pub fn cut_below(
     w: u32,
     hint: Cursor,
 ) -> Cursor
-    requires { ⌜ Mendable (now script) (now characters) (now nodes) (now attributes) counts hint ⌝ }
+    requires { ⌜ Mendable (now script) (now characters) (now marks) (now nodes) (now attributes) counts hint ⌝ }
     requires { ⌜ Aimed (now characters) (seenOf (now nodes) (now attributes) counts) aim ⌝ }
     requires { ⌜ w < counts .nodes ⌝ }
     ensures tables { λ r. ⌜ seenOf (now (nodes .entry)) (now (attributes .exit)) counts
@@ -69,7 +71,17 @@ pub fn cut_below(
     let mut c = hint;
     let mut m = w;
     while m < end {
-        c = cut_back(script, characters, nodes, attributes, counts, aim, m, c);
+        c = cut_back(
+            script,
+            characters,
+            marks,
+            nodes,
+            attributes,
+            counts,
+            aim,
+            m,
+            c,
+        );
         m += 1;
     }
     c

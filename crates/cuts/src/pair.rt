@@ -29,6 +29,7 @@ ghost use Rattle.cuts.specs.Seen.{seenOf, Mendable, Aimed, cutNodes, cut
 fn cut_pair(
     script: &[u8],
     characters: &[u8],
+    marks: &[usize; 4097],
     nodes: &[u32],
     attributes: &mut [u32],
     counts: Counts,
@@ -36,7 +37,7 @@ fn cut_pair(
     j: u32,
     hint: Cursor,
 ) -> Cursor
-    requires { ⌜ Mendable (now script) (now characters) (now nodes) (now attributes) counts hint ⌝ }
+    requires { ⌜ Mendable (now script) (now characters) (now marks) (now nodes) (now attributes) counts hint ⌝ }
     requires { ⌜ Aimed (now characters) (seenOf (now nodes) (now attributes) counts) aim ⌝ }
     requires { ⌜ j < counts .nodes ⌝ }
     ensures tables { λ r. ⌜ seenOf (now (nodes .entry)) (now (attributes .exit)) counts
@@ -46,7 +47,7 @@ fn cut_pair(
         (seenOf (now (nodes .entry)) (now (attributes .entry)) counts) (aim .element) j) ⌝ }
     ensures fit { λ r. ⌜ Fit (now (script .entry)) r ⌝ }
 {
-    match lead_of(script, characters, nodes, attributes, aim, j, hint) {
+    match lead_of(script, characters, marks, nodes, attributes, aim, j, hint) {
         Lead::Back(c) => {
             cut(nodes, attributes, aim.pass, j);
             c
@@ -57,7 +58,17 @@ fn cut_pair(
             if w == 0 {
                 return c;
             }
-            cut_below(script, characters, nodes, attributes, counts, aim, w - 1, c)
+            cut_below(
+                script,
+                characters,
+                marks,
+                nodes,
+                attributes,
+                counts,
+                aim,
+                w - 1,
+                c,
+            )
         }
         Lead::Nowhere(c) => c,
     }
@@ -106,6 +117,7 @@ fn aim_at(
 fn cut_pairs(
     script: &[u8],
     characters: &[u8],
+    marks: &[usize; 4097],
     nodes: &[u32],
     attributes: &mut [u32],
     counts: Counts,
@@ -114,7 +126,7 @@ fn cut_pairs(
     end: u32,
     hint: Cursor,
 ) -> Cursor
-    requires { ⌜ Mendable (now script) (now characters) (now nodes) (now attributes) counts hint ⌝ }
+    requires { ⌜ Mendable (now script) (now characters) (now marks) (now nodes) (now attributes) counts hint ⌝ }
     requires { ⌜ Aimed (now characters) (seenOf (now nodes) (now attributes) counts) aim ⌝ }
     requires { ⌜ end ≤ counts .nodes ⌝ }
     ensures tables { λ r. ⌜ seenOf (now (nodes .entry)) (now (attributes .exit)) counts
@@ -126,7 +138,17 @@ fn cut_pairs(
     let mut c = hint;
     let mut j = first;
     while j < end {
-        c = cut_pair(script, characters, nodes, attributes, counts, aim, j, c);
+        c = cut_pair(
+            script,
+            characters,
+            marks,
+            nodes,
+            attributes,
+            counts,
+            aim,
+            j,
+            c,
+        );
         j += 1;
     }
     c
@@ -137,6 +159,7 @@ fn cut_pairs(
 pub fn cut_element(
     script: &[u8],
     characters: &[u8],
+    marks: &[usize; 4097],
     nodes: &[u32],
     attributes: &mut [u32],
     counts: Counts,
@@ -144,7 +167,7 @@ pub fn cut_element(
     i: u32,
     hint: Cursor,
 ) -> Cursor
-    requires { ⌜ Mendable (now script) (now characters) (now nodes) (now attributes) counts hint ⌝ }
+    requires { ⌜ Mendable (now script) (now characters) (now marks) (now nodes) (now attributes) counts hint ⌝ }
     requires { ⌜ (1 ≤ pass) × (pass ≤ 5) ⌝ }
     requires { ⌜ i < counts .nodes ⌝ }
     ensures tables { λ r. ⌜ seenOf (now (nodes .entry)) (now (attributes .exit)) counts
@@ -166,6 +189,7 @@ pub fn cut_element(
     cut_pairs(
         script,
         characters,
+        marks,
         nodes,
         attributes,
         counts,

@@ -15,6 +15,7 @@ use Rattle.model.specs.Theorems.Kept.{KeptEntry}
 use Rattle.script.specs.declared.cursor.Cursor.{Cursor}
 use Rattle.script.specs.Step.{Fit, mostStart}
 use Rattle.walk.specs.Values.{readingsIn}
+use Rattle.places.specs.Marks.{Marked}
 use Rattle.tree.specs.Lent.{Readable, Valued}
 use Rattle.leads.specs.declared.link.FoundLink.{FoundLink}
 use Rattle.leads.specs.declared.link.FoundLink.the-variants as link
@@ -29,9 +30,10 @@ use Rattle.leads.specs.declared.filter.Look.the-variants as look
 abbrev pub valuesOf : List ℕ → List ℕ → List Value
 valuesOf script chars = valuesIn (events script chars)
 
--- A drawing that check takes, and a cursor in it.
-pub record Drawn (script chars : List ℕ) (c : Cursor) : Type 0 where
+-- A drawing that check takes, marks of its script, and a cursor in it.
+pub record Drawn (script chars marks : List ℕ) (c : Cursor) : Type 0 where
   pub checked : check script chars ≡ 0
+  pub marked : Marked script marks
   pub fit : Fit script c
 
 -- LINKS

@@ -1,7 +1,7 @@
 // The filter links of a node: every one is compared with an id.
 use crate::lead::is_id;
 use names::aid;
-use places::seek::seek;
+use places::marks::seek_near;
 use script::cursor::Cursor;
 use script::cursor::Step;
 use tree::read::attribute_of;
@@ -119,13 +119,14 @@ fn any_id_at(script: &[u8], characters: &[u8], attributes: &[u32], c: Cursor, j:
 pub fn has_filter(
     script: &[u8],
     characters: &[u8],
+    marks: &[usize; 4097],
     nodes: &[u32],
     attributes: &[u32],
     m: u32,
     j: u32,
     hint: Cursor,
 ) -> Filtered
-    requires { ⌜ Drawn (now script) (now characters) hint ⌝ }
+    requires { ⌜ Drawn (now script) (now characters) (now marks) hint ⌝ }
     requires { ⌜ ReadableIn (length (now characters)) (readOf (now nodes) (now attributes)) m ⌝ }
     requires { ⌜ Stands (length (now characters)) (entriesOf (now attributes)) j ⌝ }
     ensures same { λ r. ⌜ r .back ≡ anyReading 4 (idAt (now (characters .entry)) (entriesOf (now (attributes .entry))) j)
@@ -142,7 +143,7 @@ pub fn has_filter(
         return Filtered { back: false, hint };
     }
     let number = (command - 1) as usize;
-    let c = seek(script, characters, number, hint);
+    let c = seek_near(script, characters, marks, number, hint);
     let back = any_id_at(script, characters, attributes, c, j);
     Filtered { back, hint: c }
 }

@@ -45,13 +45,14 @@ pub fn is_id(attributes: &[u32], characters: &[u8], j: u32, value: &[u8]) -> boo
 pub fn lead_of(
     script: &[u8],
     characters: &[u8],
+    marks: &[usize; 4097],
     nodes: &[u32],
     attributes: &[u32],
     aim: Aim,
     m: u32,
     hint: Cursor,
 ) -> Lead
-    requires { ⌜ Drawn (now script) (now characters) hint ⌝ }
+    requires { ⌜ Drawn (now script) (now characters) (now marks) hint ⌝ }
     requires { ⌜ ReadableIn (length (now characters)) (readOf (now nodes) (now attributes)) m ⌝ }
     requires { ⌜ Stands (length (now characters)) (entriesOf (now attributes)) (aim .id) ⌝ }
     ensures same { λ r. ⌜ isBack r
@@ -65,6 +66,7 @@ pub fn lead_of(
     match link_of(
         script,
         characters,
+        marks,
         nodes,
         attributes,
         m,

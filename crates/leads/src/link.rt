@@ -1,6 +1,6 @@
 // The links of nodes: the id that an attribute's value leads to.
+use places::marks::seek_near;
 use places::seek::reading_at;
-use places::seek::seek;
 use script::cursor::Cursor;
 use tree::read::attribute_of;
 use tree::word;
@@ -23,6 +23,7 @@ pub enum FoundLink {
 pub fn link_of(
     script: &[u8],
     characters: &[u8],
+    marks: &[usize; 4097],
     nodes: &[u32],
     attributes: &[u32],
     i: u32,
@@ -30,7 +31,7 @@ pub fn link_of(
     kind: u8,
     hint: Cursor,
 ) -> FoundLink
-    requires { ⌜ Drawn (now script) (now characters) hint ⌝ }
+    requires { ⌜ Drawn (now script) (now characters) (now marks) hint ⌝ }
     requires { ⌜ ReadableIn (length (now characters)) (readOf (now nodes) (now attributes)) i ⌝ }
     ensures same { λ r. ⌜ linkIn (now (characters .entry)) r
         ≡ linkOf (now (characters .entry)) (valuesOf (now (script .entry)) (now (characters .entry))) kind
@@ -46,7 +47,7 @@ pub fn link_of(
         return FoundLink::Nothing(hint);
     }
     let number = (command - 1) as usize;
-    let c = seek(script, characters, number, hint);
+    let c = seek_near(script, characters, marks, number, hint);
     match reading_at(script, characters, c, kind) {
         FoundPart::At(start, len) => FoundLink::At(start, len, c),
         FoundPart::Nothing => FoundLink::Nothing(c),

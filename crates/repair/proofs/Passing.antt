@@ -165,15 +165,15 @@ module _ (chars : List ℕ) (values : List Value) where
 -- THE LOOP
 
 -- In the middle of the nodes: i is next, and what is still to do leaves what all of it leaves.
-pub record Pass (script chars ns : List ℕ) (c : Counts) (f : Tree → List ℕ → List Cut) (es₀ es : List ℕ) (i : ℕ) (hint : Cursor)
+pub record Pass (script chars marks ns : List ℕ) (c : Counts) (f : Tree → List ℕ → List Cut) (es₀ es : List ℕ) (i : ℕ) (hint : Cursor)
     : Type 0 where
-  pub mendable : Mendable script chars ns es c hint
+  pub mendable : Mendable script chars marks ns es c hint
   pub long : length es ≡ length es₀
   pub same : applied (seenOf ns es c) (f (seenOf ns es c) (upFrom i (c .nodes - i)))
       ≡ applied (seenOf ns es₀ c) (f (seenOf ns es₀ c) (upFrom 0 (c .nodes)))
 
-module _ (script chars ns : List ℕ) (c : Counts) (f : Tree → List ℕ → List Cut) where
-  pub pass-start : (es : List ℕ) (hint : Cursor) → Mendable script chars ns es c hint → Pass script chars ns c f es es 0 hint
+module _ (script chars marks ns : List ℕ) (c : Counts) (f : Tree → List ℕ → List Cut) where
+  pub pass-start : (es : List ℕ) (hint : Cursor) → Mendable script chars marks ns es c hint → Pass script chars marks ns c f es es 0 hint
   pass-start es hint g =
       let e : c .nodes - 0 ≡ c .nodes = omega arith in
       record {
@@ -182,16 +182,16 @@ module _ (script chars ns : List ℕ) (c : Counts) (f : Tree → List ℕ → Li
         same = ap (λ (n : ℕ). applied (seenOf ns es c) (f (seenOf ns es c) (upFrom 0 n))) e;
       }
 
-  module _ (o : OneByOne f) (es₀ es : List ℕ) (i : ℕ) (hint : Cursor) (q : Pass script chars ns c f es₀ es i hint) where
+  module _ (o : OneByOne f) (es₀ es : List ℕ) (i : ℕ) (hint : Cursor) (q : Pass script chars marks ns c f es₀ es i hint) where
     pub pass-turn : i < c .nodes → (es′ : List ℕ) (n : Cursor)
         → seenOf ns es′ c ≡ applied (seenOf ns es c) (f (seenOf ns es c) (i ∷ [])) → Fit script n
-        → Pass script chars ns c f es₀ es′ (i + 1) n
+        → Pass script chars marks ns c f es₀ es′ (i + 1) n
     pass-turn l es′ n e g =
         let t : Tree = seenOf ns es c in
         let cs : List Cut = f t (i ∷ []) in
         record {
-          mendable = mend-on script chars ns es c cs es′ e hint (q .mendable) n g;
-          long = long-on script chars ns es c cs es′ e ∙ q .long;
+          mendable = mend-on script chars marks ns es c cs es′ e hint (q .mendable) n g;
+          long = long-on script chars marks ns es c cs es′ e ∙ q .long;
           same =
               sym (o .more t (seenOf ns es′ c) refl refl i (upFrom (i + 1) (c .nodes - (i + 1))) e)
               ∙ ap (λ (is : List ℕ). applied t (f t is)) (sym (up-step i (c .nodes) l))

@@ -28,20 +28,31 @@ pub struct Image {
 pub fn image_of(
     script: &[u8],
     characters: &[u8],
+    marks: &[usize; 4097],
     nodes: &[u32],
     attributes: &[u32],
     counts: Counts,
     i: u32,
     hint: Cursor,
 ) -> Image
-    requires { ⌜ Mendable (now script) (now characters) (now nodes) (now attributes) counts hint ⌝ }
+    requires { ⌜ Mendable (now script) (now characters) (now marks) (now nodes) (now attributes) counts hint ⌝ }
     requires { ⌜ i < counts .nodes ⌝ }
     requires { ⌜ word (now nodes) i 0 ≡ ELEMENT ⌝ }
     ensures same { λ r. ⌜ r .node ≡ recursiveFeImage (now (characters .entry)) (valuesOf (now (script .entry)) (now (characters .entry)))
         (seenOf (now (nodes .entry)) (now (attributes .entry)) counts) i ⌝ }
     ensures fit { λ r. ⌜ (r .node ≤ counts .nodes) × Fit (now (script .entry)) (r .hint) ⌝ }
 {
-    match link_of(script, characters, nodes, attributes, i, aid::HREF, 1, hint) {
+    match link_of(
+        script,
+        characters,
+        marks,
+        nodes,
+        attributes,
+        i,
+        aid::HREF,
+        1,
+        hint,
+    ) {
         FoundLink::At(start, len, c) => {
             let target = part_at(characters, start, len);
             let w = last_with_id(nodes, attributes, characters, target, counts.nodes);
@@ -50,7 +61,7 @@ pub fn image_of(
             }
             let parent = node_word(nodes, i, word::PARENT);
             let id = attribute_id(nodes, attributes, parent - 1, aid::ID);
-            let f = has_filter(script, characters, nodes, attributes, w - 1, id, c);
+            let f = has_filter(script, characters, marks, nodes, attributes, w - 1, id, c);
             let place = f.hint;
             if f.back {
                 return Image {

@@ -19,13 +19,14 @@ ghost use Rattle.repair.specs.Passes.{imageCuts};
 fn cut_image(
     script: &[u8],
     characters: &[u8],
+    marks: &[usize; 4097],
     nodes: &[u32],
     attributes: &mut [u32],
     counts: Counts,
     i: u32,
     hint: Cursor,
 ) -> Cursor
-    requires { ⌜ Mendable (now script) (now characters) (now nodes) (now attributes) counts hint ⌝ }
+    requires { ⌜ Mendable (now script) (now characters) (now marks) (now nodes) (now attributes) counts hint ⌝ }
     requires { ⌜ i < counts .nodes ⌝ }
     ensures tables { λ r. ⌜ seenOf (now (nodes .entry)) (now (attributes .exit)) counts
         ≡ applied (seenOf (now (nodes .entry)) (now (attributes .entry)) counts)
@@ -36,7 +37,16 @@ fn cut_image(
     if !is_named(nodes, eid::FE_IMAGE, i) {
         return hint;
     }
-    let image = image_of(script, characters, nodes, attributes, counts, i, hint);
+    let image = image_of(
+        script,
+        characters,
+        marks,
+        nodes,
+        attributes,
+        counts,
+        i,
+        hint,
+    );
     let place = image.hint;
     let node = image.node;
     if node == 0 {
@@ -50,12 +60,13 @@ fn cut_image(
 pub fn cut_images(
     script: &[u8],
     characters: &[u8],
+    marks: &[usize; 4097],
     nodes: &[u32],
     attributes: &mut [u32],
     counts: Counts,
     hint: Cursor,
 ) -> Cursor
-    requires { ⌜ Mendable (now script) (now characters) (now nodes) (now attributes) counts hint ⌝ }
+    requires { ⌜ Mendable (now script) (now characters) (now marks) (now nodes) (now attributes) counts hint ⌝ }
     ensures tables { λ r. ⌜ seenOf (now (nodes .entry)) (now (attributes .exit)) counts
         ≡ applied (seenOf (now (nodes .entry)) (now (attributes .entry)) counts)
         (passOn (now (characters .entry)) (valuesOf (now (script .entry)) (now (characters .entry))) 6
@@ -65,7 +76,7 @@ pub fn cut_images(
     let mut c = hint;
     let mut i = 0;
     while i < counts.nodes {
-        c = cut_image(script, characters, nodes, attributes, counts, i, c);
+        c = cut_image(script, characters, marks, nodes, attributes, counts, i, c);
         i += 1;
     }
     c

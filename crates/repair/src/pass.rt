@@ -51,6 +51,7 @@ pub fn is_named(nodes: &[u32], code: u32, i: u32) -> bool
 fn cut_named(
     script: &[u8],
     characters: &[u8],
+    marks: &[usize; 4097],
     nodes: &[u32],
     attributes: &mut [u32],
     counts: Counts,
@@ -59,7 +60,7 @@ fn cut_named(
     i: u32,
     hint: Cursor,
 ) -> Cursor
-    requires { ⌜ Mendable (now script) (now characters) (now nodes) (now attributes) counts hint ⌝ }
+    requires { ⌜ Mendable (now script) (now characters) (now marks) (now nodes) (now attributes) counts hint ⌝ }
     requires { ⌜ (1 ≤ pass) × (pass ≤ 5) ⌝ }
     requires { ⌜ i < counts .nodes ⌝ }
     ensures tables { λ r. ⌜ seenOf (now (nodes .entry)) (now (attributes .exit)) counts
@@ -71,20 +72,31 @@ fn cut_named(
     if !is_named(nodes, code, i) {
         return hint;
     }
-    cut_element(script, characters, nodes, attributes, counts, pass, i, hint)
+    cut_element(
+        script,
+        characters,
+        marks,
+        nodes,
+        attributes,
+        counts,
+        pass,
+        i,
+        hint,
+    )
 }
 
 // One of the passes 1 to 5.
 pub fn cut_pass(
     script: &[u8],
     characters: &[u8],
+    marks: &[usize; 4097],
     nodes: &[u32],
     attributes: &mut [u32],
     counts: Counts,
     pass: u32,
     hint: Cursor,
 ) -> Cursor
-    requires { ⌜ Mendable (now script) (now characters) (now nodes) (now attributes) counts hint ⌝ }
+    requires { ⌜ Mendable (now script) (now characters) (now marks) (now nodes) (now attributes) counts hint ⌝ }
     requires { ⌜ (1 ≤ pass) × (pass ≤ 5) ⌝ }
     ensures tables { λ r. ⌜ seenOf (now (nodes .entry)) (now (attributes .exit)) counts
         ≡ applied (seenOf (now (nodes .entry)) (now (attributes .entry)) counts)
@@ -99,6 +111,7 @@ pub fn cut_pass(
         c = cut_named(
             script,
             characters,
+            marks,
             nodes,
             attributes,
             counts,

@@ -57,7 +57,7 @@ cut-below-requires c κs =
     let pre = at-lead-of .before .before .before .before .before .before .pre in
     let fit′ = lead-fit _ _ _ _ _ (c .before .before .before .before .before .before .start .given .1)
     (at-lead-of .lead-of .ensures .1) in (
-      record { drawn = record { checked = pre .0 .drawn .checked; fit = fit′ .1 .1 }; tidy = pre .0 .tidy },
+      record { drawn = record { checked = pre .0 .drawn .checked; marked = pre .0 .drawn .marked; fit = fit′ .1 .1 }; tidy = pre .0 .tidy },
       (pre .1 .0, omega (arith, c .before .before .last-with-id .ensures .1, c .before .if1 .left)),
     )
 

@@ -36,8 +36,8 @@ sub-number c = search needs
 cast-number : tie.Need-cast-number
 cast-number c = search needs
 
-seek-requires : tie.Need-seek-requires
-seek-requires c κs = search needs
+seek-near-requires : tie.Need-seek-near-requires
+seek-near-requires c κs = search needs
 
 any-id-at-requires : tie.Need-any-id-at-requires
 any-id-at-requires c κs = search needs
@@ -47,8 +47,8 @@ returns-3 c = (
   any-there _ _ _ AId.Filter _ 4 _ (c .before .before .before .before .before .attribute-of .ensures .0)
       (c .before .before .before .before .before .before .before .before .before .before .pre .0 .checked)
       (c .before .before .before .before .if1 .left) _ (c .before .before .before .entry-word .ensures) _
-      (c .before .before .if2 .left) _ (c .before .seek .ensures .0) _ (c .any-id-at .ensures),
-  c .before .seek .ensures .1,
+      (c .before .before .if2 .left) _ (c .before .seek-near .ensures .0) _ (c .any-id-at .ensures),
+  c .before .seek-near .ensures .1,
 )
 
 pub has-filter-spec : {M : Type 1} → statement M
@@ -62,6 +62,6 @@ has-filter-spec =
     returns-2
     sub-number
     cast-number
-    seek-requires
+    seek-near-requires
     any-id-at-requires
     returns-3)

@@ -38,8 +38,8 @@ sub-number c = search needs
 cast-number : tie.Need-cast-number
 cast-number c = search needs
 
-seek-requires : tie.Need-seek-requires
-seek-requires c κs = search needs
+seek-near-requires : tie.Need-seek-near-requires
+seek-near-requires c κs = search needs
 
 reading-at-requires : tie.Need-reading-at-requires
 reading-at-requires c κs = search needs
@@ -56,9 +56,9 @@ returns-3 c =
       link-there _ _ _ _ _ _ _ (at-seek .before .before .before .before .attribute-of .ensures .0)
           (at-seek .before .before .before .before .before .before .before .before .before .pre .0 .checked)
           (at-seek .before .before .before .if1 .left) _ (at-seek .before .before .entry-word .ensures) (at-seek .before .if2 .left) _
-          (at-seek .seek .ensures .0) _
+          (at-seek .seek-near .ensures .0) _
           (sym (ap (partOf _) (c .before .start .given .1)) ∙ c .before .before .before .reading-at .ensures .0),
-      (subst PartFit (c .before .start .given .1) (c .before .before .before .reading-at .ensures .1), at-seek .seek .ensures .1),
+      (subst PartFit (c .before .start .given .1) (c .before .before .before .reading-at .ensures .1), at-seek .seek-near .ensures .1),
     )
 
 returns-4 : tie.Need-returns-4
@@ -67,9 +67,9 @@ returns-4 c =
     let at-if1 = at-seek .before .before .before in (
       link-there _ _ _ _ _ _ _ (at-if1 .before .attribute-of .ensures .0)
           (at-if1 .before .before .before .before .before .before .pre .0 .checked) (at-if1 .if1 .left) _
-          (at-seek .before .before .entry-word .ensures) (at-seek .before .if2 .left) _ (at-seek .seek .ensures .0) _
+          (at-seek .before .before .entry-word .ensures) (at-seek .before .if2 .left) _ (at-seek .seek-near .ensures .0) _
           (sym (ap (partOf _) (c .enum-told .given .1)) ∙ c .before .before .reading-at .ensures .0),
-      at-seek .seek .ensures .1,
+      at-seek .seek-near .ensures .1,
     )
 
 pub link-of-spec : {M : Type 1} → statement M
@@ -83,7 +83,7 @@ link-of-spec =
     returns-2
     sub-number
     cast-number
-    seek-requires
+    seek-near-requires
     reading-at-requires
     enum-known-start
     enum-told

@@ -69,7 +69,7 @@ has-filter-requires c κs =
     let pre = at-link-of .before .before .before .before .before .pre .0 in
     let told = link-told _ _ _ _ _ (c .before .before .before .before .before .before .start .given .1)
     (at-link-of .link-of .ensures .0) (at-link-of .link-of .ensures .1) in (
-      record { checked = pre .drawn .checked; fit = told .1 .1 },
+      record { checked = pre .drawn .checked; marked = pre .drawn .marked; fit = told .1 .1 },
       (
         readable-in _ _ (pre .tidy .kept) _
             (omega (arith, c .before .before .before .last-with-id .ensures .1, c .before .before .if1 .left)),
