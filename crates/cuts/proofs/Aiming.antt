@@ -16,6 +16,7 @@ use Rattle.tree.proofs.Alike.{id-same, last-same}
 use Rattle.tree.proofs.Facts.{readable}
 use Rattle.leads.specs.Links.{KnownIn}
 use Rattle.cuts.specs.Seen.{Aimed}
+use Rattle.cuts.proofs.Writing.{id-seen}
 
 pub known-in : (size : ℕ) (t : Tree) → Kept size t → (i : ℕ) → i < t .nodeCount → KnownIn size (readOf (t .nodes) (t .attributes)) i
 unfolding entryAt
@@ -24,11 +25,7 @@ known-in size t s i l = record {
   entries = λ e j m. s .entries j (omega (arith, s .nodes i l .range e .1));
 }
 
--- The id of an element, and the search for it, in the tables as they are lent.
-id-seen : (chars : List ℕ) (t : Tree) (i : ℕ) → elementId chars (readOf (t .nodes) (t .attributes)) i ≡ elementId chars t i
-unfolding elementId entryAt
-id-seen chars t i = ap (λ (j : ℕ). pick (eqb j 0) (λ u. []) (λ u. valueAtEntry chars t j)) (id-same t i AId.Id)
-
+-- The search for an id, in the tables as they are lent.
 pub last-seen : (chars : List ℕ) (t : Tree) (i : ℕ)
     → lastWithId chars (readOf (t .nodes) (t .attributes)) (elementId chars (readOf (t .nodes) (t .attributes)) i) (t .nodeCount)
     ≡ elementById chars t (elementId chars t i)

@@ -195,26 +195,26 @@ unled-nodes chars values t aim w h j = rw (never j) (go (eqb (targetOf chars val
 -- THE LOOP
 
 -- In the middle of the nodes from `first` up to the node `end`: j is next, and what is still to do leaves what all of it leaves.
-pub record Pairs (script chars marks ns : List ℕ) (c : Counts) (aim : Aim) (first end : ℕ) (es₀ es : List ℕ) (j : ℕ) (hint : Cursor)
+pub record Pairs (script chars marks heads ns : List ℕ) (c : Counts) (aim : Aim) (first end : ℕ) (es₀ es : List ℕ) (j : ℕ) (hint : Cursor)
     : Type 0 where
-  pub mendable : Mendable script chars marks ns es c hint
+  pub mendable : Mendable script chars marks heads ns es c hint
   pub aimed : Aimed chars (seenOf ns es c) aim
   pub inside : end ≤ c .nodes
   pub long : length es ≡ length es₀
   pub same : cutPairs chars (valuesOf script chars) (aim .pass) (seenOf ns es c) (withEach (aim .element) (upFrom j (end - j)) [])
       ≡ cutPairs chars (valuesOf script chars) (aim .pass) (seenOf ns es₀ c) (withEach (aim .element) (upFrom first (end - first)) [])
 
-pub pairs-start : (script chars marks ns : List ℕ) (c : Counts) (aim : Aim) (first end : ℕ) (es : List ℕ) (hint : Cursor)
-    → Mendable script chars marks ns es c hint → Aimed chars (seenOf ns es c) aim → end ≤ c .nodes
-    → Pairs script chars marks ns c aim first end es es first hint
-pairs-start script chars marks ns c aim first end es hint g a h = record { mendable = g; aimed = a; inside = h; long = refl; same = refl }
+pub pairs-start : (script chars marks heads ns : List ℕ) (c : Counts) (aim : Aim) (first end : ℕ) (es : List ℕ) (hint : Cursor)
+    → Mendable script chars marks heads ns es c hint → Aimed chars (seenOf ns es c) aim → end ≤ c .nodes
+    → Pairs script chars marks heads ns c aim first end es es first hint
+pairs-start script chars marks heads ns c aim first end es hint g a h = record { mendable = g; aimed = a; inside = h; long = refl; same = refl }
 
-module _ (script chars marks ns : List ℕ) (c : Counts) (aim : Aim) (first end : ℕ) (es₀ es : List ℕ) (j : ℕ) (hint : Cursor)
-    (q : Pairs script chars marks ns c aim first end es₀ es j hint) where
+module _ (script chars marks heads ns : List ℕ) (c : Counts) (aim : Aim) (first end : ℕ) (es₀ es : List ℕ) (j : ℕ) (hint : Cursor)
+    (q : Pairs script chars marks heads ns c aim first end es₀ es j hint) where
   pub pairs-turn : j < end → (es′ : List ℕ) (n : Cursor)
       → seenOf ns es′ c ≡ cutNodes chars (valuesOf script chars) (aim .pass) (seenOf ns es c)
       (nodesAt chars (valuesOf script chars) (aim .pass) (seenOf ns es c) (aim .element) j)
-      → Fit script n → Pairs script chars marks ns c aim first end es₀ es′ (j + 1) n
+      → Fit script n → Pairs script chars marks heads ns c aim first end es₀ es′ (j + 1) n
   pairs-turn l es′ n e f =
       let t : Tree = seenOf ns es c in
       let vs : List Value = valuesOf script chars in
@@ -223,11 +223,11 @@ module _ (script chars marks ns : List ℕ) (c : Counts) (aim : Aim) (first end 
       let ms : List ℕ = nodesAt chars vs (aim .pass) t (aim .element) j in
       let cs : List Cut = cutsAlong chars vs (aim .pass) t ms in
       record {
-        mendable = mend-on script chars marks ns es c cs es′ e hint (q .mendable) n f;
+        mendable = mend-on script chars marks heads ns es c cs es′ e hint (q .mendable) n f;
         aimed = subst (λ (u : Tree). Aimed chars u aim) (sym e)
             (nodes-aimed (length chars) chars vs bare (aim .pass) other aim ms t (q .mendable .tidy) (q .aimed));
         inside = q .inside;
-        long = long-on script chars marks ns es c cs es′ e ∙ q .long;
+        long = long-on script chars marks heads ns es c cs es′ e ∙ q .long;
         same =
             ap (λ (u : Tree). cutPairs chars vs (aim .pass) u (withEach (aim .element) (upFrom (j + 1) (end - (j + 1))) [])) e
             ∙ sym (pair-first chars vs (aim .pass) (aim .element) t j (upFrom (j + 1) (end - (j + 1))) [])

@@ -261,8 +261,8 @@ module _ (size : ℕ) (chars : List ℕ) (values : List Value) (bare : readingsO
 -- THE LOOP
 
 -- In the middle of the nodes from w up to the node `end`: m is next, and what is still to do leaves what all of it leaves.
-pub record Cutting (script chars marks ns : List ℕ) (c : Counts) (aim : Aim) (w end : ℕ) (es₀ es : List ℕ) (m : ℕ) (hint : Cursor) : Type 0 where
-  pub mendable : Mendable script chars marks ns es c hint
+pub record Cutting (script chars marks heads ns : List ℕ) (c : Counts) (aim : Aim) (w end : ℕ) (es₀ es : List ℕ) (m : ℕ) (hint : Cursor) : Type 0 where
+  pub mendable : Mendable script chars marks heads ns es c hint
   pub aimed : Aimed chars (seenOf ns es c) aim
   pub high : m ≤ end
   pub inside : end ≤ c .nodes
@@ -272,10 +272,10 @@ pub record Cutting (script chars marks ns : List ℕ) (c : Counts) (aim : Aim) (
       ≡ cutNodes chars (valuesOf script chars) (aim .pass) (seenOf ns es₀ c)
       (passing (leadsTo chars (valuesOf script chars) (aim .pass) (seenOf ns es₀ c) (aim .element)) (upFrom w (end - w)))
 
-pub cutting-first : (script chars marks ns : List ℕ) (c : Counts) (aim : Aim) (w end : ℕ) (es : List ℕ) (hint : Cursor)
-    → Mendable script chars marks ns es c hint → Aimed chars (seenOf ns es c) aim → w < end → end ≤ c .nodes
-    → Cutting script chars marks ns c aim w end es es w hint
-cutting-first script chars marks ns c aim w end es hint g a l h = record {
+pub cutting-first : (script chars marks heads ns : List ℕ) (c : Counts) (aim : Aim) (w end : ℕ) (es : List ℕ) (hint : Cursor)
+    → Mendable script chars marks heads ns es c hint → Aimed chars (seenOf ns es c) aim → w < end → end ≤ c .nodes
+    → Cutting script chars marks heads ns c aim w end es es w hint
+cutting-first script chars marks heads ns c aim w end es hint g a l h = record {
   mendable = g;
   aimed = a;
   high = omega arith;
@@ -284,11 +284,11 @@ cutting-first script chars marks ns c aim w end es hint g a l h = record {
   same = refl;
 }
 
-module _ (script chars marks ns : List ℕ) (c : Counts) (aim : Aim) (w end : ℕ) (es₀ es : List ℕ) (m : ℕ) (hint : Cursor)
-    (q : Cutting script chars marks ns c aim w end es₀ es m hint) where
+module _ (script chars marks heads ns : List ℕ) (c : Counts) (aim : Aim) (w end : ℕ) (es₀ es : List ℕ) (m : ℕ) (hint : Cursor)
+    (q : Cutting script chars marks heads ns c aim w end es₀ es m hint) where
   pub cutting-turn : m < end → (es′ : List ℕ) (n : Cursor)
       → seenOf ns es′ c ≡ cutBack chars (valuesOf script chars) (aim .pass) (aim .element) (seenOf ns es c) m → Fit script n
-      → Cutting script chars marks ns c aim w end es₀ es′ (m + 1) n
+      → Cutting script chars marks heads ns c aim w end es₀ es′ (m + 1) n
   cutting-turn l es′ n e f =
       let t : Tree = seenOf ns es c in
       let vs : List Value = valuesOf script chars in
@@ -298,12 +298,12 @@ module _ (script chars marks ns : List ℕ) (c : Counts) (aim : Aim) (w end : �
       let cs : List Cut = pick (leadsTo chars vs (aim .pass) t (aim .element) m) (λ u. cutAt t (aim .pass) m ∷ []) (λ u. []) in
       let d : seenOf ns es′ c ≡ applied t cs = e ∙ back-cuts (length chars) chars vs bare (aim .pass) (aim .element) other t g m in
       record {
-        mendable = mend-on script chars marks ns es c cs es′ d hint (q .mendable) n f;
+        mendable = mend-on script chars marks heads ns es c cs es′ d hint (q .mendable) n f;
         aimed = subst (λ (u : Tree). Aimed chars u aim) (sym e)
             (back-aimed (length chars) chars vs bare (aim .pass) (aim .element) other t g m aim (q .aimed));
         high = omega arith;
         inside = q .inside;
-        long = long-on script chars marks ns es c cs es′ d ∙ q .long;
+        long = long-on script chars marks heads ns es c cs es′ d ∙ q .long;
         same =
             ap (λ (u : Tree). cutNodes chars vs (aim .pass) u
             (passing (leadsTo chars vs (aim .pass) u (aim .element)) (upFrom (m + 1) (end - (m + 1))))) e

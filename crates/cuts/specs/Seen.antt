@@ -13,7 +13,8 @@ use Rattle.model.specs.Theorems.Kept.{Tidy}
 use Rattle.model.specs.Theorems.GoingOn.{leadsTo, cutsAlong, goingOn}
 use Rattle.script.specs.declared.cursor.Cursor.{Cursor}
 use Rattle.tree.specs.declared.Counts.{Counts}
-use Rattle.tree.specs.Lent.{treeOf}
+use Rattle.tree.specs.Lent.{treeOf, readOf}
+use Rattle.ids.specs.Chains.{Indexed}
 use Rattle.leads.specs.declared.lead.Aim.{Aim}
 use Rattle.leads.specs.Links.{Drawn}
 
@@ -25,10 +26,12 @@ counted ns n = treeOf ns [] [] (record { nodes = n; attributes = 0; text = 0 })
 abbrev pub seenOf : List ℕ → List ℕ → Counts → Tree
 seenOf ns es c = treeOf ns es (replicate (c .text) 0) c
 
--- What the repairs ask: a drawing that check takes, marks of its script, a cursor in it, and tables that are tidy beside its characters.
-pub record Mendable (script chars marks ns es : List ℕ) (c : Counts) (hint : Cursor) : Type 0 where
+-- What the repairs ask: a drawing that check takes, marks of its script, a cursor in it, tables that are tidy beside its characters, and
+-- heads of the chains of their ids.
+pub record Mendable (script chars marks heads ns es : List ℕ) (c : Counts) (hint : Cursor) : Type 0 where
   pub drawn : Drawn script chars marks hint
   pub tidy : Tidy (length chars) (seenOf ns es c)
+  pub indexed : Indexed chars (readOf ns es) heads (c .nodes)
 
 -- An element that one of the passes 1 to 5 aims at. A pattern is led to by its id, any other element by links that find it.
 pub record Aimed (chars : List ℕ) (t : Tree) (aim : Aim) : Type 0 where

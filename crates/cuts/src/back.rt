@@ -19,6 +19,7 @@ fn cut_back(
     script: &[u8],
     characters: &[u8],
     marks: &[usize; 4097],
+    heads: &[u32; 8193],
     nodes: &[u32],
     attributes: &mut [u32],
     counts: Counts,
@@ -26,7 +27,7 @@ fn cut_back(
     m: u32,
     hint: Cursor,
 ) -> Cursor
-    requires { ⌜ Mendable (now script) (now characters) (now marks) (now nodes) (now attributes) counts hint ⌝ }
+    requires { ⌜ Mendable (now script) (now characters) (now marks) (now heads) (now nodes) (now attributes) counts hint ⌝ }
     requires { ⌜ Aimed (now characters) (seenOf (now nodes) (now attributes) counts) aim ⌝ }
     requires { ⌜ m < counts .nodes ⌝ }
     ensures tables { λ r. ⌜ seenOf (now (nodes .entry)) (now (attributes .exit)) counts
@@ -49,6 +50,7 @@ pub fn cut_below(
     script: &[u8],
     characters: &[u8],
     marks: &[usize; 4097],
+    heads: &[u32; 8193],
     nodes: &[u32],
     attributes: &mut [u32],
     counts: Counts,
@@ -56,7 +58,7 @@ pub fn cut_below(
     w: u32,
     hint: Cursor,
 ) -> Cursor
-    requires { ⌜ Mendable (now script) (now characters) (now marks) (now nodes) (now attributes) counts hint ⌝ }
+    requires { ⌜ Mendable (now script) (now characters) (now marks) (now heads) (now nodes) (now attributes) counts hint ⌝ }
     requires { ⌜ Aimed (now characters) (seenOf (now nodes) (now attributes) counts) aim ⌝ }
     requires { ⌜ w < counts .nodes ⌝ }
     ensures tables { λ r. ⌜ seenOf (now (nodes .entry)) (now (attributes .exit)) counts
@@ -75,6 +77,7 @@ pub fn cut_below(
             script,
             characters,
             marks,
+            heads,
             nodes,
             attributes,
             counts,

@@ -4,7 +4,8 @@ use crate::below::behind_below;
 use crate::below::first_with;
 use crate::cut::cut;
 use crate::cut::cut_name;
-use leads::last::is_last;
+use ids::find::find_id;
+use leads::last::is_led;
 use leads::lead::Aim;
 use leads::lead::Lead;
 use leads::lead::lead_of;
@@ -12,7 +13,6 @@ use names::aid;
 use script::cursor::Cursor;
 use tree::Counts;
 use tree::read::attribute_id;
-use tree::read::last_with_id;
 use walk::value::part_at;
 ghost use mathlib.Core.Path.{_≡_};
 ghost use mathlib.Core.List.{[]};
@@ -22,6 +22,8 @@ ghost use Rattle.model.specs.Repair.{upFrom, descendants};
 ghost use Rattle.model.specs.Theorems.Kept.{Kept};
 ghost use Rattle.model.specs.Theorems.GoingOn.{nodesAt, withEach};
 ghost use Rattle.script.specs.Step.{Fit};
+ghost use Rattle.tree.specs.Lent.{readOf};
+ghost use Rattle.ids.specs.Chains.{Indexed};
 ghost use Rattle.leads.specs.Links.{valuesOf};
 ghost use Rattle.cuts.specs.Seen.{seenOf, Mendable, Aimed, cutNodes, cutPairs};
 
@@ -30,6 +32,7 @@ fn cut_pair(
     script: &[u8],
     characters: &[u8],
     marks: &[usize; 4097],
+    heads: &[u32; 8193],
     nodes: &[u32],
     attributes: &mut [u32],
     counts: Counts,
@@ -37,7 +40,7 @@ fn cut_pair(
     j: u32,
     hint: Cursor,
 ) -> Cursor
-    requires { ⌜ Mendable (now script) (now characters) (now marks) (now nodes) (now attributes) counts hint ⌝ }
+    requires { ⌜ Mendable (now script) (now characters) (now marks) (now heads) (now nodes) (now attributes) counts hint ⌝ }
     requires { ⌜ Aimed (now characters) (seenOf (now nodes) (now attributes) counts) aim ⌝ }
     requires { ⌜ j < counts .nodes ⌝ }
     ensures tables { λ r. ⌜ seenOf (now (nodes .entry)) (now (attributes .exit)) counts
@@ -54,7 +57,7 @@ fn cut_pair(
         }
         Lead::On(start, len, c) => {
             let id = part_at(characters, start, len);
-            let w = last_with_id(nodes, attributes, characters, id, counts.nodes);
+            let w = find_id(nodes, attributes, characters, heads, id, counts.nodes);
             if w == 0 {
                 return c;
             }
@@ -62,6 +65,7 @@ fn cut_pair(
                 script,
                 characters,
                 marks,
+                heads,
                 nodes,
                 attributes,
                 counts,
@@ -80,11 +84,13 @@ fn aim_at(
     nodes: &[u32],
     attributes: &[u32],
     characters: &[u8],
+    heads: &[u32; 8193],
     counts: Counts,
     pass: u32,
     i: u32,
 ) -> Aim
     requires { ⌜ Kept (length (now characters)) (seenOf (now nodes) (now attributes) counts) ⌝ }
+    requires { ⌜ Indexed (now characters) (readOf (now nodes) (now attributes)) (now heads) (counts .nodes) ⌝ }
     requires { ⌜ (1 ≤ pass) × (pass ≤ 5) ⌝ }
     requires { ⌜ i < counts .nodes ⌝ }
     ensures aimed { λ r. ⌜ Aimed (now (characters .entry)) (seenOf (now (nodes .entry)) (now (attributes .entry)) counts) r ⌝ }
@@ -102,7 +108,7 @@ fn aim_at(
             led: true,
         };
     }
-    let led = is_last(nodes, attributes, characters, counts.nodes, i);
+    let led = is_led(nodes, attributes, characters, heads, counts.nodes, i);
     Aim {
         pass,
         element: i,
@@ -118,6 +124,7 @@ fn cut_pairs(
     script: &[u8],
     characters: &[u8],
     marks: &[usize; 4097],
+    heads: &[u32; 8193],
     nodes: &[u32],
     attributes: &mut [u32],
     counts: Counts,
@@ -126,7 +133,7 @@ fn cut_pairs(
     end: u32,
     hint: Cursor,
 ) -> Cursor
-    requires { ⌜ Mendable (now script) (now characters) (now marks) (now nodes) (now attributes) counts hint ⌝ }
+    requires { ⌜ Mendable (now script) (now characters) (now marks) (now heads) (now nodes) (now attributes) counts hint ⌝ }
     requires { ⌜ Aimed (now characters) (seenOf (now nodes) (now attributes) counts) aim ⌝ }
     requires { ⌜ end ≤ counts .nodes ⌝ }
     ensures tables { λ r. ⌜ seenOf (now (nodes .entry)) (now (attributes .exit)) counts
@@ -142,6 +149,7 @@ fn cut_pairs(
             script,
             characters,
             marks,
+            heads,
             nodes,
             attributes,
             counts,
@@ -160,6 +168,7 @@ pub fn cut_element(
     script: &[u8],
     characters: &[u8],
     marks: &[usize; 4097],
+    heads: &[u32; 8193],
     nodes: &[u32],
     attributes: &mut [u32],
     counts: Counts,
@@ -167,7 +176,7 @@ pub fn cut_element(
     i: u32,
     hint: Cursor,
 ) -> Cursor
-    requires { ⌜ Mendable (now script) (now characters) (now marks) (now nodes) (now attributes) counts hint ⌝ }
+    requires { ⌜ Mendable (now script) (now characters) (now marks) (now heads) (now nodes) (now attributes) counts hint ⌝ }
     requires { ⌜ (1 ≤ pass) × (pass ≤ 5) ⌝ }
     requires { ⌜ i < counts .nodes ⌝ }
     ensures tables { λ r. ⌜ seenOf (now (nodes .entry)) (now (attributes .exit)) counts
@@ -182,7 +191,7 @@ pub fn cut_element(
     if first == end {
         return hint;
     }
-    let aim = aim_at(nodes, attributes, characters, counts, pass, i);
+    let aim = aim_at(nodes, attributes, characters, heads, counts, pass, i);
     if !aim.led {
         return hint;
     }
@@ -190,6 +199,7 @@ pub fn cut_element(
         script,
         characters,
         marks,
+        heads,
         nodes,
         attributes,
         counts,

@@ -16,33 +16,13 @@ use Rattle.model.specs.Tables.{Tree, ELEMENT, kindOf, toOf, entryWord, entryAt,
 use Rattle.model.specs.Tables.{lastWithId, elementById}
 use Rattle.model.specs.Questions.{allBelow}
 use Rattle.model.specs.Repair.{elementId}
-use Rattle.tree.specs.Lent.{entriesOf, HeldBy}
+use Rattle.tree.specs.Lent.{entriesOf, ReadableIn, HeldBy}
 use Rattle.tree.proofs.Alike.{last-step}
 use Rattle.tree.proofs.Bools.{and-false}
 use Rattle.leads.specs.Links.{Known, KnownIn}
-use Rattle.leads.proofs.Comparing.{same-swap, same-eq, same-itself}
+use Rattle.ids.proofs.Values.{same-swap, same-eq, same-itself, read-fixed, read-part, own-id}
 
--- THE VALUES OF ENTRIES
-
-module _ (chars : List ℕ) (t : Tree) (j : ℕ) where
-  pub value-fixed : entryWord t j 4 ≡ 0 → valueOf chars (entryAt t j) ≡ fixedBytes (entryWord t j 2)
-  unfolding valueOf entryAt
-  value-fixed e = rw (eq-eqb (entryWord t j 4) 0 e) refl
-
-  pub value-part : (entryWord t j 4 ≡ 0 → ⊥)
-      → valueOf chars (entryAt t j) ≡ slice (entryWord t j 2) (entryWord t j 2 + entryWord t j 3) chars
-  unfolding valueOf entryAt
-  value-part e = rw (ne-eqb (entryWord t j 4) 0 e) refl
-
--- The same of words that were read.
-module _ (chars : List ℕ) (t : Tree) (j n : ℕ) (c : n ≡ entryWord t j 4) (s : ℕ) (a : s ≡ entryWord t j 2) where
-  pub read-fixed : n ≡ 0 → valueOf chars (entryAt t j) ≡ fixedBytes s
-  read-fixed z = value-fixed chars t j (sym c ∙ z) ∙ ap fixedBytes (sym a)
-
-  pub read-part : (n ≡ 0 → ⊥) → (l : ℕ) → l ≡ entryWord t j 3 → (p : List ℕ) → p ≡ slice s (s + l) chars → p ≡ valueOf chars (entryAt t j)
-  read-part z l b p q =
-      q ∙ ap (λ (x : ℕ). slice x (x + l) chars) a ∙ ap (λ (y : ℕ). slice (entryWord t j 2) (entryWord t j 2 + y) chars) b
-      ∙ sym (value-part chars t j (λ x. z (c ∙ x)))
+-- FIXED VALUES
 
 below-each : (f : ℕ → Bool) (n : ℕ) → allBelow f n ≡ true → (i : ℕ) → i < n → f i ≡ true
 unfolding allBelow
@@ -102,10 +82,6 @@ found-has chars t id (suc n) i e = go (hasIdBytes chars t id n) refl e (found-ha
 
 module _ (chars : List ℕ) (t : Tree) (i : ℕ) where
   -- An element that has an id, and one that has none.
-  pub own-id : (j : ℕ) → j ≡ attributeId t i AId.Id → (j ≡ 0 → ⊥) → elementId chars t i ≡ valueAtEntry chars t j
-  unfolding elementId
-  own-id j e h = rw (ne-eqb (attributeId t i AId.Id) 0 (λ z. h (e ∙ z)), ← e) refl
-
   pub has-own : (attributeId t i AId.Id ≡ 0 → ⊥) → hasIdBytes chars t (elementId chars t i) i ≡ true
   unfolding hasIdBytes elementId
   has-own h = rw (ne-eqb (attributeId t i AId.Id) 0 h) (same-itself (valueAtEntry chars t (attributeId t i AId.Id)))
@@ -182,3 +158,16 @@ known-entry size t i j r h z =
     let l : j ≤ toOf t i = h .last in
     let m : 5 * toOf t i ≤ length (t .attributes) = r .readable .range e in
     record { inside = omega arith; kept = r .entries e (j - 1) (omega arith) }
+
+pub known-readable : (size : ℕ) (t : Tree) (i : ℕ) → KnownIn size t i → ReadableIn size t i
+known-readable size t i r = record { readable = r .readable; values = λ e j l. r .entries e j l .inside }
+
+-- The id is a part of the characters: what it finds is compared with the element.
+pub led-by-part : (chars : List ℕ) (t : Tree) (i j count : ℕ) → j ≡ attributeId t i AId.Id → (j ≡ 0 → ⊥)
+    → (n : ℕ) → n ≡ entryWord t (j - 1) 4 → (n ≡ 0 → ⊥) → (s : ℕ) → s ≡ entryWord t (j - 1) 2 → (l : ℕ) → l ≡ entryWord t (j - 1) 3
+    → (p : List ℕ) → p ≡ slice s (s + l) chars → (w : ℕ) → w ≡ lastWithId chars t p count
+    → eqb w (i + 1) ≡ eqb (lastWithId chars t (elementId chars t i) count) (i + 1)
+led-by-part chars t i j count e z n c y s a l d p q w f =
+    ap (λ (x : ℕ). eqb x (i + 1))
+    (f ∙ ap (λ (id : List ℕ). lastWithId chars t id count)
+    (read-part chars t (j - 1) n c s a y l d p q ∙ sym (own-id chars t i j e z)))

@@ -1,4 +1,5 @@
 // Is an element the last one with its id? Then, and only then, do links with that id lead to it.
+use ids::find::find_id;
 use names::aid;
 use names::is_fixed;
 use tree::read::attribute_id;
@@ -14,6 +15,7 @@ ghost use Rattle.model.specs.Base.{sameBytes};
 ghost use Rattle.model.specs.Tables.{entryAt, valueOf, hasIdBytes, lastWithId};
 ghost use Rattle.model.specs.Repair.{elementId};
 ghost use Rattle.tree.specs.Lent.{readOf, entriesOf};
+ghost use Rattle.ids.specs.Chains.{Indexed};
 ghost use Rattle.leads.specs.Links.{Known, KnownIn};
 
 // Have two entries the same value?
@@ -55,8 +57,8 @@ fn has_same_id(nodes: &[u32], attributes: &[u32], characters: &[u8], m: u32, j: 
     same_value(attributes, characters, k - 1, j)
 }
 
-// Is element i the last of the first `count` nodes with its id?
-pub fn is_last(nodes: &[u32], attributes: &[u32], characters: &[u8], count: u32, i: u32) -> bool
+// Is element i the last of the first `count` nodes with its id? Each node behind it is compared.
+fn is_last(nodes: &[u32], attributes: &[u32], characters: &[u8], count: u32, i: u32) -> bool
     requires { ⌜ ((k : ℕ) → k < count → KnownIn (length (now characters)) (readOf (now nodes) (now attributes)) k) ⌝ }
     requires { ⌜ i < count ⌝ }
     ensures { λ r. ⌜ r ≡ eqb (lastWithId (now (characters .entry)) (readOf (now (nodes .entry)) (now (attributes .entry)))
@@ -74,4 +76,32 @@ pub fn is_last(nodes: &[u32], attributes: &[u32], characters: &[u8], count: u32,
         n -= 1;
     }
     true
+}
+
+// The same by the chains of ids. An id that is a fixed value stands in none.
+pub fn is_led(
+    nodes: &[u32],
+    attributes: &[u32],
+    characters: &[u8],
+    heads: &[u32; 8193],
+    count: u32,
+    i: u32,
+) -> bool
+    requires { ⌜ ((k : ℕ) → k < count → KnownIn (length (now characters)) (readOf (now nodes) (now attributes)) k) ⌝ }
+    requires { ⌜ Indexed (now characters) (readOf (now nodes) (now attributes)) (now heads) count ⌝ }
+    requires { ⌜ i < count ⌝ }
+    ensures { λ r. ⌜ r ≡ eqb (lastWithId (now (characters .entry)) (readOf (now (nodes .entry)) (now (attributes .entry)))
+        (elementId (now (characters .entry)) (readOf (now (nodes .entry)) (now (attributes .entry))) i) count) (i + 1) ⌝ }
+{
+    let j = attribute_id(nodes, attributes, i, aid::ID);
+    if j == 0 {
+        return false;
+    }
+    if entry_word(attributes, j - 1, word::COMMAND) == 0 {
+        return is_last(nodes, attributes, characters, count, i);
+    }
+    let start = entry_word(attributes, j - 1, word::START);
+    let size = entry_word(attributes, j - 1, word::SIZE);
+    let id = part_at(characters, start as usize, size);
+    find_id(nodes, attributes, characters, heads, id, count) == i + 1
 }

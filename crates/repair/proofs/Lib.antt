@@ -1,3 +1,4 @@
 pub mod Imaging
 pub mod Mending
 pub mod Passing
+pub mod Twins

@@ -7,7 +7,7 @@ use native.Mathlib.Omega.{arith}
 use native.Mathlib.Decide.{ℕ-discrete}
 use borrow.Author.Tests.{le-leb, ltb-false}
 use lib.Dec.{eqb, ltb}
-use lib.ListN.{length, length-replicate}
+use lib.ListN.{length, getD, replicate, length-replicate}
 use Rattle.model.specs.Base.{pick, or}
 use Rattle.model.specs.EId
 use Rattle.model.specs.Check.{check, checkFrom, starting, mostBytes}
@@ -25,7 +25,8 @@ use Rattle.script.specs.Step.{Fit, atStart}
 use Rattle.script.proofs.Commands.{placed-first}
 use Rattle.places.specs.Marks.{Marked}
 use Rattle.tree.specs.declared.Counts.{Counts}
-use Rattle.tree.specs.Lent.{treeOf}
+use Rattle.tree.specs.Lent.{treeOf, readOf}
+use Rattle.ids.specs.Chains.{Indexed}
 use Rattle.tree.proofs.Alike.{id-same}
 use Rattle.leads.specs.Links.{valuesOf}
 use Rattle.cuts.specs.Seen.{seenOf, Mendable}
@@ -126,8 +127,8 @@ tidy-seen size ns es bs c g = record {
 -- ONE PASS AFTER ANOTHER
 
 -- Before the passes ks: what they leave is what all passes leave of the tables at first.
-pub record Before (script chars marks ns : List ℕ) (c : Counts) (ks es₀ es : List ℕ) (hint : Cursor) : Type 0 where
-  pub mendable : Mendable script chars marks ns es c hint
+pub record Before (script chars marks heads ns : List ℕ) (c : Counts) (ks es₀ es : List ℕ) (hint : Cursor) : Type 0 where
+  pub mendable : Mendable script chars marks heads ns es c hint
   pub long : length es ≡ length es₀
   pub same : applied (seenOf ns es c) (passesOn chars (valuesOf script chars) ks (seenOf ns es c))
       ≡ applied (seenOf ns es₀ c) (passesOn chars (valuesOf script chars) (1 ∷ 2 ∷ 3 ∷ 4 ∷ 5 ∷ 6 ∷ []) (seenOf ns es₀ c))
@@ -143,36 +144,38 @@ small script chars h = go (ltb mostBytes (length script)) refl h
     go true p q = let z : _≡_ {A = ℕ} 1 0 = q in absurd (omega arith)
     go false p q = ltb-false _ _ p
 
-module _ (script chars marks ns : List ℕ) (c : Counts) (es₀ : List ℕ) where
-  pub before-all : check script chars ≡ 0 → Marked script marks → Tidy (length chars) (seenOf ns es₀ c) → (start : Cursor)
-      → start ≡ atStart → Before script chars marks ns c (1 ∷ 2 ∷ 3 ∷ 4 ∷ 5 ∷ 6 ∷ []) es₀ es₀ start
-  before-all h m g start e = record {
+module _ (script chars marks heads ns : List ℕ) (c : Counts) (es₀ : List ℕ) where
+  pub before-all : check script chars ≡ 0 → Marked script marks → Tidy (length chars) (seenOf ns es₀ c)
+      → Indexed chars (readOf ns es₀) heads (c .nodes) → (start : Cursor)
+      → start ≡ atStart → Before script chars marks heads ns c (1 ∷ 2 ∷ 3 ∷ 4 ∷ 5 ∷ 6 ∷ []) es₀ es₀ start
+  before-all h m g k start e = record {
     mendable = record {
       drawn = record { checked = h; marked = m; fit = placed-first script start e (small script chars h) };
       tidy = g;
+      indexed = k;
     };
     long = refl;
     same = refl;
   }
 
-  pub before-next : (k : ℕ) (ks es : List ℕ) (hint : Cursor) → Before script chars marks ns c (k ∷ ks) es₀ es hint → (es′ : List ℕ) (n : Cursor)
+  pub before-next : (k : ℕ) (ks es : List ℕ) (hint : Cursor) → Before script chars marks heads ns c (k ∷ ks) es₀ es hint → (es′ : List ℕ) (n : Cursor)
       → seenOf ns es′ c ≡ applied (seenOf ns es c) (passOn chars (valuesOf script chars) k (seenOf ns es c)) → Fit script n
-      → Before script chars marks ns c ks es₀ es′ n
+      → Before script chars marks heads ns c ks es₀ es′ n
   unfolding passesOn
   before-next k ks es hint q es′ n e f =
       let t : Tree = seenOf ns es c in
       let vs : List Value = valuesOf script chars in
       let cs : List Cut = passOn chars vs k t in
       record {
-        mendable = mend-on script chars marks ns es c cs es′ e hint (q .mendable) n f;
-        long = long-on script chars marks ns es c cs es′ e ∙ q .long;
+        mendable = mend-on script chars marks heads ns es c cs es′ e hint (q .mendable) n f;
+        long = long-on script chars marks heads ns es c cs es′ e ∙ q .long;
         same =
             ap (λ (u : Tree). applied u (passesOn chars vs ks u)) e
             ∙ sym (applied-more t cs (passesOn chars vs ks (applied t cs)))
             ∙ q .same;
       }
 
-  pub before-none : (es : List ℕ) (hint : Cursor) → Before script chars marks ns c [] es₀ es hint
+  pub before-none : (es : List ℕ) (hint : Cursor) → Before script chars marks heads ns c [] es₀ es hint
       → seenOf ns es c ≡ applied (seenOf ns es₀ c) (allPasses chars (valuesOf script chars) (seenOf ns es₀ c))
   unfolding passesOn applied
   before-none es hint q = q .same
@@ -268,3 +271,10 @@ unlinked chars values t h =
 
     none : (code : ℕ) → ((i : ℕ) → i < t .nodeCount → isNamed t code i ≡ false) → allNamed t code (upFrom 0 (t .nodeCount)) ≡ []
     none code k = none-named t code (t .nodeCount) 0 (λ m x y. k m (omega arith))
+
+-- Heads that are all 0: nothing is chained.
+pub heads-none : (length {A = ℕ} (replicate 8193 0) ≡ 8193) × ((b : ℕ) → _≡_ {A = ℕ} (getD (replicate 8193 0) b 0) 0)
+heads-none = (length-replicate {A = ℕ} 8193 0, replicate-zero 8193)
+
+pub indexed-none : (chars : List ℕ) (t : Tree) (n : ℕ) → Indexed chars t (replicate 8193 0) n
+indexed-none chars t n = record { chained = λ z. absurd (z (replicate-zero 8193 8192)) }

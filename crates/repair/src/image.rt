@@ -1,4 +1,5 @@
 // feImage: an image of an element whose own filters lead back to the filter in which the image stands.
+use ids::find::find_id;
 use leads::filter::has_filter;
 use leads::link::FoundLink;
 use leads::link::link_of;
@@ -6,7 +7,6 @@ use names::aid;
 use script::cursor::Cursor;
 use tree::Counts;
 use tree::read::attribute_id;
-use tree::read::last_with_id;
 use tree::word;
 use tree::word::node_word;
 use walk::value::part_at;
@@ -29,13 +29,14 @@ pub fn image_of(
     script: &[u8],
     characters: &[u8],
     marks: &[usize; 4097],
+    heads: &[u32; 8193],
     nodes: &[u32],
     attributes: &[u32],
     counts: Counts,
     i: u32,
     hint: Cursor,
 ) -> Image
-    requires { ⌜ Mendable (now script) (now characters) (now marks) (now nodes) (now attributes) counts hint ⌝ }
+    requires { ⌜ Mendable (now script) (now characters) (now marks) (now heads) (now nodes) (now attributes) counts hint ⌝ }
     requires { ⌜ i < counts .nodes ⌝ }
     requires { ⌜ word (now nodes) i 0 ≡ ELEMENT ⌝ }
     ensures same { λ r. ⌜ r .node ≡ recursiveFeImage (now (characters .entry)) (valuesOf (now (script .entry)) (now (characters .entry)))
@@ -55,7 +56,7 @@ pub fn image_of(
     ) {
         FoundLink::At(start, len, c) => {
             let target = part_at(characters, start, len);
-            let w = last_with_id(nodes, attributes, characters, target, counts.nodes);
+            let w = find_id(nodes, attributes, characters, heads, target, counts.nodes);
             if w == 0 {
                 return Image { node: 0, hint: c };
             }

@@ -20,13 +20,14 @@ fn cut_image(
     script: &[u8],
     characters: &[u8],
     marks: &[usize; 4097],
+    heads: &[u32; 8193],
     nodes: &[u32],
     attributes: &mut [u32],
     counts: Counts,
     i: u32,
     hint: Cursor,
 ) -> Cursor
-    requires { ⌜ Mendable (now script) (now characters) (now marks) (now nodes) (now attributes) counts hint ⌝ }
+    requires { ⌜ Mendable (now script) (now characters) (now marks) (now heads) (now nodes) (now attributes) counts hint ⌝ }
     requires { ⌜ i < counts .nodes ⌝ }
     ensures tables { λ r. ⌜ seenOf (now (nodes .entry)) (now (attributes .exit)) counts
         ≡ applied (seenOf (now (nodes .entry)) (now (attributes .entry)) counts)
@@ -41,6 +42,7 @@ fn cut_image(
         script,
         characters,
         marks,
+        heads,
         nodes,
         attributes,
         counts,
@@ -61,12 +63,13 @@ pub fn cut_images(
     script: &[u8],
     characters: &[u8],
     marks: &[usize; 4097],
+    heads: &[u32; 8193],
     nodes: &[u32],
     attributes: &mut [u32],
     counts: Counts,
     hint: Cursor,
 ) -> Cursor
-    requires { ⌜ Mendable (now script) (now characters) (now marks) (now nodes) (now attributes) counts hint ⌝ }
+    requires { ⌜ Mendable (now script) (now characters) (now marks) (now heads) (now nodes) (now attributes) counts hint ⌝ }
     ensures tables { λ r. ⌜ seenOf (now (nodes .entry)) (now (attributes .exit)) counts
         ≡ applied (seenOf (now (nodes .entry)) (now (attributes .entry)) counts)
         (passOn (now (characters .entry)) (valuesOf (now (script .entry)) (now (characters .entry))) 6
@@ -76,7 +79,17 @@ pub fn cut_images(
     let mut c = hint;
     let mut i = 0;
     while i < counts.nodes {
-        c = cut_image(script, characters, marks, nodes, attributes, counts, i, c);
+        c = cut_image(
+            script,
+            characters,
+            marks,
+            heads,
+            nodes,
+            attributes,
+            counts,
+            i,
+            c,
+        );
         i += 1;
     }
     c

@@ -52,6 +52,7 @@ fn cut_named(
     script: &[u8],
     characters: &[u8],
     marks: &[usize; 4097],
+    heads: &[u32; 8193],
     nodes: &[u32],
     attributes: &mut [u32],
     counts: Counts,
@@ -60,7 +61,7 @@ fn cut_named(
     i: u32,
     hint: Cursor,
 ) -> Cursor
-    requires { ⌜ Mendable (now script) (now characters) (now marks) (now nodes) (now attributes) counts hint ⌝ }
+    requires { ⌜ Mendable (now script) (now characters) (now marks) (now heads) (now nodes) (now attributes) counts hint ⌝ }
     requires { ⌜ (1 ≤ pass) × (pass ≤ 5) ⌝ }
     requires { ⌜ i < counts .nodes ⌝ }
     ensures tables { λ r. ⌜ seenOf (now (nodes .entry)) (now (attributes .exit)) counts
@@ -76,6 +77,7 @@ fn cut_named(
         script,
         characters,
         marks,
+        heads,
         nodes,
         attributes,
         counts,
@@ -90,13 +92,14 @@ pub fn cut_pass(
     script: &[u8],
     characters: &[u8],
     marks: &[usize; 4097],
+    heads: &[u32; 8193],
     nodes: &[u32],
     attributes: &mut [u32],
     counts: Counts,
     pass: u32,
     hint: Cursor,
 ) -> Cursor
-    requires { ⌜ Mendable (now script) (now characters) (now marks) (now nodes) (now attributes) counts hint ⌝ }
+    requires { ⌜ Mendable (now script) (now characters) (now marks) (now heads) (now nodes) (now attributes) counts hint ⌝ }
     requires { ⌜ (1 ≤ pass) × (pass ≤ 5) ⌝ }
     ensures tables { λ r. ⌜ seenOf (now (nodes .entry)) (now (attributes .exit)) counts
         ≡ applied (seenOf (now (nodes .entry)) (now (attributes .entry)) counts)
@@ -112,6 +115,7 @@ pub fn cut_pass(
             script,
             characters,
             marks,
+            heads,
             nodes,
             attributes,
             counts,

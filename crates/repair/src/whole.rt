@@ -2,6 +2,9 @@
 use crate::images::cut_images;
 use crate::linked::any_linked;
 use crate::pass::cut_pass;
+use ids::chain::chain;
+use ids::plain::is_plain;
+use ids::plain::unchain;
 use places::marks::set_marks;
 use script::cursor::Cursor;
 use tree::Counts;
@@ -13,7 +16,8 @@ ghost use Rattle.model.specs.Check.{check};
 ghost use Rattle.model.specs.Repair.{applied, repaired};
 ghost use Rattle.model.specs.Theorems.Kept.{Tidy};
 ghost use Rattle.places.specs.Marks.{Marked};
-ghost use Rattle.tree.specs.Lent.{treeOf};
+ghost use Rattle.tree.specs.Lent.{treeOf, readOf};
+ghost use Rattle.ids.specs.Chains.{Indexed};
 ghost use Rattle.leads.specs.Links.{valuesOf};
 ghost use Rattle.cuts.specs.Seen.{seenOf};
 ghost use Rattle.repair.specs.Passes.{allPasses};
@@ -23,6 +27,7 @@ fn mend(
     script: &[u8],
     characters: &[u8],
     marks: &[usize; 4097],
+    heads: &[u32; 8193],
     nodes: &[u32],
     attributes: &mut [u32],
     counts: Counts,
@@ -30,6 +35,7 @@ fn mend(
     requires { ⌜ check (now script) (now characters) ≡ 0 ⌝ }
     requires { ⌜ Marked (now script) (now marks) ⌝ }
     requires { ⌜ Tidy (length (now characters)) (seenOf (now nodes) (now attributes) counts) ⌝ }
+    requires { ⌜ Indexed (now characters) (readOf (now nodes) (now attributes)) (now heads) (counts .nodes) ⌝ }
     ensures { λ _. ⌜ seenOf (now (nodes .entry)) (now (attributes .exit)) counts
         ≡ applied (seenOf (now (nodes .entry)) (now (attributes .entry)) counts)
         (allPasses (now (characters .entry)) (valuesOf (now (script .entry)) (now (characters .entry)))
@@ -40,6 +46,7 @@ fn mend(
         script,
         characters,
         marks,
+        heads,
         nodes,
         attributes,
         counts,
@@ -50,6 +57,7 @@ fn mend(
         script,
         characters,
         marks,
+        heads,
         nodes,
         attributes,
         counts,
@@ -60,6 +68,7 @@ fn mend(
         script,
         characters,
         marks,
+        heads,
         nodes,
         attributes,
         counts,
@@ -70,6 +79,7 @@ fn mend(
         script,
         characters,
         marks,
+        heads,
         nodes,
         attributes,
         counts,
@@ -80,6 +90,7 @@ fn mend(
         script,
         characters,
         marks,
+        heads,
         nodes,
         attributes,
         counts,
@@ -90,6 +101,7 @@ fn mend(
         script,
         characters,
         marks,
+        heads,
         nodes,
         attributes,
         counts,
@@ -98,7 +110,7 @@ fn mend(
 }
 
 // The attributes with the repairs, whatever the text table has: no repair reads it. Where no element has links to repair, the nodes are
-// looked through once, and no mark is set.
+// looked through once, and nothing else is done. Words of importance other than 0 and 1 leave no room for the chains of ids.
 pub fn repair(
     script: &[u8],
     characters: &[u8],
@@ -117,5 +129,28 @@ pub fn repair(
     }
     let mut marks: [usize; 4097] = [0; 4097];
     set_marks(script, characters, &mut marks);
-    mend(script, characters, &marks, nodes, attributes, counts);
+    let mut heads: [u32; 8193] = [0; 8193];
+    if !is_plain(attributes, counts.attributes) {
+        mend(
+            script,
+            characters,
+            &marks,
+            &heads,
+            nodes,
+            attributes,
+            counts,
+        );
+        return;
+    }
+    chain(nodes, attributes, characters, &mut heads, counts);
+    mend(
+        script,
+        characters,
+        &marks,
+        &heads,
+        nodes,
+        attributes,
+        counts,
+    );
+    unchain(attributes, counts.attributes);
 }

@@ -6,11 +6,11 @@ use Rattle.cuts.proofs.back.cut_below.Statement.{statement}
 use Rattle.cuts.proofs.back.cut_below.Tie as tie
 
 abbrev Inv-loop : tie.InvT-loop
-Inv-loop script characters marks nodes attributes₀ counts aim w end c₀ m₀ attributes c m =
-    Cutting script characters marks nodes counts aim w end attributes₀ attributes m c
+Inv-loop script characters marks heads nodes attributes₀ counts aim w end c₀ m₀ attributes c m =
+    Cutting script characters marks heads nodes counts aim w end attributes₀ attributes m c
 
 abbrev μ-loop : tie.MeasureT-loop
-μ-loop script characters marks nodes attributes₀ counts aim w end c₀ m₀ attributes c m = end - m
+μ-loop script characters marks heads nodes attributes₀ counts aim w end c₀ m₀ attributes c m = end - m
 
 behind-below-requires : tie.Need-behind-below-requires Inv-loop μ-loop
 behind-below-requires c κs = (
@@ -20,7 +20,7 @@ behind-below-requires c κs = (
 
 loop-holds : tie.Need-loop-holds Inv-loop μ-loop
 loop-holds c =
-    cutting-first _ _ _ _ _ _ _ _ _ _ (c .before .before .before .before .before .pre .0)
+    cutting-first _ _ _ _ _ _ _ _ _ _ _ (c .before .before .before .before .before .pre .0)
     (c .before .before .before .before .before .pre .1 .0) (c .behind-below .ensures .1 .0) (c .behind-below .ensures .1 .1)
 
 cut-back-requires : tie.Need-cut-back-requires Inv-loop μ-loop
@@ -37,7 +37,7 @@ loop-less c = omega arith
 
 loop-again : tie.Need-loop-again Inv-loop μ-loop
 loop-again c =
-    cutting-turn _ _ _ _ _ _ _ _ _ _ _ _ (c .before .before .before .before .before .loop .inv)
+    cutting-turn _ _ _ _ _ _ _ _ _ _ _ _ _ (c .before .before .before .before .before .loop .inv)
     (c .before .before .before .before .loop-test .taken) _ _ (c .before .before .cut-back .ensures .0)
     (c .before .before .cut-back .ensures .1)
 
@@ -47,7 +47,7 @@ same-length c = c .before .loop .inv .long
 returns : tie.Need-returns Inv-loop μ-loop
 returns c =
     let args = c .before .before .before .before .before .before .before .args in (
-      cutting-done _ _ _ _ _ _ _ _ _ _ _ _ (c .before .loop .inv) (c .loop-test .left)
+      cutting-done _ _ _ _ _ _ _ _ _ _ _ _ _ (c .before .loop .inv) (c .loop-test .left)
           ∙ below-seen _ _ _ _ (args .counts) (args .aim) (args .w) _ (c .before .before .behind-below .ensures .0),
       c .before .loop .inv .mendable .drawn .fit,
     )

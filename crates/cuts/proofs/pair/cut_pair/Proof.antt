@@ -29,10 +29,10 @@ part-at-requires c κs =
     let fit′ = lead-fit _ _ _ _ _ (c .before .start .given .1) (c .before .before .before .lead-of .ensures .1) in
     fit′ .1 .0
 
-last-with-id-requires : tie.Need-last-with-id-requires
-last-with-id-requires c κs =
-    λ k l. readable-in _ _
-    (c .before .before .before .before .before .before .before .before .before .before .before .pre .0 .tidy .kept) k l
+find-id-requires : tie.Need-find-id-requires
+find-id-requires c κs =
+    let pre = c .before .before .before .before .before .before .before .before .before .before .before .pre .0 in
+    ((λ k l. readable-in _ _ (pre .tidy .kept) k l), pre .indexed)
 
 same-length : tie.Need-same-length
 same-length c = search needs
@@ -45,7 +45,7 @@ returns c =
     let on = back-told _ _ _ _ _ _ pre _ _ _ (at-start .start .given .1) (at-start .before .before .lead-of .ensures .0) in
     let fit′ = lead-fit _ _ _ _ _ (at-start .start .given .1) (at-start .before .before .lead-of .ensures .1) in
     let target = target-on _ _ _ _ _ _ pre _ _ (fit′ .0) _ (c .before .before .before .part-at .ensures) _
-    (c .before .last-with-id .ensures .0) in
+    (c .before .find-id .ensures .0) in
     (pair-nowhere _ _ _ _ _ _ pre _ on (sym target ∙ c .if1 .taken), fit′ .1 .1)
 
 sub-cut-below : tie.Need-sub-cut-below
@@ -57,8 +57,8 @@ cut-below-requires c κs =
     let pre = at-lead-of .before .before .before .before .before .before .pre in
     let fit′ = lead-fit _ _ _ _ _ (c .before .before .before .before .before .before .start .given .1)
     (at-lead-of .lead-of .ensures .1) in (
-      record { drawn = record { checked = pre .0 .drawn .checked; marked = pre .0 .drawn .marked; fit = fit′ .1 .1 }; tidy = pre .0 .tidy },
-      (pre .1 .0, omega (arith, c .before .before .last-with-id .ensures .1, c .before .if1 .left)),
+      record { drawn = record { checked = pre .0 .drawn .checked; marked = pre .0 .drawn .marked; fit = fit′ .1 .1 }; tidy = pre .0 .tidy; indexed = pre .0 .indexed },
+      (pre .1 .0, omega (arith, c .before .before .find-id .ensures .1, c .before .if1 .left)),
     )
 
 enum-known-c-2 : tie.Need-enum-known-c-2
@@ -82,14 +82,14 @@ same-length-3 c = search needs
 returns-3 : tie.Need-returns-3
 unfolding partAt
 returns-3 c =
-    let at-last-with-id = c .before .before .before .before .before in
-    let at-lead-of = at-last-with-id .before .before .before .before .before .before in
-    let start = at-last-with-id .before .before .before .before .start .given .1 in
+    let at-find-id = c .before .before .before .before .before in
+    let at-lead-of = at-find-id .before .before .before .before .before .before in
+    let start = at-find-id .before .before .before .before .start .given .1 in
     let pre = at-lead-of .before .before .before .before .before .before .pre .1 .0 in
     let on = back-told _ _ _ _ _ _ pre _ _ _ start (at-lead-of .lead-of .ensures .0) in
     let fit′ = lead-fit _ _ _ _ _ start (at-lead-of .lead-of .ensures .1) in
-    let target = target-on _ _ _ _ _ _ pre _ _ (fit′ .0) _ (at-last-with-id .before .before .part-at .ensures) _
-    (at-last-with-id .last-with-id .ensures .0) in (
+    let target = target-on _ _ _ _ _ _ pre _ _ (fit′ .0) _ (at-find-id .before .before .part-at .ensures) _
+    (at-find-id .find-id .ensures .0) in (
       c .before .before .cut-below .ensures .0
           ∙ pair-below _ _ _ _ _ _ pre _ on _ target (c .before .before .before .before .if1 .left),
       c .before .before .cut-below .ensures .1,
@@ -114,7 +114,7 @@ cut-pair-spec =
     cut-requires
     enum-known-start
     part-at-requires
-    last-with-id-requires
+    find-id-requires
     same-length
     returns
     sub-cut-below

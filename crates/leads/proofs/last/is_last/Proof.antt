@@ -5,7 +5,8 @@ use native.Mathlib.Omega.{arith}
 use Rattle.model.specs.Tables.{entryAt, hasIdBytes, lastWithId}
 use Rattle.model.specs.Repair.{elementId}
 use Rattle.tree.specs.Lent.{readOf}
-use Rattle.leads.proofs.Lasting.{own-id, last-absent, last-other, last-on, last-found, known-entry}
+use Rattle.ids.proofs.Values.{own-id}
+use Rattle.leads.proofs.Lasting.{last-absent, last-other, last-on, last-found, known-entry}
 use Rattle.leads.proofs.last.is_last.Statement.{statement}
 use Rattle.leads.proofs.last.is_last.Tie as tie
 

@@ -5,8 +5,9 @@ use Rattle.model.specs.Base.{sameBytes}
 use Rattle.model.specs.Names.{fixedBytes}
 use Rattle.model.specs.Tables.{entryAt, valueOf}
 use Rattle.tree.specs.Lent.{entriesOf}
-use Rattle.leads.proofs.Comparing.{same-swap}
-use Rattle.leads.proofs.Lasting.{read-fixed, read-part, both-fixed}
+use Rattle.ids.proofs.Values.{same-swap}
+use Rattle.ids.proofs.Values.{read-fixed, read-part}
+use Rattle.leads.proofs.Lasting.{both-fixed}
 use borrow.Author.Needs.{needs}
 use Rattle.leads.proofs.last.same_value.Statement.{statement}
 use Rattle.leads.proofs.last.same_value.Tie as tie

@@ -2,7 +2,7 @@ use mathlib.Core.Path.{_∙_}
 use mathlib.Core.List.{[]}
 use borrow.Author.Tests.{eq-eqb, ne-eqb}
 use Rattle.names.proofs.Compared.{same-empty}
-use Rattle.leads.proofs.Comparing.{same-swap}
+use Rattle.ids.proofs.Values.{same-swap}
 use borrow.Author.Needs.{needs}
 use Rattle.leads.proofs.lead.is_id.Statement.{statement}
 use Rattle.leads.proofs.lead.is_id.Tie as tie
