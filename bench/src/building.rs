@@ -149,8 +149,14 @@ pub fn build_table() {
 
 pub fn links_table() {
     head("links, likewise");
-    for n in [500, 1000, 2000] {
+    for n in [500, 1000, 2000, 32_000] {
         row(&format!("{n} clip paths, none leads back"), &drawings::clip_paths(n, false));
+    }
+    for n in [1000, 30_000] {
+        row(&format!("{n} clip paths, links to far ones"), &drawings::far_links(n));
+    }
+    for n in [1000, 13_000] {
+        row(&format!("{n} images of elements with filters"), &drawings::images(n));
     }
     for n in [150, 300, 600] {
         row(&format!("{n} clip paths, to the next and back"), &drawings::clip_paths(n, true));

@@ -3,6 +3,8 @@ use host::names::AId::{self, *};
 use host::scripts::Drawing;
 
 const CLIP_PATH: u8 = 2;
+const FE_IMAGE: u8 = 20;
+const FILTER: u8 = 30;
 const G: u8 = 31;
 const PATTERN: u8 = 38;
 const RECT: u8 = 42;
@@ -221,6 +223,41 @@ pub fn crossed(n: usize) -> Drawing {
                 link(d, Fill, 3, other);
                 d.close();
             }
+            d.close();
+        }
+    })
+}
+
+/// Clip paths, in each of which something is clipped by another one, far from it in the script, that leads to no third.
+pub fn far_links(n: usize) -> Drawing {
+    in_svg(|d| {
+        for i in 0..n {
+            d.open(CLIP_PATH, 1);
+            d.attribute(Id as u8, 0, format!("c{i}").as_bytes());
+            d.open(RECT, 1);
+            link(d, ClipPath, 2, &format!("c{}", (i * 7919 + 1) % n));
+            d.close();
+            d.close();
+        }
+    })
+}
+
+/// Filters with an image of something that has the next filter.
+pub fn images(n: usize) -> Drawing {
+    in_svg(|d| {
+        for i in 0..n {
+            d.open(FILTER, 1);
+            d.attribute(Id as u8, 0, format!("f{i}").as_bytes());
+            d.open(FE_IMAGE, 1);
+            href(d, 0, &format!("r{i}"));
+            d.close();
+            d.close();
+            d.open(RECT, 1);
+            d.attribute(Id as u8, 0, format!("r{i}").as_bytes());
+            let id = format!("f{}", (i + 1) % n);
+            d.attribute(Filter as u8, 0, format!("url(#{id})").as_bytes());
+            d.reading(2, 5, id.len() as u32);
+            d.reading(4, 5, id.len() as u32);
             d.close();
         }
     })

@@ -1,3 +1,4 @@
+pub mod Marking
 pub mod Readings
 pub mod Search
 pub mod Seeking

@@ -1,65 +1,22 @@
--- What a feImage cuts: the filter links of a node, and the node. Assumes nothing.
-use mathlib.Core.Path.{_≡_, refl, sym, ap, _∙_, subst}
+-- What a feImage cuts: the node that it leads to. Assumes nothing.
+use mathlib.Core.Path.{_≡_, refl, sym, ap, _∙_}
 use mathlib.Core.Bool.{Bool, true, false}
 use mathlib.Core.List.{List, []}
 use mathlib.Core.Option.{Option, none, some}
-use Prim.Native.Nat.{ℕ, _+_, _-_}
+use Prim.Native.Nat.{ℕ, _-_}
 use borrow.Author.Tests.{eq-eqb, ne-eqb}
 use lib.Dec.{eqb}
-use lib.Seq.{slice}
-use Rattle.model.specs.Base.{pick, given, sameBytes}
+use Rattle.model.specs.Base.{pick, given}
 use Rattle.model.specs.AId
 use Rattle.model.specs.Drawing.{Part, Value, readingsOf}
 use Rattle.model.specs.Tables.{Tree, word, parentOf, entryAt, entryWord, valueAtEntry, attributeId, lastWithId, elementById}
 use Rattle.model.specs.Repair.{anyReading, elementId, readingsOfAttribute, linkOf, nodeAttribute, recursiveFeImage}
-use Rattle.script.specs.declared.cursor.Cursor.{Cursor}
-use Rattle.script.specs.Step.{Fit}
-use Rattle.walk.specs.declared.value.NextReading.{NextReading}
-use Rattle.walk.specs.declared.value.NextReading.the-variants as read
-use Rattle.walk.specs.Values.{readingsIn}
-use Rattle.walk.proofs.Walks.{ReadingIs, reading-told}
-use Rattle.walk.proofs.Finding.{Reading, reading-first, any-kind, any-hit, any-miss, any-none}
 use Rattle.tree.specs.declared.Counts.{Counts}
 use Rattle.tree.specs.Lent.{readOf, entriesOf}
 use Rattle.tree.proofs.Alike.{id-same, attribute-same, last-same}
-use Rattle.repair.specs.declared.image.Look.{Look}
-use Rattle.repair.specs.declared.image.Look.the-variants as look
-use Rattle.repair.specs.Links.{valuesOf, idAt, Looked}
-use Rattle.repair.specs.Passes.{seenOf}
-use Rattle.repair.proofs.Turning.{link-seen}
-
--- ONE READING AFTER ANOTHER
-
-module _ (script chars id : List ℕ) (a : ℕ) (c : Cursor) (fit : Fit script c) (r : NextReading) where
-  module _ (k o l : ℕ) (n : Cursor) (t : r ≡ read.At k o l n) (i : ReadingIs script chars c a r) where
-    first : Reading (λ s a c. anyReading 4 id (readingsIn s chars a c)) script a c c
-    first = reading-first (λ s a c. anyReading 4 id (readingsIn s chars a c)) script a c fit
-
-    goes-on : Reading (λ s a c. anyReading 4 id (readingsIn s chars a c)) script a c n → Looked script chars id a c (look.On n)
-    goes-on w = (reading-told script chars c a r (read.At k o l n) t i .1 .further, (w .fit, w .same))
-
-    -- A reading of another kind.
-    pub looked-past : (k ≡ 4 → ⊥) → Looked script chars id a c (look.On n)
-    looked-past e = goes-on (any-kind script chars a 4 c c r k o l n t i id first e)
-
-    -- A filter link: it has the id, or another.
-    module _ (e : k ≡ 4) (p : List ℕ) (g : p ≡ slice o (o + l) chars) (q : Bool) (h : q ≡ sameBytes p id) where
-      pub looked-back : q ≡ true → Looked script chars id a c look.Back
-      looked-back z = any-hit script chars a 4 c c r k o l n t i id first e p g q h z
-
-      pub looked-on : q ≡ false → Looked script chars id a c (look.On n)
-      looked-on z = goes-on (any-miss script chars a 4 c c r k o l n t i id first e p g q h z)
-
-  pub looked-out : r ≡ read.End → ReadingIs script chars c a r → Looked script chars id a c look.Out
-  looked-out t i =
-      any-none script chars a 4 c c r id t i (reading-first (λ s a c. anyReading 4 id (readingsIn s chars a c)) script a c fit)
-
--- What was looked at, by its case.
-pub looked : (script chars id : List ℕ) (a : ℕ) (c : Cursor) (r x : Look) → r ≡ x → Looked script chars id a c r
-    → Looked script chars id a c x
-looked script chars id a c r x e f = subst (Looked script chars id a c) e f
-
--- THE NODE THAT IS CUT
+use Rattle.leads.specs.Links.{valuesOf, idAt}
+use Rattle.cuts.specs.Seen.{seenOf}
+use Rattle.cuts.proofs.Turning.{link-seen}
 
 -- The readings of an attribute, in the tables as they are lent.
 readings-seen : (chars : List ℕ) (values : List Value) (t : Tree) (a i : ℕ)

@@ -1,11 +1,4 @@
-pub mod Aiming
-pub mod Comparing
-pub mod Descending
 pub mod Imaging
-pub mod Lasting
-pub mod Linking
 pub mod Mending
-pub mod Pairing
 pub mod Passing
-pub mod Turning
-pub mod Writing
+pub mod Twins

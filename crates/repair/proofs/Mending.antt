@@ -1,31 +1,37 @@
 -- All passes, one after another, and the text table that they do not read. Assumes nothing.
 use mathlib.Core.Path.{_≡_, refl, sym, ap, _∙_}
-use mathlib.Core.Bool.{Bool, true, false}
+use mathlib.Core.Bool.{Bool, true, false, true≢false}
 use mathlib.Core.List.{List, [], _∷_}
-use Prim.Native.Nat.{ℕ, _-_, _≤_}
+use Prim.Native.Nat.{ℕ, zero, suc, _+_, _-_, _<_, _≤_}
 use native.Mathlib.Omega.{arith}
-use borrow.Author.Tests.{ltb-false}
+use native.Mathlib.Decide.{ℕ-discrete}
+use borrow.Author.Tests.{le-leb, ltb-false}
 use lib.Dec.{eqb, ltb}
-use lib.ListN.{length, length-replicate}
+use lib.ListN.{length, getD, replicate, length-replicate}
 use Rattle.model.specs.Base.{pick, or}
+use Rattle.model.specs.EId
 use Rattle.model.specs.Check.{check, checkFrom, starting, mostBytes}
 use Rattle.model.specs.Drawing.{Value, events, commands}
-use Rattle.model.specs.Tables.{Tree, entryAt, attributeId, setNone}
-use Rattle.model.specs.Repair.{Cut, cutName, applyCut, applied, repairs, repaired}
+use Rattle.model.specs.Tables.{Tree, isNamed, entryAt, attributeId, setNone}
+use Rattle.model.specs.Repair.{upFrom, allNamed, Cut, cutName, applyCut, applied, repairs, repaired}
 use Rattle.model.specs.Theorems.Unused.{replicate-zero}
 use Rattle.model.specs.Theorems.Inside.{all-inside}
 use Rattle.model.specs.Theorems.SameRepair.{repairs-same}
 use Rattle.model.specs.Theorems.Kept.{KeptNode, Tidy}
-use Rattle.model.specs.Theorems.Images.{passOn, passesOn, repairs-going-on, values-bare}
+use Rattle.model.specs.Theorems.GoingOn.{elementOf, pairsOf, goingOn}
+use Rattle.model.specs.Theorems.Images.{imagesOn, passOn, passesOn, repairs-going-on, values-bare}
 use Rattle.script.specs.declared.cursor.Cursor.{Cursor}
 use Rattle.script.specs.Step.{Fit, atStart}
 use Rattle.script.proofs.Commands.{placed-first}
+use Rattle.places.specs.Marks.{Marked}
 use Rattle.tree.specs.declared.Counts.{Counts}
-use Rattle.tree.specs.Lent.{treeOf}
+use Rattle.tree.specs.Lent.{treeOf, readOf}
+use Rattle.ids.specs.Chains.{Indexed}
 use Rattle.tree.proofs.Alike.{id-same}
-use Rattle.repair.specs.Links.{valuesOf}
-use Rattle.repair.specs.Passes.{seenOf, Mendable}
-use Rattle.repair.proofs.Writing.{applied-more, mend-on, long-on}
+use Rattle.leads.specs.Links.{valuesOf}
+use Rattle.cuts.specs.Seen.{seenOf, Mendable}
+use Rattle.repair.specs.Passes.{allPasses, isLinked}
+use Rattle.cuts.proofs.Writing.{applied-more, mend-on, long-on}
 
 -- THE TEXT TABLE
 
@@ -121,14 +127,14 @@ tidy-seen size ns es bs c g = record {
 -- ONE PASS AFTER ANOTHER
 
 -- Before the passes ks: what they leave is what all passes leave of the tables at first.
-pub record Before (script chars ns : List ℕ) (c : Counts) (ks es₀ es : List ℕ) (hint : Cursor) : Type 0 where
-  pub mendable : Mendable script chars ns es c hint
+pub record Before (script chars marks heads ns : List ℕ) (c : Counts) (ks es₀ es : List ℕ) (hint : Cursor) : Type 0 where
+  pub mendable : Mendable script chars marks heads ns es c hint
   pub long : length es ≡ length es₀
   pub same : applied (seenOf ns es c) (passesOn chars (valuesOf script chars) ks (seenOf ns es c))
       ≡ applied (seenOf ns es₀ c) (passesOn chars (valuesOf script chars) (1 ∷ 2 ∷ 3 ∷ 4 ∷ 5 ∷ 6 ∷ []) (seenOf ns es₀ c))
 
 -- What check says of the script's length.
-small : (script chars : List ℕ) → check script chars ≡ 0 → length script ≤ mostBytes
+pub small : (script chars : List ℕ) → check script chars ≡ 0 → length script ≤ mostBytes
 unfolding check
 small script chars h = go (ltb mostBytes (length script)) refl h
   where
@@ -138,42 +144,137 @@ small script chars h = go (ltb mostBytes (length script)) refl h
     go true p q = let z : _≡_ {A = ℕ} 1 0 = q in absurd (omega arith)
     go false p q = ltb-false _ _ p
 
-module _ (script chars ns : List ℕ) (c : Counts) (es₀ : List ℕ) where
-  pub before-all : check script chars ≡ 0 → Tidy (length chars) (seenOf ns es₀ c) → (start : Cursor) → start ≡ atStart
-      → Before script chars ns c (1 ∷ 2 ∷ 3 ∷ 4 ∷ 5 ∷ 6 ∷ []) es₀ es₀ start
-  before-all h g start e = record {
+module _ (script chars marks heads ns : List ℕ) (c : Counts) (es₀ : List ℕ) where
+  pub before-all : check script chars ≡ 0 → Marked script marks → Tidy (length chars) (seenOf ns es₀ c)
+      → Indexed chars (readOf ns es₀) heads (c .nodes) → (start : Cursor)
+      → start ≡ atStart → Before script chars marks heads ns c (1 ∷ 2 ∷ 3 ∷ 4 ∷ 5 ∷ 6 ∷ []) es₀ es₀ start
+  before-all h m g k start e = record {
     mendable = record {
-      drawn = record { checked = h; fit = placed-first script start e (small script chars h) };
+      drawn = record { checked = h; marked = m; fit = placed-first script start e (small script chars h) };
       tidy = g;
+      indexed = k;
     };
     long = refl;
     same = refl;
   }
 
-  pub before-next : (k : ℕ) (ks es : List ℕ) (hint : Cursor) → Before script chars ns c (k ∷ ks) es₀ es hint → (es′ : List ℕ) (n : Cursor)
+  pub before-next : (k : ℕ) (ks es : List ℕ) (hint : Cursor) → Before script chars marks heads ns c (k ∷ ks) es₀ es hint → (es′ : List ℕ) (n : Cursor)
       → seenOf ns es′ c ≡ applied (seenOf ns es c) (passOn chars (valuesOf script chars) k (seenOf ns es c)) → Fit script n
-      → Before script chars ns c ks es₀ es′ n
+      → Before script chars marks heads ns c ks es₀ es′ n
   unfolding passesOn
   before-next k ks es hint q es′ n e f =
       let t : Tree = seenOf ns es c in
       let vs : List Value = valuesOf script chars in
       let cs : List Cut = passOn chars vs k t in
       record {
-        mendable = mend-on script chars ns es c cs es′ e hint (q .mendable) n f;
-        long = long-on script chars ns es c cs es′ e ∙ q .long;
+        mendable = mend-on script chars marks heads ns es c cs es′ e hint (q .mendable) n f;
+        long = long-on script chars marks heads ns es c cs es′ e ∙ q .long;
         same =
             ap (λ (u : Tree). applied u (passesOn chars vs ks u)) e
             ∙ sym (applied-more t cs (passesOn chars vs ks (applied t cs)))
             ∙ q .same;
       }
 
-  pub before-none : check script chars ≡ 0 → Tidy (length chars) (seenOf ns es₀ c) → (es : List ℕ) (hint : Cursor)
-      → Before script chars ns c [] es₀ es hint → (bs : List ℕ)
+  pub before-none : (es : List ℕ) (hint : Cursor) → Before script chars marks heads ns c [] es₀ es hint
+      → seenOf ns es c ≡ applied (seenOf ns es₀ c) (allPasses chars (valuesOf script chars) (seenOf ns es₀ c))
+  unfolding passesOn applied
+  before-none es hint q = q .same
+
+-- THE REPAIRS
+
+module _ (script chars ns es₀ es : List ℕ) (c : Counts) (h : check script chars ≡ 0) (g : Tidy (length chars) (seenOf ns es₀ c)) where
+  -- What all passes leave are the repairs, with any text.
+  pub mended : seenOf ns es c ≡ applied (seenOf ns es₀ c) (allPasses chars (valuesOf script chars) (seenOf ns es₀ c)) → (bs : List ℕ)
       → treeOf ns es bs c ≡ repaired chars (valuesOf script chars) (treeOf ns es₀ bs c)
-  unfolding passesOn applied repaired
-  before-none h g es hint q bs =
+  unfolding repaired
+  mended q bs =
       let t : Tree = seenOf ns es₀ c in
       let vs : List Value = valuesOf script chars in
       let bare = values-bare (length chars) (events script chars) (all-inside script chars h) in
-      ap (withText bs) (q .same ∙ ap (applied t) (sym (repairs-going-on (length chars) chars vs bare t g)))
+      ap (withText bs) (q ∙ ap (applied t) (sym (repairs-going-on (length chars) chars vs bare t g)))
       ∙ sym (repaired-text bs chars vs t)
+
+-- NOTHING TO REPAIR
+
+none-named : (t : Tree) (code n a : ℕ) → ((m : ℕ) → a ≤ m → m < a + n → isNamed t code m ≡ false) → allNamed t code (upFrom a n) ≡ []
+unfolding allNamed upFrom
+none-named t code zero a h = refl
+none-named t code (suc n) a h =
+    rw (h a (omega arith) (omega arith), none-named t code n (a + 1) (λ m x y. h m (omega arith) (omega arith))) refl
+
+neither : (a b : Bool) → or a b ≡ false → (a ≡ false) × (b ≡ false)
+neither true b e = absurd (true≢false e)
+neither false b e = (refl, e)
+
+-- A test of several, one after another.
+pub or-here : (r a b : Bool) → r ≡ a → r ≡ true → true ≡ or a b
+or-here r a b e t = rw (sym e ∙ t) refl
+
+pub or-behind : (r a b : Bool) → r ≡ a → r ≡ false → (x : Bool) → x ≡ b → x ≡ or a b
+or-behind r a b e f x q = rw (sym e ∙ f) q
+
+-- The nodes before i are looked at by no pass.
+pub record Unlinked (t : Tree) (count i : ℕ) : Type 0 where
+  pub high : i ≤ count
+  pub none : (m : ℕ) → m < i → isLinked t m ≡ false
+
+pub unlinked-more : (t : Tree) (count i : ℕ) → Unlinked t count i → i < count → isLinked t i ≡ false → Unlinked t count (i + 1)
+unlinked-more t count i w l e = record { high = omega arith; none = λ m h. go m h (ℕ-discrete m i) }
+  where
+    go : (m : ℕ) → m < i + 1 → Dec (m ≡ i) → isLinked t m ≡ false
+    go m h (yes d) = ap (isLinked t) d ∙ e
+    go m h (no d) = w .none m (omega arith)
+
+module _ (chars : List ℕ) (values : List Value) (t : Tree) where
+  pass-bare : (k : ℕ) → k ≤ 5 → allNamed t (elementOf k) (upFrom 0 (t .nodeCount)) ≡ [] → passOn chars values k t ≡ []
+  unfolding passOn pairsOf goingOn
+  pass-bare k l e = rw (le-leb k 5 l, e) refl
+
+  images-bare : allNamed t EId.FeImage (upFrom 0 (t .nodeCount)) ≡ [] → passOn chars values 6 t ≡ []
+  unfolding passOn imagesOn
+  images-bare e = rw e refl
+
+  pass-quiet : (k : ℕ) (ks : List ℕ) → passOn chars values k t ≡ []
+      → applied t (passesOn chars values ks t) ≡ applied t (passesOn chars values (k ∷ ks) t)
+  unfolding passesOn applied
+  pass-quiet k ks e = rw e refl
+
+pub unlinked : (chars : List ℕ) (values : List Value) (t : Tree) → ((i : ℕ) → i < t .nodeCount → isLinked t i ≡ false)
+    → t ≡ applied t (allPasses chars values t)
+unfolding passesOn applied
+unlinked chars values t h =
+    let fills = none EId.Pattern (λ i l. (first i l) .0) in
+    let clips = none EId.ClipPath (λ i l. (second i l) .0) in
+    let masks = none EId.Mask (λ i l. (third i l) .0) in
+    let filters = none EId.Filter (λ i l. (fourth i l) .0) in
+    let images = none EId.FeImage (λ i l. (fourth i l) .1) in
+    pass-quiet chars values t 6 [] (images-bare chars values t images)
+    ∙ pass-quiet chars values t 5 (6 ∷ []) (pass-bare chars values t 5 (omega arith) filters)
+    ∙ pass-quiet chars values t 4 (5 ∷ 6 ∷ []) (pass-bare chars values t 4 (omega arith) masks)
+    ∙ pass-quiet chars values t 3 (4 ∷ 5 ∷ 6 ∷ []) (pass-bare chars values t 3 (omega arith) clips)
+    ∙ pass-quiet chars values t 2 (3 ∷ 4 ∷ 5 ∷ 6 ∷ []) (pass-bare chars values t 2 (omega arith) fills)
+    ∙ pass-quiet chars values t 1 (2 ∷ 3 ∷ 4 ∷ 5 ∷ 6 ∷ []) (pass-bare chars values t 1 (omega arith) fills)
+  where
+    first : (i : ℕ) → i < t .nodeCount → (isNamed t EId.Pattern i ≡ false)
+        × (or (isNamed t EId.ClipPath i) (or (isNamed t EId.Mask i) (or (isNamed t EId.Filter i) (isNamed t EId.FeImage i))) ≡ false)
+    first i l = neither _ _ (h i l)
+
+    second : (i : ℕ) → i < t .nodeCount → (isNamed t EId.ClipPath i ≡ false)
+        × (or (isNamed t EId.Mask i) (or (isNamed t EId.Filter i) (isNamed t EId.FeImage i)) ≡ false)
+    second i l = neither _ _ ((first i l) .1)
+
+    third : (i : ℕ) → i < t .nodeCount → (isNamed t EId.Mask i ≡ false) × (or (isNamed t EId.Filter i) (isNamed t EId.FeImage i) ≡ false)
+    third i l = neither _ _ ((second i l) .1)
+
+    fourth : (i : ℕ) → i < t .nodeCount → (isNamed t EId.Filter i ≡ false) × (isNamed t EId.FeImage i ≡ false)
+    fourth i l = neither _ _ ((third i l) .1)
+
+    none : (code : ℕ) → ((i : ℕ) → i < t .nodeCount → isNamed t code i ≡ false) → allNamed t code (upFrom 0 (t .nodeCount)) ≡ []
+    none code k = none-named t code (t .nodeCount) 0 (λ m x y. k m (omega arith))
+
+-- Heads that are all 0: nothing is chained.
+pub heads-none : (length {A = ℕ} (replicate 8193 0) ≡ 8193) × ((b : ℕ) → _≡_ {A = ℕ} (getD (replicate 8193 0) b 0) 0)
+heads-none = (length-replicate {A = ℕ} 8193 0, replicate-zero 8193)
+
+pub indexed-none : (chars : List ℕ) (t : Tree) (n : ℕ) → Indexed chars t (replicate 8193 0) n
+indexed-none chars t n = record { chained = λ z. absurd (z (replicate-zero 8193 8192)) }

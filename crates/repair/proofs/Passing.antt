@@ -18,10 +18,11 @@ use Rattle.model.specs.Theorems.Images.{imagesOn, passOn}
 use Rattle.script.specs.declared.cursor.Cursor.{Cursor}
 use Rattle.script.specs.Step.{Fit}
 use Rattle.tree.specs.declared.Counts.{Counts}
-use Rattle.repair.specs.Passes.{seenOf, Mendable, cutPairs, linkCuts, imageCuts}
-use Rattle.repair.proofs.Descending.{up-step, up-none, descendants-alike}
-use Rattle.repair.proofs.Writing.{mend-on, long-on}
-use Rattle.repair.proofs.Pairing.{pairs-first}
+use Rattle.cuts.specs.Seen.{seenOf, Mendable, cutPairs}
+use Rattle.repair.specs.Passes.{linkCuts, imageCuts}
+use Rattle.cuts.proofs.Descending.{up-step, up-none, descendants-alike}
+use Rattle.cuts.proofs.Writing.{mend-on, long-on}
+use Rattle.cuts.proofs.Pairing.{pairs-first}
 
 -- The last of the passes 1 to 5.
 pub last-element : (k : ℕ) → (k ≤ 2 → ⊥) → k ≤ 5 → (k ≡ 3 → ⊥) → (k ≡ 4 → ⊥) → EId.Filter ≡ elementOf k
@@ -35,7 +36,7 @@ last-element (suc (suc (suc (suc (suc (suc k)))))) f l a b = absurd (omega arith
 
 -- Which elements there are, and what is below them, is read in the nodes alone.
 module _ (t u : Tree) (e : t .nodes ≡ u .nodes) (n : t .nodeCount ≡ u .nodeCount) where
-  named-alike : (c : ℕ) (is : List ℕ) → allNamed t c is ≡ allNamed u c is
+  pub named-alike : (c : ℕ) (is : List ℕ) → allNamed t c is ≡ allNamed u c is
   unfolding allNamed
   named-alike c [] = refl
   named-alike c (i ∷ is) =
@@ -50,7 +51,7 @@ module _ (t u : Tree) (e : t .nodes ≡ u .nodes) (n : t .nodeCount ≡ u .nodeC
       ap (λ (ps : List Pair). withEach i (descendants t i) ps) (pairs-alike is)
       ∙ ap (λ (js : List ℕ). withEach i js (pairsOf u is)) (descendants-alike t u e n i)
 
-  both-alike : (c : ℕ) (is : List ℕ) → pairsOf t (allNamed t c is) ≡ pairsOf u (allNamed u c is)
+  pub both-alike : (c : ℕ) (is : List ℕ) → pairsOf t (allNamed t c is) ≡ pairsOf u (allNamed u c is)
   both-alike c is = pairs-alike (allNamed t c is) ∙ ap (pairsOf u) (named-alike c is)
 
 -- What a pass cuts at a list of nodes, node by node: the first, then the others in the tree that it leaves.
@@ -164,15 +165,15 @@ module _ (chars : List ℕ) (values : List Value) where
 -- THE LOOP
 
 -- In the middle of the nodes: i is next, and what is still to do leaves what all of it leaves.
-pub record Pass (script chars ns : List ℕ) (c : Counts) (f : Tree → List ℕ → List Cut) (es₀ es : List ℕ) (i : ℕ) (hint : Cursor)
+pub record Pass (script chars marks heads ns : List ℕ) (c : Counts) (f : Tree → List ℕ → List Cut) (es₀ es : List ℕ) (i : ℕ) (hint : Cursor)
     : Type 0 where
-  pub mendable : Mendable script chars ns es c hint
+  pub mendable : Mendable script chars marks heads ns es c hint
   pub long : length es ≡ length es₀
   pub same : applied (seenOf ns es c) (f (seenOf ns es c) (upFrom i (c .nodes - i)))
       ≡ applied (seenOf ns es₀ c) (f (seenOf ns es₀ c) (upFrom 0 (c .nodes)))
 
-module _ (script chars ns : List ℕ) (c : Counts) (f : Tree → List ℕ → List Cut) where
-  pub pass-start : (es : List ℕ) (hint : Cursor) → Mendable script chars ns es c hint → Pass script chars ns c f es es 0 hint
+module _ (script chars marks heads ns : List ℕ) (c : Counts) (f : Tree → List ℕ → List Cut) where
+  pub pass-start : (es : List ℕ) (hint : Cursor) → Mendable script chars marks heads ns es c hint → Pass script chars marks heads ns c f es es 0 hint
   pass-start es hint g =
       let e : c .nodes - 0 ≡ c .nodes = omega arith in
       record {
@@ -181,16 +182,16 @@ module _ (script chars ns : List ℕ) (c : Counts) (f : Tree → List ℕ → Li
         same = ap (λ (n : ℕ). applied (seenOf ns es c) (f (seenOf ns es c) (upFrom 0 n))) e;
       }
 
-  module _ (o : OneByOne f) (es₀ es : List ℕ) (i : ℕ) (hint : Cursor) (q : Pass script chars ns c f es₀ es i hint) where
+  module _ (o : OneByOne f) (es₀ es : List ℕ) (i : ℕ) (hint : Cursor) (q : Pass script chars marks heads ns c f es₀ es i hint) where
     pub pass-turn : i < c .nodes → (es′ : List ℕ) (n : Cursor)
         → seenOf ns es′ c ≡ applied (seenOf ns es c) (f (seenOf ns es c) (i ∷ [])) → Fit script n
-        → Pass script chars ns c f es₀ es′ (i + 1) n
+        → Pass script chars marks heads ns c f es₀ es′ (i + 1) n
     pass-turn l es′ n e g =
         let t : Tree = seenOf ns es c in
         let cs : List Cut = f t (i ∷ []) in
         record {
-          mendable = mend-on script chars ns es c cs es′ e hint (q .mendable) n g;
-          long = long-on script chars ns es c cs es′ e ∙ q .long;
+          mendable = mend-on script chars marks heads ns es c cs es′ e hint (q .mendable) n g;
+          long = long-on script chars marks heads ns es c cs es′ e ∙ q .long;
           same =
               sym (o .more t (seenOf ns es′ c) refl refl i (upFrom (i + 1) (c .nodes - (i + 1))) e)
               ∙ ap (λ (is : List ℕ). applied t (f t is)) (sym (up-step i (c .nodes) l))

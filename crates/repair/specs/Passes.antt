@@ -1,53 +1,14 @@
--- The tables as the repairs see them, and what a step of a pass leaves in them.
-use mathlib.Core.Path.{_≡_}
-use Prim.Native.Nat.{ℕ, _+_, _≤_}
-use mathlib.Core.List.{List}
-use lib.Dec.{eqb, leb}
-use lib.ListN.{length, replicate}
-use Rattle.model.specs.Base.{pick, or, Pair}
+-- What a pass cuts at a list of nodes, and what all of them cut.
+use Prim.Native.Nat.{ℕ}
+use mathlib.Core.Bool.{Bool}
+use mathlib.Core.List.{List, [], _∷_}
+use Rattle.model.specs.Base.{or}
 use Rattle.model.specs.EId
-use Rattle.model.specs.AId
 use Rattle.model.specs.Drawing.{Value}
-use Rattle.model.specs.Tables.{Tree, attributeId, elementById}
-use Rattle.model.specs.Repair.{allNamed, elementId, Cut, cutName, cutAt, applyCut, applied}
-use Rattle.model.specs.Theorems.Kept.{Tidy}
-use Rattle.model.specs.Theorems.GoingOn.{leadsTo, cutsAlong, pairsOf, goingOn}
-use Rattle.model.specs.Theorems.Images.{imagesOn}
-use Rattle.script.specs.declared.cursor.Cursor.{Cursor}
-use Rattle.tree.specs.declared.Counts.{Counts}
-use Rattle.tree.specs.Lent.{treeOf}
-use Rattle.repair.specs.declared.lead.Aim.{Aim}
-use Rattle.repair.specs.Links.{Drawn}
-
--- The tables, with as many zeros as there are bytes of text: the repairs read no text.
-abbrev pub seenOf : List ℕ → List ℕ → Counts → Tree
-seenOf ns es c = treeOf ns es (replicate (c .text) 0) c
-
--- What the repairs ask: a drawing that check takes, a cursor in it, and tables that are tidy beside its characters.
-pub record Mendable (script chars ns es : List ℕ) (c : Counts) (hint : Cursor) : Type 0 where
-  pub drawn : Drawn script chars hint
-  pub tidy : Tidy (length chars) (seenOf ns es c)
-
--- An element that one of the passes 1 to 5 aims at. A pattern is led to by its id, any other element by links that find it.
-pub record Aimed (chars : List ℕ) (t : Tree) (aim : Aim) : Type 0 where
-  pub first : 1 ≤ aim .pass
-  pub last : aim .pass ≤ 5
-  pub name : aim .name ≡ cutName (aim .pass)
-  pub kind : aim .kind ≡ pick (leb (aim .pass) 2) (λ u. 3) (λ u. 2)
-  pub id : aim .id ≡ attributeId t (aim .element) AId.Id
-  pub led : aim .led ≡ or (leb (aim .pass) 2) (eqb (elementById chars t (elementId chars t (aim .element))) (aim .element + 1))
-
--- The tree with node m's value cut, where it leads to element i.
-abbrev pub cutBack : List ℕ → List Value → ℕ → ℕ → Tree → ℕ → Tree
-cutBack chars values k i t m = pick (leadsTo chars values k t i m) (λ u. applyCut t (cutAt t k m)) (λ u. t)
-
--- The tree with the values of these nodes cut, one after another.
-abbrev pub cutNodes : List ℕ → List Value → ℕ → Tree → List ℕ → Tree
-cutNodes chars values k t ms = applied t (cutsAlong chars values k t ms)
-
--- The tree behind the cuts of pairs, each of an element and a node below it.
-abbrev pub cutPairs : List ℕ → List Value → ℕ → Tree → List Pair → Tree
-cutPairs chars values k t ps = applied t (goingOn chars values k t ps)
+use Rattle.model.specs.Tables.{Tree, isNamed}
+use Rattle.model.specs.Repair.{allNamed, Cut}
+use Rattle.model.specs.Theorems.GoingOn.{pairsOf, goingOn}
+use Rattle.model.specs.Theorems.Images.{imagesOn, passesOn}
 
 -- The cuts of one of the passes 1 to 5 at these nodes, where they are elements with the code that it looks at.
 abbrev pub linkCuts : List ℕ → List Value → ℕ → ℕ → Tree → List ℕ → List Cut
@@ -56,3 +17,13 @@ linkCuts chars values k code t is = goingOn chars values k t (pairsOf t (allName
 -- The cuts of the last pass at these nodes, where they are feImages.
 abbrev pub imageCuts : List ℕ → List Value → Tree → List ℕ → List Cut
 imageCuts chars values t is = imagesOn chars values t (allNamed t EId.FeImage is)
+
+-- The cuts of all six passes, going on after each.
+abbrev pub allPasses : List ℕ → List Value → Tree → List Cut
+allPasses chars values t = passesOn chars values (1 ∷ 2 ∷ 3 ∷ 4 ∷ 5 ∷ 6 ∷ []) t
+
+-- Is node i an element that one of the passes looks at?
+abbrev pub isLinked : Tree → ℕ → Bool
+isLinked t i =
+    or (isNamed t EId.Pattern i) (or (isNamed t EId.ClipPath i) (or (isNamed t EId.Mask i)
+    (or (isNamed t EId.Filter i) (isNamed t EId.FeImage i))))

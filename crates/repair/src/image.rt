@@ -1,159 +1,22 @@
 // feImage: an image of an element whose own filters lead back to the filter in which the image stands.
-use crate::lead::is_id;
-use crate::link::FoundLink;
-use crate::link::link_of;
+use ids::find::find_id;
+use leads::filter::has_filter;
+use leads::link::FoundLink;
+use leads::link::link_of;
 use names::aid;
-use places::seek::seek;
 use script::cursor::Cursor;
-use script::cursor::Step;
 use tree::Counts;
 use tree::read::attribute_id;
-use tree::read::attribute_of;
-use tree::read::last_with_id;
 use tree::word;
-use tree::word::entry_word;
 use tree::word::node_word;
-use walk::value::NextReading;
-use walk::value::next_reading;
 use walk::value::part_at;
 ghost use mathlib.Core.Path.{_≡_};
 ghost use Prim.Native.Nat.{_≤_, _<_};
-ghost use lib.ListN.{length};
-ghost use Rattle.model.specs.AId;
 ghost use Rattle.model.specs.Tables.{ELEMENT, word};
-ghost use Rattle.model.specs.Repair.{anyReading, readingsOfAttribute, recursiveFeImage};
-ghost use Rattle.script.specs.Step.{Fit, mostPlace};
-ghost use Rattle.walk.specs.Values.{readingsIn};
-ghost use Rattle.places.specs.Seeks.{readingsHere};
-ghost use Rattle.tree.specs.Lent.{readOf, entriesOf, ReadableIn};
-ghost use Rattle.repair.specs.Links.{Drawn, valuesOf, Stands, idAt, Looked};
-ghost use Rattle.repair.specs.Passes.{seenOf, Mendable};
-
-// Do filters lead to an id? And a place in the script from which to look for the next link.
-pub struct Filtered {
-    pub back: bool,
-    pub hint: Cursor,
-}
-
-// What one reading of a value tells of its filter links: one leads to an id, more readings follow, or there are none.
-pub enum Look {
-    Back,
-    On(Cursor),
-    Out,
-}
-
-// The next reading of a value that begins at start: is it a filter link with the id in the entry whose number plus 1 is j?
-fn look_at(
-    script: &[u8],
-    characters: &[u8],
-    attributes: &[u32],
-    c: Cursor,
-    start: usize,
-    j: u32,
-) -> Look
-    requires { ⌜ Fit (now script) c ⌝ }
-    requires { ⌜ start ≤ mostPlace ⌝ }
-    requires { ⌜ Stands (length (now characters)) (entriesOf (now attributes)) j ⌝ }
-    ensures { λ r. ⌜ Looked (now (script .entry)) (now (characters .entry))
-        (idAt (now (characters .entry)) (entriesOf (now (attributes .entry))) j) start c r ⌝ }
-{
-    match next_reading(script, characters, c, start) {
-        NextReading::At(k, o, len, n) => {
-            if k != 4 {
-                return Look::On(n);
-            }
-            if is_id(attributes, characters, j, part_at(characters, o, len)) {
-                return Look::Back;
-            }
-            Look::On(n)
-        }
-        NextReading::End => Look::Out,
-    }
-}
-
-// Has a value that begins at start, from behind it, a filter link with the id in the entry whose number plus 1 is j?
-fn any_id(
-    script: &[u8],
-    characters: &[u8],
-    attributes: &[u32],
-    from: Cursor,
-    start: usize,
-    j: u32,
-) -> bool
-    requires { ⌜ Fit (now script) from ⌝ }
-    requires { ⌜ start ≤ mostPlace ⌝ }
-    requires { ⌜ Stands (length (now characters)) (entriesOf (now attributes)) j ⌝ }
-    ensures { λ r. ⌜ r ≡ anyReading 4 (idAt (now (characters .entry)) (entriesOf (now (attributes .entry))) j)
-        (readingsIn (now (script .entry)) (now (characters .entry)) start from) ⌝ }
-{
-    let mut c = from;
-    loop {
-        match look_at(script, characters, attributes, c, start, j) {
-            Look::Back => {
-                return true;
-            }
-            Look::On(next) => {
-                c = next;
-            }
-            Look::Out => {
-                return false;
-            }
-        }
-    }
-}
-
-// The same of the value whose command stands at the cursor.
-fn any_id_at(script: &[u8], characters: &[u8], attributes: &[u32], c: Cursor, j: u32) -> bool
-    requires { ⌜ Fit (now script) c ⌝ }
-    requires { ⌜ Stands (length (now characters)) (entriesOf (now attributes)) j ⌝ }
-    ensures { λ r. ⌜ r ≡ anyReading 4 (idAt (now (characters .entry)) (entriesOf (now (attributes .entry))) j)
-        (readingsHere (now (script .entry)) (now (characters .entry)) c) ⌝ }
-{
-    let start = c.chars;
-    match c.next(script, characters) {
-        Step::Attribute(_, _, _, n) => any_id(script, characters, attributes, n, start, j),
-        Step::Declaration(_, _, _, n) => any_id(script, characters, attributes, n, start, j),
-        Step::Open(_, _, _) => false,
-        Step::Reading(_, _, _, _) => false,
-        Step::Text(_, _) => false,
-        Step::Other(_) => false,
-        Step::Close(_) => false,
-        Step::Broken(_) => false,
-        Step::End => false,
-    }
-}
-
-// Does one of the filters of node m lead to the id in the entry whose number plus 1 is j? Every filter link is compared.
-pub fn has_filter(
-    script: &[u8],
-    characters: &[u8],
-    nodes: &[u32],
-    attributes: &[u32],
-    m: u32,
-    j: u32,
-    hint: Cursor,
-) -> Filtered
-    requires { ⌜ Drawn (now script) (now characters) hint ⌝ }
-    requires { ⌜ ReadableIn (length (now characters)) (readOf (now nodes) (now attributes)) m ⌝ }
-    requires { ⌜ Stands (length (now characters)) (entriesOf (now attributes)) j ⌝ }
-    ensures same { λ r. ⌜ r .back ≡ anyReading 4 (idAt (now (characters .entry)) (entriesOf (now (attributes .entry))) j)
-        (readingsOfAttribute (now (characters .entry)) (valuesOf (now (script .entry)) (now (characters .entry)))
-        (readOf (now (nodes .entry)) (now (attributes .entry))) AId.Filter m) ⌝ }
-    ensures fit { λ r. ⌜ Fit (now (script .entry)) (r .hint) ⌝ }
-{
-    let e = attribute_of(nodes, attributes, characters, m, aid::FILTER);
-    if e == 0 {
-        return Filtered { back: false, hint };
-    }
-    let command = entry_word(attributes, e - 1, word::COMMAND);
-    if command == 0 {
-        return Filtered { back: false, hint };
-    }
-    let number = (command - 1) as usize;
-    let c = seek(script, characters, number, hint);
-    let back = any_id_at(script, characters, attributes, c, j);
-    Filtered { back, hint: c }
-}
+ghost use Rattle.model.specs.Repair.{recursiveFeImage};
+ghost use Rattle.script.specs.Step.{Fit};
+ghost use Rattle.leads.specs.Links.{valuesOf};
+ghost use Rattle.cuts.specs.Seen.{seenOf, Mendable};
 
 // A node that a feImage cuts, as its index plus 1, 0 for none; and a place in the script from which to look for the next link.
 pub struct Image {
@@ -165,29 +28,41 @@ pub struct Image {
 pub fn image_of(
     script: &[u8],
     characters: &[u8],
+    marks: &[usize; 4097],
+    heads: &[u32; 8193],
     nodes: &[u32],
     attributes: &[u32],
     counts: Counts,
     i: u32,
     hint: Cursor,
 ) -> Image
-    requires { ⌜ Mendable (now script) (now characters) (now nodes) (now attributes) counts hint ⌝ }
+    requires { ⌜ Mendable (now script) (now characters) (now marks) (now heads) (now nodes) (now attributes) counts hint ⌝ }
     requires { ⌜ i < counts .nodes ⌝ }
     requires { ⌜ word (now nodes) i 0 ≡ ELEMENT ⌝ }
     ensures same { λ r. ⌜ r .node ≡ recursiveFeImage (now (characters .entry)) (valuesOf (now (script .entry)) (now (characters .entry)))
         (seenOf (now (nodes .entry)) (now (attributes .entry)) counts) i ⌝ }
     ensures fit { λ r. ⌜ (r .node ≤ counts .nodes) × Fit (now (script .entry)) (r .hint) ⌝ }
 {
-    match link_of(script, characters, nodes, attributes, i, aid::HREF, 1, hint) {
+    match link_of(
+        script,
+        characters,
+        marks,
+        nodes,
+        attributes,
+        i,
+        aid::HREF,
+        1,
+        hint,
+    ) {
         FoundLink::At(start, len, c) => {
             let target = part_at(characters, start, len);
-            let w = last_with_id(nodes, attributes, characters, target, counts.nodes);
+            let w = find_id(nodes, attributes, characters, heads, target, counts.nodes);
             if w == 0 {
                 return Image { node: 0, hint: c };
             }
             let parent = node_word(nodes, i, word::PARENT);
             let id = attribute_id(nodes, attributes, parent - 1, aid::ID);
-            let f = has_filter(script, characters, nodes, attributes, w - 1, id, c);
+            let f = has_filter(script, characters, marks, nodes, attributes, w - 1, id, c);
             let place = f.hint;
             if f.back {
                 return Image {

@@ -1,5 +1,5 @@
 // One pass: each element that it looks at, one after another.
-use crate::pair::cut_element;
+use cuts::pair::cut_element;
 use names::eid;
 use script::cursor::Cursor;
 use tree::Counts;
@@ -15,8 +15,9 @@ ghost use Rattle.model.specs.Theorems.GoingOn.{elementOf};
 ghost use Rattle.model.specs.Theorems.Images.{passOn};
 ghost use Rattle.script.specs.Step.{Fit};
 ghost use Rattle.tree.specs.Lent.{nodesRead};
-ghost use Rattle.repair.specs.Links.{valuesOf};
-ghost use Rattle.repair.specs.Passes.{seenOf, Mendable, linkCuts};
+ghost use Rattle.leads.specs.Links.{valuesOf};
+ghost use Rattle.cuts.specs.Seen.{seenOf, Mendable};
+ghost use Rattle.repair.specs.Passes.{linkCuts};
 
 // The elements that one of the passes 1 to 5 looks at.
 fn element_code(pass: u32) -> u32
@@ -50,6 +51,8 @@ pub fn is_named(nodes: &[u32], code: u32, i: u32) -> bool
 fn cut_named(
     script: &[u8],
     characters: &[u8],
+    marks: &[usize; 4097],
+    heads: &[u32; 8193],
     nodes: &[u32],
     attributes: &mut [u32],
     counts: Counts,
@@ -58,7 +61,7 @@ fn cut_named(
     i: u32,
     hint: Cursor,
 ) -> Cursor
-    requires { ⌜ Mendable (now script) (now characters) (now nodes) (now attributes) counts hint ⌝ }
+    requires { ⌜ Mendable (now script) (now characters) (now marks) (now heads) (now nodes) (now attributes) counts hint ⌝ }
     requires { ⌜ (1 ≤ pass) × (pass ≤ 5) ⌝ }
     requires { ⌜ i < counts .nodes ⌝ }
     ensures tables { λ r. ⌜ seenOf (now (nodes .entry)) (now (attributes .exit)) counts
@@ -70,20 +73,33 @@ fn cut_named(
     if !is_named(nodes, code, i) {
         return hint;
     }
-    cut_element(script, characters, nodes, attributes, counts, pass, i, hint)
+    cut_element(
+        script,
+        characters,
+        marks,
+        heads,
+        nodes,
+        attributes,
+        counts,
+        pass,
+        i,
+        hint,
+    )
 }
 
 // One of the passes 1 to 5.
 pub fn cut_pass(
     script: &[u8],
     characters: &[u8],
+    marks: &[usize; 4097],
+    heads: &[u32; 8193],
     nodes: &[u32],
     attributes: &mut [u32],
     counts: Counts,
     pass: u32,
     hint: Cursor,
 ) -> Cursor
-    requires { ⌜ Mendable (now script) (now characters) (now nodes) (now attributes) counts hint ⌝ }
+    requires { ⌜ Mendable (now script) (now characters) (now marks) (now heads) (now nodes) (now attributes) counts hint ⌝ }
     requires { ⌜ (1 ≤ pass) × (pass ≤ 5) ⌝ }
     ensures tables { λ r. ⌜ seenOf (now (nodes .entry)) (now (attributes .exit)) counts
         ≡ applied (seenOf (now (nodes .entry)) (now (attributes .entry)) counts)
@@ -98,6 +114,8 @@ pub fn cut_pass(
         c = cut_named(
             script,
             characters,
+            marks,
+            heads,
             nodes,
             attributes,
             counts,

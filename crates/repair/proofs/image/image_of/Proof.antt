@@ -5,8 +5,8 @@ use Rattle.model.specs.AId
 use Rattle.model.specs.Drawing.{partAt}
 use Rattle.tree.proofs.Alike.{id-same}
 use Rattle.tree.proofs.Facts.{readable, readable-in}
-use Rattle.repair.proofs.Linking.{link-told}
-use Rattle.repair.proofs.Turning.{id-stands}
+use Rattle.leads.proofs.Linking.{link-told}
+use Rattle.cuts.proofs.Turning.{id-stands}
 use Rattle.repair.proofs.Imaging.{href-nowhere, href-on, image-nowhere, image-back, image-not}
 use borrow.Author.Needs.{needs}
 use Rattle.repair.proofs.image.image_of.Statement.{statement}
@@ -26,9 +26,10 @@ part-at-requires c κs =
     (c .before .before .before .link-of .ensures .1) in
     told .1 .0
 
-last-with-id-requires : tie.Need-last-with-id-requires
-last-with-id-requires c κs =
-    λ k l. readable-in _ _ (c .before .before .before .before .before .before .before .before .before .pre .0 .tidy .kept) k l
+find-id-requires : tie.Need-find-id-requires
+find-id-requires c κs =
+    let pre = c .before .before .before .before .before .before .before .before .before .pre .0 in
+    ((λ k l. readable-in _ _ (pre .tidy .kept) k l), pre .indexed)
 
 returns : tie.Need-returns
 unfolding partAt
@@ -38,7 +39,7 @@ returns c =
     let told = link-told _ _ _ _ _ (c .before .before .before .before .start .given .1) (link-of-ensures .0)
     (link-of-ensures .1) in (
       image-nowhere _ _ _ _ counts _ _
-          (href-on _ _ _ _ counts _ _ (told .0) _ (c .before .before .part-at .ensures) _ (c .before .last-with-id .ensures .0))
+          (href-on _ _ _ _ counts _ _ (told .0) _ (c .before .before .part-at .ensures) _ (c .before .find-id .ensures .0))
           (c .if1 .taken),
       (zero-le, told .1 .1),
     )
@@ -69,10 +70,10 @@ has-filter-requires c κs =
     let pre = at-link-of .before .before .before .before .before .pre .0 in
     let told = link-told _ _ _ _ _ (c .before .before .before .before .before .before .start .given .1)
     (at-link-of .link-of .ensures .0) (at-link-of .link-of .ensures .1) in (
-      record { checked = pre .drawn .checked; fit = told .1 .1 },
+      record { checked = pre .drawn .checked; marked = pre .drawn .marked; fit = told .1 .1 },
       (
         readable-in _ _ (pre .tidy .kept) _
-            (omega (arith, c .before .before .before .last-with-id .ensures .1, c .before .before .if1 .left)),
+            (omega (arith, c .before .before .before .find-id .ensures .1, c .before .before .if1 .left)),
         id-stands _ _ (pre .tidy) _ _ (c .attribute-id .ensures .0 ∙ id-same _ _ AId.Id),
       ),
     )
@@ -80,16 +81,16 @@ has-filter-requires c κs =
 returns-2 : tie.Need-returns-2
 unfolding partAt
 returns-2 c =
-    let at-last-with-id = c .before .before .before .before .before .before in
-    let at-link-of = at-last-with-id .before .before .before .before .before in
+    let at-find-id = c .before .before .before .before .before .before in
+    let at-link-of = at-find-id .before .before .before .before .before in
     let counts = at-link-of .before .before .before .before .before .args .counts in
-    let told = link-told _ _ _ _ _ (at-last-with-id .before .before .before .start .given .1) (at-link-of .link-of .ensures .0)
+    let told = link-told _ _ _ _ _ (at-find-id .before .before .before .start .given .1) (at-link-of .link-of .ensures .0)
     (at-link-of .link-of .ensures .1) in (
-      image-back _ _ _ _ counts _ _ (href-on _ _ _ _ counts _ _ (told .0) _ (at-last-with-id .before .part-at .ensures) _
-          (at-last-with-id .last-with-id .ensures .0)) (c .before .before .before .before .before .if1 .left) _
+      image-back _ _ _ _ counts _ _ (href-on _ _ _ _ counts _ _ (told .0) _ (at-find-id .before .part-at .ensures) _
+          (at-find-id .find-id .ensures .0)) (c .before .before .before .before .before .if1 .left) _
           (c .before .before .before .before .node-word .ensures) _ (c .before .before .before .attribute-id .ensures .0) _
           (c .before .before .has-filter .ensures .0) (c .if2 .taken),
-      (at-last-with-id .last-with-id .ensures .1, c .before .before .has-filter .ensures .1),
+      (at-find-id .find-id .ensures .1, c .before .before .has-filter .ensures .1),
     )
 
 enum-known-c : tie.Need-enum-known-c
@@ -98,13 +99,13 @@ enum-known-c c = search needs
 returns-3 : tie.Need-returns-3
 unfolding partAt
 returns-3 c =
-    let at-last-with-id = c .before .before .before .before .before .before in
-    let at-link-of = at-last-with-id .before .before .before .before .before in
+    let at-find-id = c .before .before .before .before .before .before in
+    let at-link-of = at-find-id .before .before .before .before .before in
     let counts = at-link-of .before .before .before .before .before .args .counts in
-    let told = link-told _ _ _ _ _ (at-last-with-id .before .before .before .start .given .1) (at-link-of .link-of .ensures .0)
+    let told = link-told _ _ _ _ _ (at-find-id .before .before .before .start .given .1) (at-link-of .link-of .ensures .0)
     (at-link-of .link-of .ensures .1) in (
-      image-not _ _ _ _ counts _ _ (href-on _ _ _ _ counts _ _ (told .0) _ (at-last-with-id .before .part-at .ensures) _
-          (at-last-with-id .last-with-id .ensures .0)) (c .before .before .before .before .before .if1 .left) _
+      image-not _ _ _ _ counts _ _ (href-on _ _ _ _ counts _ _ (told .0) _ (at-find-id .before .part-at .ensures) _
+          (at-find-id .find-id .ensures .0)) (c .before .before .before .before .before .if1 .left) _
           (c .before .before .before .before .node-word .ensures) _ (c .before .before .before .attribute-id .ensures .0) _
           (c .before .before .has-filter .ensures .0) (c .if2 .left),
       (zero-le, c .before .before .has-filter .ensures .1),
@@ -124,7 +125,7 @@ image-of-spec =
     link-of-requires
     enum-known-start
     part-at-requires
-    last-with-id-requires
+    find-id-requires
     returns
     node-word-requires
     sub-attribute-id

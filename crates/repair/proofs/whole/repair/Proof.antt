@@ -1,134 +1,121 @@
+use mathlib.Core.List.{[]}
 use native.Mathlib.Omega.{arith}
-use Rattle.repair.proofs.Mending.{before-all, before-next, before-none}
+use borrow.Author.Tests.{not-true, not-false}
+use Rattle.places.proofs.Marking.{marked-none}
+use Rattle.ids.proofs.Likeness.{like-tidy}
+use Rattle.cuts.proofs.Writing.{long-on}
+use Rattle.repair.proofs.Mending.{small, mended, unlinked, heads-none, indexed-none}
+use Rattle.repair.proofs.Twins.{unchained}
 use borrow.Author.Needs.{needs}
 use Rattle.repair.proofs.whole.repair.Statement.{statement}
 use Rattle.repair.proofs.whole.repair.Tie as tie
 
-start-requires : tie.Need-start-requires
-start-requires c κs = search needs
-
-cut-pass-requires : tie.Need-cut-pass-requires
-cut-pass-requires c κs =
-    let one = before-all _ _ _ _ _ (c .before .before .before .before .before .before .pre .0)
-    (c .before .before .before .before .before .before .pre .1) _ (c .before .start .ensures) in
-    (one .mendable, (omega arith, omega arith))
-
-cut-pass-requires-2 : tie.Need-cut-pass-requires-2
-cut-pass-requires-2 c κs =
-    let pre = c .before .before .before .before .before .before .before .before .before .before .pre in
-    let one = before-all _ _ _ _ _ (pre .0) (pre .1) _ (c .before .before .before .before .before .start .ensures) in
-    let two = before-next _ _ _ _ _ _ _ _ _ one _ _ (c .before .before .before .cut-pass .ensures .0)
-    (c .before .before .before .cut-pass .ensures .1) in
-    (two .mendable, (omega arith, omega arith))
-
-cut-pass-requires-3 : tie.Need-cut-pass-requires-3
-cut-pass-requires-3 c κs =
-    let at-start = c .before .before .before .before .before .before .before .before .before in
-    let cut-pass-ensures = c .before .before .before .before .before .before .before .cut-pass .ensures in
-    let pre = at-start .before .before .before .before .before .pre in
-    let one = before-all _ _ _ _ _ (pre .0) (pre .1) _ (at-start .start .ensures) in
-    let two = before-next _ _ _ _ _ _ _ _ _ one _ _ (cut-pass-ensures .0) (cut-pass-ensures .1) in
-    let three = before-next _ _ _ _ _ _ _ _ _ two _ _ (c .before .before .before .cut-pass2 .ensures .0)
-    (c .before .before .before .cut-pass2 .ensures .1) in
-    (three .mendable, (omega arith, omega arith))
-
-cut-pass-requires-4 : tie.Need-cut-pass-requires-4
-cut-pass-requires-4 c κs =
-    let cut-pass2-ensures = c .before .before .before .before .before .before .before .cut-pass2 .ensures in
-    let at-cut-pass = c .before .before .before .before .before .before .before .before .before .before .before in
-    let pre = at-cut-pass .before .before .before .before .before .before .before .pre in
-    let one = before-all _ _ _ _ _ (pre .0) (pre .1) _ (at-cut-pass .before .before .start .ensures) in
-    let two = before-next _ _ _ _ _ _ _ _ _ one _ _ (at-cut-pass .cut-pass .ensures .0) (at-cut-pass .cut-pass .ensures .1) in
-    let three = before-next _ _ _ _ _ _ _ _ _ two _ _ (cut-pass2-ensures .0) (cut-pass2-ensures .1) in
-    let four = before-next _ _ _ _ _ _ _ _ _ three _ _ (c .before .before .before .cut-pass3 .ensures .0)
-    (c .before .before .before .cut-pass3 .ensures .1) in
-    (four .mendable, (omega arith, omega arith))
-
-cut-pass-requires-5 : tie.Need-cut-pass-requires-5
-cut-pass-requires-5 c κs =
-    let cut-pass3-ensures = c .before .before .before .before .before .before .before .cut-pass3 .ensures in
-    let at-cut-pass2 = c .before .before .before .before .before .before .before .before .before .before .before in
-    let at-start = at-cut-pass2 .before .before .before .before .before .before in
-    let cut-pass-ensures = at-cut-pass2 .before .before .before .before .cut-pass .ensures in
-    let pre = at-start .before .before .before .before .before .pre in
-    let one = before-all _ _ _ _ _ (pre .0) (pre .1) _ (at-start .start .ensures) in
-    let two = before-next _ _ _ _ _ _ _ _ _ one _ _ (cut-pass-ensures .0) (cut-pass-ensures .1) in
-    let three = before-next _ _ _ _ _ _ _ _ _ two _ _ (at-cut-pass2 .cut-pass2 .ensures .0)
-    (at-cut-pass2 .cut-pass2 .ensures .1) in
-    let four = before-next _ _ _ _ _ _ _ _ _ three _ _ (cut-pass3-ensures .0) (cut-pass3-ensures .1) in
-    let five = before-next _ _ _ _ _ _ _ _ _ four _ _ (c .before .before .before .cut-pass4 .ensures .0)
-    (c .before .before .before .cut-pass4 .ensures .1) in
-    (five .mendable, (omega arith, omega arith))
-
-cut-images-requires : tie.Need-cut-images-requires
-cut-images-requires c κs =
-    let cut-pass4-ensures = c .before .before .before .before .before .before .before .cut-pass4 .ensures in
-    let at-cut-pass3 = c .before .before .before .before .before .before .before .before .before .before .before in
-    let cut-pass2-ensures = at-cut-pass3 .before .before .before .before .cut-pass2 .ensures in
-    let at-cut-pass = at-cut-pass3 .before .before .before .before .before .before .before .before in
-    let pre = at-cut-pass .before .before .before .before .before .before .before .pre in
-    let one = before-all _ _ _ _ _ (pre .0) (pre .1) _ (at-cut-pass .before .before .start .ensures) in
-    let two = before-next _ _ _ _ _ _ _ _ _ one _ _ (at-cut-pass .cut-pass .ensures .0) (at-cut-pass .cut-pass .ensures .1) in
-    let three = before-next _ _ _ _ _ _ _ _ _ two _ _ (cut-pass2-ensures .0) (cut-pass2-ensures .1) in
-    let four = before-next _ _ _ _ _ _ _ _ _ three _ _ (at-cut-pass3 .cut-pass3 .ensures .0)
-    (at-cut-pass3 .cut-pass3 .ensures .1) in
-    let five = before-next _ _ _ _ _ _ _ _ _ four _ _ (cut-pass4-ensures .0) (cut-pass4-ensures .1) in
-    let six = before-next _ _ _ _ _ _ _ _ _ five _ _ (c .before .before .before .cut-pass5 .ensures .0)
-    (c .before .before .before .cut-pass5 .ensures .1) in
-    six .mendable
-
-same-length : tie.Need-same-length
-same-length c =
-    let cut-pass5-ensures = c .before .before .before .before .before .before .cut-pass5 .ensures in
-    let at-cut-pass4 = c .before .before .before .before .before .before .before .before .before .before in
-    let cut-pass3-ensures = at-cut-pass4 .before .before .before .before .cut-pass3 .ensures in
-    let at-cut-pass2 = at-cut-pass4 .before .before .before .before .before .before .before .before in
-    let at-start = at-cut-pass2 .before .before .before .before .before .before in
-    let cut-pass-ensures = at-cut-pass2 .before .before .before .before .cut-pass .ensures in
-    let pre = at-start .before .before .before .before .before .pre in
-    let one = before-all _ _ _ _ _ (pre .0) (pre .1) _ (at-start .start .ensures) in
-    let two = before-next _ _ _ _ _ _ _ _ _ one _ _ (cut-pass-ensures .0) (cut-pass-ensures .1) in
-    let three = before-next _ _ _ _ _ _ _ _ _ two _ _ (at-cut-pass2 .cut-pass2 .ensures .0)
-    (at-cut-pass2 .cut-pass2 .ensures .1) in
-    let four = before-next _ _ _ _ _ _ _ _ _ three _ _ (cut-pass3-ensures .0) (cut-pass3-ensures .1) in
-    let five = before-next _ _ _ _ _ _ _ _ _ four _ _ (at-cut-pass4 .cut-pass4 .ensures .0)
-    (at-cut-pass4 .cut-pass4 .ensures .1) in
-    let six = before-next _ _ _ _ _ _ _ _ _ five _ _ (cut-pass5-ensures .0) (cut-pass5-ensures .1) in
-    let end = before-next _ _ _ _ _ _ _ _ _ six _ _ (c .before .before .cut-images .ensures .0)
-    (c .before .before .cut-images .ensures .1) in
-    end .long
+any-linked-requires : tie.Need-any-linked-requires
+any-linked-requires c κs = search needs
 
 returns : tie.Need-returns
 returns c =
-    let cut-pass5-ensures = c .before .before .before .before .before .before .cut-pass5 .ensures in
-    let at-cut-pass4 = c .before .before .before .before .before .before .before .before .before .before in
-    let cut-pass3-ensures = at-cut-pass4 .before .before .before .before .cut-pass3 .ensures in
-    let at-cut-pass2 = at-cut-pass4 .before .before .before .before .before .before .before .before in
-    let at-start = at-cut-pass2 .before .before .before .before .before .before in
-    let cut-pass-ensures = at-cut-pass2 .before .before .before .before .cut-pass .ensures in
-    let pre = at-start .before .before .before .before .before .pre in
-    let one = before-all _ _ _ _ _ (pre .0) (pre .1) _ (at-start .start .ensures) in
-    let two = before-next _ _ _ _ _ _ _ _ _ one _ _ (cut-pass-ensures .0) (cut-pass-ensures .1) in
-    let three = before-next _ _ _ _ _ _ _ _ _ two _ _ (at-cut-pass2 .cut-pass2 .ensures .0)
-    (at-cut-pass2 .cut-pass2 .ensures .1) in
-    let four = before-next _ _ _ _ _ _ _ _ _ three _ _ (cut-pass3-ensures .0) (cut-pass3-ensures .1) in
-    let five = before-next _ _ _ _ _ _ _ _ _ four _ _ (at-cut-pass4 .cut-pass4 .ensures .0)
-    (at-cut-pass4 .cut-pass4 .ensures .1) in
-    let six = before-next _ _ _ _ _ _ _ _ _ five _ _ (cut-pass5-ensures .0) (cut-pass5-ensures .1) in
-    let end = before-next _ _ _ _ _ _ _ _ _ six _ _ (c .before .before .cut-images .ensures .0)
-    (c .before .before .cut-images .ensures .1) in
-    before-none _ _ _ _ _ (pre .0) (pre .1) _ _ end
+    mended _ _ _ _ _ (c .before .before .before .before .before .before .args .counts)
+    (c .before .before .before .before .before .before .pre .0) (c .before .before .before .before .before .before .pre .1)
+    (unlinked _ _ _ (c .before .any-linked .ensures (not-true _ (c .if1 .taken))))
+
+set-marks-requires : tie.Need-set-marks-requires
+set-marks-requires c κs = marked-none _ (small _ _ (c .before .before .before .before .before .before .before .pre .0))
+
+is-plain-requires : tie.Need-is-plain-requires
+is-plain-requires c κs = search needs
+
+mend-requires : tie.Need-mend-requires
+mend-requires c κs = (
+  c .before .before .before .before .before .before .before .before .before .before .before .before .before .before .pre .0,
+  (
+    c .before .before .before .before .before .before .set-marks .ensures,
+    (
+      c .before .before .before .before .before .before .before .before .before .before .before .before .before .before .pre .1,
+      indexed-none _ _ _,
+    ),
+  ),
+)
+
+same-length : tie.Need-same-length
+same-length c = search needs
+
+returns-2 : tie.Need-returns-2
+returns-2 c =
+    mended _ _ _ _ _ (c .before .before .before .before .before .before .before .before .before .before .before .before .before
+    .before .before .before .before .args .counts)
+    (c .before .before .before .before .before .before .before .before .before .before .before .before .before .before .before
+    .before .before .pre .0) (c .before .before .before .before .before .before .before .before .before .before .before .before
+    .before .before .before .before .before .pre .1) (c .before .before .mend .ensures)
+
+chain-requires : tie.Need-chain-requires
+chain-requires c κs = (
+  c .before .before .before .before .before .before .before .before .before .before .before .before .before .pre .1,
+  heads-none,
+)
+
+mend-requires-2 : tie.Need-mend-requires-2
+mend-requires-2 c κs = (
+  c .before .before .before .before .before .before .before .before .before .before .before .before .before .before .before
+      .before .before .before .before .pre .0,
+  (
+    c .before .before .before .before .before .before .before .before .before .before
+        .before .set-marks .ensures,
+    (
+      like-tidy _ _ _ _ _ _ (c .before .before .before .before .before .chain .ensures .0)
+          (c .before .before .before .before .before .before .before .before .before .before .before .before .before .before .before
+          .before .before .before .before .pre .1),
+      c .before .before .before .before .before .chain .ensures .1,
+    ),
+  ),
+)
+
+unchain-requires : tie.Need-unchain-requires
+unchain-requires c κs =
+    omega (
+      arith,
+      c .before .before .before .before .before .before .before .before .before .before .before .before .before
+          .before .before .before .before .before .before .before .before .before .before .pre .1 .kept .fits .entries,
+      c .before .before .before .before .before .before .before .before .before .chain .ensures .0 .long,
+      long-on [] [] [] [] _ _ (c .before .before .before .before .before .before .before .before .before .before .before .before .before
+          .before .before .before .before .before .before .before .before .before .before .args .counts) _ _
+          (c .before .before .before .mend2 .ensures),
+    )
+
+same-length-2 : tie.Need-same-length-2
+same-length-2 c = search needs
+
+returns-3 : tie.Need-returns-3
+returns-3 c =
+    mended _ _ _ _ _ (c .before .before .before .before .before .before .before .before .before .before .before .before .before
+    .before .before .before .before .before .before .before .before .before .before .before .before .before .args .counts)
+    (c .before .before .before .before .before .before .before .before .before .before .before .before .before .before .before
+    .before .before .before .before .before .before .before .before .before .before .before .pre .0)
+    (c .before .before .before .before .before .before .before .before .before .before .before .before .before .before .before
+    .before .before .before .before .before .before .before .before .before .before .before .pre .1)
+    (unchained _ _ _ _ (c .before .before .before .before .before .before .before .before .before .before .before .before .before
+    .before .before .before .before .before .before .before .before .before .before .before .before .before .args .counts) _ _ _ _
+    (c .before .before .before .before .before .before .before .before .before .before .before .before .before .before .before
+    .before .before .before .before .before .before .before .before .before .before .before .pre .1)
+    (c .before .before .before .before .before .before .before .before .before .before .before .before .before .before .before
+    .before .is-plain .ensures (not-false _ (c .before .before .before .before .before .before .before .before .before .before
+    .before .before .before .before .before .if2 .left)))
+    (c .before .before .before .before .before .before .before .before .before .before .before .before .chain .ensures .0)
+    (c .before .before .before .before .before .before .mend2 .ensures) (c .before .before .unchain .ensures))
 
 pub repair-spec : {M : Type 1} → statement M
 repair-spec =
     tie.close
     (tie.spec
-    start-requires
-    cut-pass-requires
-    cut-pass-requires-2
-    cut-pass-requires-3
-    cut-pass-requires-4
-    cut-pass-requires-5
-    cut-images-requires
+    any-linked-requires
+    returns
+    set-marks-requires
+    is-plain-requires
+    mend-requires
     same-length
-    returns)
+    returns-2
+    chain-requires
+    mend-requires-2
+    unchain-requires
+    same-length-2
+    returns-3)

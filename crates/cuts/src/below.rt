@@ -1,0 +1,45 @@
+// The nodes below a node follow it in the table.
+use tree::read::attribute_id;
+use tree::word;
+use tree::word::node_word;
+ghost use mathlib.Core.Path.{_≡_};
+ghost use Prim.Native.Nat.{ℕ, _+_, _-_, _*_, _≤_, _<_};
+ghost use lib.ListN.{length};
+ghost use Rattle.model.specs.Tables.{attributeId};
+ghost use Rattle.model.specs.Repair.{upFrom, descendants};
+ghost use Rattle.tree.specs.Lent.{readOf, Readable};
+ghost use Rattle.cuts.specs.Seen.{counted};
+
+// `descendants` of node i: from i up to the node that is answered, the first behind i whose parent comes before i.
+pub fn behind_below(nodes: &[u32], count: u32, i: u32) -> u32
+    requires { ⌜ (i < count) × (8 * count ≤ length (now nodes)) ⌝ }
+    ensures same { λ r. ⌜ descendants (counted (now (nodes .entry)) count) i ≡ upFrom i (r - i) ⌝ }
+    ensures within { λ r. ⌜ (i < r) × (r ≤ count) ⌝ }
+{
+    let mut j = i + 1;
+    while j < count {
+        if node_word(nodes, j, word::PARENT) <= i {
+            return j;
+        }
+        j += 1;
+    }
+    j
+}
+
+// The first of the nodes from i up to end that has that attribute; end if none has.
+pub fn first_with(nodes: &[u32], attributes: &[u32], name: u32, i: u32, end: u32) -> u32
+    requires { ⌜ i ≤ end ⌝ }
+    requires { ⌜ ((m : ℕ) → m < end → Readable (readOf (now nodes) (now attributes)) m) ⌝ }
+    ensures within { λ r. ⌜ (i ≤ r) × (r ≤ end) ⌝ }
+    ensures none { λ r. ⌜ ((m : ℕ) → i ≤ m → m < r
+        → attributeId (readOf (now (nodes .entry)) (now (attributes .entry))) m name ≡ 0) ⌝ }
+{
+    let mut m = i;
+    while m < end {
+        if attribute_id(nodes, attributes, m, name) != 0 {
+            return m;
+        }
+        m += 1;
+    }
+    m
+}

@@ -1,0 +1,4 @@
+pub mod Comparing
+pub mod Lasting
+pub mod Linking
+pub mod Looking
