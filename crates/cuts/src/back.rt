@@ -18,8 +18,8 @@ ghost use Rattle.cuts.specs.Seen.{seenOf, Mendable, Aimed, cutBack, cutN
 fn cut_back(
     script: &[u8],
     characters: &[u8],
-    marks: &[usize; 4097],
-    heads: &[u32; 8193],
+    marks: &[usize; 1025],
+    heads: &[u32; 2049],
     nodes: &[u32],
     attributes: &mut [u32],
     counts: Counts,
@@ -49,8 +49,8 @@ fn cut_back(
 pub fn cut_below(
     script: &[u8],
     characters: &[u8],
-    marks: &[usize; 4097],
-    heads: &[u32; 8193],
+    marks: &[usize; 1025],
+    heads: &[u32; 2049],
     nodes: &[u32],
     attributes: &mut [u32],
     counts: Counts,

@@ -85,10 +85,10 @@ module _ (chars ns es hs : List ℕ) (i j : ℕ) (e : j ≡ attributeId (readOf 
 pub turned-not : (chars ns es hs : List ℕ) (i : ℕ) → Turned chars ns es hs i es hs false
 turned-not chars ns es hs i = record { stop = λ e. (refl, refl); none = λ y. (refl, refl); some = λ e. absurd (false≢true e) }
 
-pub bucket-small : (h : ℕ) (bs : List ℕ) → h < 8192 → bucketFrom h bs < 8192
+pub bucket-small : (h : ℕ) (bs : List ℕ) → h < 2048 → bucketFrom h bs < 2048
 unfolding bucketFrom
 bucket-small h [] l = l
-bucket-small h (b ∷ bs) l = bucket-small ((h * 7735 + b) % 8192) bs (omega arith)
+bucket-small h (b ∷ bs) l = bucket-small ((h * 7735 + b) % 2048) bs (omega arith)
 
 -- THE LOOP
 
@@ -97,18 +97,18 @@ pub record Linking (chars ns es₀ : List ℕ) (c : Counts) (es hs : List ℕ) (
   pub high : i ≤ c .nodes
   pub like : Like (c .attributes) es₀ es
   pub chained : Chained chars (readOf ns es) hs i
-  pub long : length hs ≡ 8193
-  pub off : getD hs 8192 0 ≡ 0
+  pub long : length hs ≡ 2049
+  pub off : getD hs 2048 0 ≡ 0
 
 pub linking-first : (chars ns es : List ℕ) (c : Counts) (hs : List ℕ) → Like (c .attributes) es es
-    → (length hs ≡ 8193) × ((b : ℕ) → getD hs b 0 ≡ 0) → Linking chars ns es c es hs 0
+    → (length hs ≡ 2049) × ((b : ℕ) → getD hs b 0 ≡ 0) → Linking chars ns es c es hs 0
 unfolding lastIn
 linking-first chars ns es c hs w h = record {
   high = omega arith;
   like = w;
   chained = record { heads = λ b l. h .1 b; next = λ m l. absurd (omega arith) };
   long = h .0;
-  off = h .1 8192;
+  off = h .1 2048;
 }
 
 last-more : (chars : List ℕ) (t : Tree) (b n : ℕ) → lastIn chars t b (n + 1) ≡ pick (isIn chars t b n) (λ u. n + 1) (λ u. lastIn chars t b n)
@@ -132,7 +132,7 @@ module _ (size : ℕ) (chars ns es₀ : List ℕ) (c : Counts) (g : Tidy size (t
       b : ℕ
       b = bucketOf (elementId chars t i)
 
-      small : b < 8192
+      small : b < 2048
       small = bucket-small 0 (elementId chars t i) (omega arith)
 
       x : ℕ
@@ -170,7 +170,7 @@ module _ (size : ℕ) (chars ns es₀ : List ℕ) (c : Counts) (g : Tidy size (t
             like = like-next (c .attributes) es₀ es (w .like) e x inside (g .kept .fits .entries);
             chained = record { heads = heads; next = next };
             long = length-set hs b (i + 1) ∙ w .long;
-            off = getD-set-other hs b 8192 (i + 1) 0 (λ d. omega (arith, small)) ∙ w .off;
+            off = getD-set-other hs b 2048 (i + 1) 0 (λ d. omega (arith, small)) ∙ w .off;
           }))
         where
           e : ℕ
@@ -202,7 +202,7 @@ module _ (size : ℕ) (chars ns es₀ : List ℕ) (c : Counts) (g : Tidy size (t
           ins : (a : ℕ) → isIn chars t a i ≡ eqb b a
           ins a = in-some chars t i z a
 
-          heads : (a : ℕ) → a < 8192 → getD (set hs b (i + 1)) a 0 ≡ lastIn chars u a (i + 1)
+          heads : (a : ℕ) → a < 2048 → getD (set hs b (i + 1)) a 0 ≡ lastIn chars u a (i + 1)
           heads a l = at (ℕ-discrete b a) ∙ sym (last-in-same chars t u ids values a (i + 1))
             where
               at : Dec (b ≡ a) → getD (set hs b (i + 1)) a 0 ≡ lastIn chars t a (i + 1)
@@ -250,15 +250,15 @@ pub linking-stop : (chars ns es₀ : List ℕ) (c : Counts) (es hs : List ℕ) (
     (a : Bool) → Turned chars ns es hs i es′ hs′ a → a ≡ false → Like (c .attributes) es₀ es′ × Indexed chars (readOf ns es′) hs′ (c .nodes)
 linking-stop chars ns es₀ c es hs i w es′ hs′ a r f = (
   subst (Like (c .attributes) es₀) (sym (r .stop f .0)) (w .like),
-  record { chained = λ z. absurd (z (ap (λ (l : List ℕ). getD l 8192 0) (r .stop f .1) ∙ w .off)) },
+  record { chained = λ z. absurd (z (ap (λ (l : List ℕ). getD l 2048 0) (r .stop f .1) ∙ w .off)) },
 )
 
 -- All nodes are chained.
 pub linking-done : (chars ns es₀ : List ℕ) (c : Counts) (es hs : List ℕ) (i : ℕ) → Linking chars ns es₀ c es hs i → c .nodes ≤ i
-    → Indexed chars (readOf ns es) (set hs 8192 1) (c .nodes)
+    → Indexed chars (readOf ns es) (set hs 2048 1) (c .nodes)
 linking-done chars ns es₀ c es hs i w l =
     let e : i ≡ c .nodes = omega (arith, w .high) in
     let k : Chained chars (readOf ns es) hs (c .nodes) = subst (Chained chars (readOf ns es) hs) e (w .chained) in
     record {
-      chained = λ z. record { heads = λ b h. getD-set-other hs 8192 b 1 0 (λ y. omega arith) ∙ k .heads b h; next = k .next };
+      chained = λ z. record { heads = λ b h. getD-set-other hs 2048 b 1 0 (λ y. omega arith) ∙ k .heads b h; next = k .next };
     }

@@ -93,7 +93,7 @@ module _ (chars : List ℕ) (t : Tree) (hs : List ℕ) (count : ℕ) (k : Chaine
         same = sym (jump chars t id n) ∙ e;
       }
 
-  pub hunt-first : (b : ℕ) → b ≡ bucketOf id → b < 8192 → Hunting chars t id count (getD hs b 0)
+  pub hunt-first : (b : ℕ) → b ≡ bucketOf id → b < 2048 → Hunting chars t id count (getD hs b 0)
   hunt-first b e l = rw (k .heads b l, e) (from count (omega arith) refl)
 
   module _ (n : ℕ) (w : Hunting chars t id count n) (some : 0 < n) (j : ℕ) (e : j ≡ attributeId t (n - 1) AId.Id) where

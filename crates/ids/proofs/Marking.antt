@@ -14,17 +14,17 @@ use Rattle.ids.specs.Chains.{bucketFrom, bucketOf, Unmarked}
 -- In the middle of a string: what is left gives, from h on, what all of it gives.
 pub record Summing (s : List ℕ) (h i : ℕ) : Type 0 where
   pub high : i ≤ length s
-  pub small : h < 8192
+  pub small : h < 2048
   pub same : bucketFrom h (drop i s) ≡ bucketOf s
 
 pub summing-more : (s : List ℕ) (h i : ℕ) → Summing s h i → i < length s → (b : ℕ) → b ≡ getD s i 0
-    → Summing s ((h * 7735 + b) % 8192) (i + 1)
+    → Summing s ((h * 7735 + b) % 2048) (i + 1)
 unfolding bucketFrom
 summing-more s h i w l b e = record {
   high = omega arith;
   small = omega arith;
   same =
-      let on : bucketFrom h (drop i s) ≡ bucketFrom ((h * 7735 + getD s i 0) % 8192) (drop (suc i) s) = ap (bucketFrom h) (drop-cons s i 0 l) in
+      let on : bucketFrom h (drop i s) ≡ bucketFrom ((h * 7735 + getD s i 0) % 2048) (drop (suc i) s) = ap (bucketFrom h) (drop-cons s i 0 l) in
       rw (e, add-one i) (sym on ∙ w .same);
 }
 

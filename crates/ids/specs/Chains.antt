@@ -16,7 +16,7 @@ use Rattle.tree.specs.Lent.{readOf}
 -- The bucket of a string whose beginning gave h.
 unfoldable pub bucketFrom : ℕ → List ℕ → ℕ
 bucketFrom h [] = h
-bucketFrom h (b ∷ bs) = bucketFrom ((h * 7735 + b) % 8192) bs
+bucketFrom h (b ∷ bs) = bucketFrom ((h * 7735 + b) % 2048) bs
 
 -- The bucket of a string: nothing is asked of it but that equal strings have the same.
 abbrev pub bucketOf : List ℕ → ℕ
@@ -35,13 +35,13 @@ lastIn chars t b (suc n) = pick (isIn chars t b n) (λ u. n + 1) (λ u. lastIn c
 
 -- The heads are the last nodes of their buckets, among the first n; behind its importance an id's entry has the last one before it.
 pub record Chained (chars : List ℕ) (t : Tree) (hs : List ℕ) (n : ℕ) : Type 0 where
-  pub heads : (b : ℕ) → b < 8192 → getD hs b 0 ≡ lastIn chars t b n
+  pub heads : (b : ℕ) → b < 2048 → getD hs b 0 ≡ lastIn chars t b n
   pub next : (m : ℕ) → m < n → (attributeId t m AId.Id ≡ 0 → ⊥)
       → entryWord t (attributeId t m AId.Id - 1) 1 / 2 ≡ lastIn chars t (bucketOf (elementId chars t m)) m
 
 -- It is so, if the word behind the heads says so.
 pub record Indexed (chars : List ℕ) (t : Tree) (hs : List ℕ) (n : ℕ) : Type 0 where
-  pub chained : (getD hs 8192 0 ≡ 0 → ⊥) → Chained chars t hs n
+  pub chained : (getD hs 2048 0 ≡ 0 → ⊥) → Chained chars t hs n
 
 -- The table with the node whose index plus 1 is n behind the importance of entry j.
 abbrev pub nextSet : List ℕ → ℕ → ℕ → List ℕ

@@ -9,15 +9,15 @@ fn wide(b: u8) -> usize
     b as usize
 }
 
-// A number below 8,192 for a string.
+// A number below 2,048 for a string.
 pub fn bucket(bytes: &[u8]) -> usize
     ensures same { λ r. ⌜ r ≡ bucketOf (now (bytes .entry)) ⌝ }
-    ensures small { λ r. ⌜ r < 8192 ⌝ }
+    ensures small { λ r. ⌜ r < 2048 ⌝ }
 {
     let mut h: usize = 0;
     let mut i = 0;
     while i < bytes.len() {
-        h = (h * 7735 + wide(bytes[i])) % 8192;
+        h = (h * 7735 + wide(bytes[i])) % 2048;
         i += 1;
     }
     h

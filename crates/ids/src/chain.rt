@@ -28,7 +28,7 @@ fn chain_one(
     nodes: &[u32],
     attributes: &mut [u32],
     characters: &[u8],
-    heads: &mut [u32; 8193],
+    heads: &mut [u32; 2049],
     i: u32,
 ) -> bool
     requires { ⌜ ReadableIn (length (now characters)) (readOf (now nodes) (now attributes)) i ⌝ }
@@ -60,11 +60,11 @@ pub fn chain(
     nodes: &[u32],
     attributes: &mut [u32],
     characters: &[u8],
-    heads: &mut [u32; 8193],
+    heads: &mut [u32; 2049],
     counts: Counts,
 )
     requires { ⌜ Tidy (length (now characters)) (treeOf (now nodes) (now attributes) (replicate (counts .text) 0) counts) ⌝ }
-    requires { ⌜ (length (now heads) ≡ 8193) × ((b : ℕ) → getD (now heads) b 0 ≡ 0) ⌝ }
+    requires { ⌜ (length (now heads) ≡ 2049) × ((b : ℕ) → getD (now heads) b 0 ≡ 0) ⌝ }
     ensures like { λ _. ⌜ Like (counts .attributes) (now (attributes .entry)) (now (attributes .exit)) ⌝ }
     ensures indexed { λ _. ⌜ Indexed (now (characters .entry)) (readOf (now (nodes .entry)) (now (attributes .exit))) (now (heads .exit))
         (counts .nodes) ⌝ }
@@ -76,5 +76,5 @@ pub fn chain(
         }
         i += 1;
     }
-    heads[8192] = 1;
+    heads[2048] = 1;
 }

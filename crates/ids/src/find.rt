@@ -18,7 +18,7 @@ fn find_chained(
     nodes: &[u32],
     attributes: &[u32],
     characters: &[u8],
-    heads: &[u32; 8193],
+    heads: &[u32; 2049],
     id: &[u8],
     count: u32,
 ) -> u32
@@ -45,7 +45,7 @@ pub fn find_id(
     nodes: &[u32],
     attributes: &[u32],
     characters: &[u8],
-    heads: &[u32; 8193],
+    heads: &[u32; 2049],
     id: &[u8],
     count: u32,
 ) -> u32
@@ -55,7 +55,7 @@ pub fn find_id(
         ≡ lastWithId (now (characters .entry)) (readOf (now (nodes .entry)) (now (attributes .entry))) (now (id .entry)) count ⌝ }
     ensures within { λ r. ⌜ r ≤ count ⌝ }
 {
-    if heads[8192] == 0 {
+    if heads[2048] == 0 {
         return last_with_id(nodes, attributes, characters, id, count);
     }
     find_chained(nodes, attributes, characters, heads, id, count)

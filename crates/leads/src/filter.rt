@@ -119,7 +119,7 @@ fn any_id_at(script: &[u8], characters: &[u8], attributes: &[u32], c: Cursor, j:
 pub fn has_filter(
     script: &[u8],
     characters: &[u8],
-    marks: &[usize; 4097],
+    marks: &[usize; 1025],
     nodes: &[u32],
     attributes: &[u32],
     m: u32,

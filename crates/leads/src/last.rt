@@ -83,7 +83,7 @@ pub fn is_led(
     nodes: &[u32],
     attributes: &[u32],
     characters: &[u8],
-    heads: &[u32; 8193],
+    heads: &[u32; 2049],
     count: u32,
     i: u32,
 ) -> bool

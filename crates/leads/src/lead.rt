@@ -45,7 +45,7 @@ pub fn is_id(attributes: &[u32], characters: &[u8], j: u32, value: &[u8]) -> boo
 pub fn lead_of(
     script: &[u8],
     characters: &[u8],
-    marks: &[usize; 4097],
+    marks: &[usize; 1025],
     nodes: &[u32],
     attributes: &[u32],
     aim: Aim,

@@ -23,7 +23,7 @@ pub enum FoundLink {
 pub fn link_of(
     script: &[u8],
     characters: &[u8],
-    marks: &[usize; 4097],
+    marks: &[usize; 1025],
     nodes: &[u32],
     attributes: &[u32],
     i: u32,

@@ -29,33 +29,33 @@ stored ms i a b c d =
     rw (p, q, r) refl
 
 -- Before any mark is set, each is the beginning of the script.
-pub marked-none : (s : List ℕ) → length s ≤ mostBytes → Marked s (replicate 4097 0)
+pub marked-none : (s : List ℕ) → length s ≤ mostBytes → Marked s (replicate 1025 0)
 marked-none s h = record {
-  long = length-replicate {A = ℕ} 4097 0;
+  long = length-replicate {A = ℕ} 1025 0;
   each = λ k l. placed-first s (markIn none k)
       (sym (by-words none k atStart (zero (4 * k)) (zero (4 * k + 1)) (zero (4 * k + 2)) (zero (4 * k + 3)))) h;
 }
   where
     none : List ℕ
-    none = replicate 4097 0
+    none = replicate 1025 0
 
     zero : (q : ℕ) → getD none q 0 ≡ 0
-    zero q = replicate-zero 4097 q
+    zero q = replicate-zero 1025 q
 
 module _ (s ms : List ℕ) (m : Marked s ms) where
   -- How far they are apart is no mark.
-  pub marked-stride : (v : ℕ) → Marked s (set ms 4096 v)
+  pub marked-stride : (v : ℕ) → Marked s (set ms 1024 v)
   marked-stride v = record {
-    long = length-set ms 4096 v ∙ m .long;
-    each = λ k l. subst (Fit s) (by-words (set ms 4096 v) k (markIn ms k) (other (4 * k) (omega arith))
+    long = length-set ms 1024 v ∙ m .long;
+    each = λ k l. subst (Fit s) (by-words (set ms 1024 v) k (markIn ms k) (other (4 * k) (omega arith))
         (other (4 * k + 1) (omega arith)) (other (4 * k + 2) (omega arith)) (other (4 * k + 3) (omega arith))) (m .each k l);
   }
     where
-      other : (q : ℕ) → q < 4096 → getD (set ms 4096 v) q 0 ≡ getD ms q 0
-      other q l = getD-set-other ms 4096 q v 0 (λ e. omega arith)
+      other : (q : ℕ) → q < 1024 → getD (set ms 1024 v) q 0 ≡ getD ms q 0
+      other q l = getD-set-other ms 1024 q v 0 (λ e. omega arith)
 
   -- One more.
-  pub marked-more : (k : ℕ) → k < 1024 → (c : Cursor) → Fit s c → Marked s (markSet ms k c)
+  pub marked-more : (k : ℕ) → k < 256 → (c : Cursor) → Fit s c → Marked s (markSet ms k c)
   marked-more k l c f = record { long = length-sets ms (4 * k) vs ∙ m .long; each = λ j h. go j h (ℕ-discrete j k) }
     where
       vs : List ℕ
@@ -73,7 +73,7 @@ module _ (s ms : List ℕ) (m : Marked s ms) where
       last : (j : ℕ) → getD ms (4 * j + 0) 0 ≡ getD ms (4 * j) 0
       last j = let e : 4 * j + 0 ≡ 4 * j = omega arith in ap (λ (q : ℕ). getD ms q 0) e
 
-      go : (j : ℕ) → j < 1024 → Dec (j ≡ k) → Fit s (markIn (markSet ms k c) j)
+      go : (j : ℕ) → j < 256 → Dec (j ≡ k) → Fit s (markIn (markSet ms k c) j)
       go j h (yes e) = subst (λ (x : ℕ). Fit s (markIn (markSet ms k c) x)) (sym e)
           (subst (Fit s) (by-words (markSet ms k c) k c (first k ∙ own 0 (omega arith)) (own 1 (omega arith)) (own 2 (omega arith))
           (own 3 (omega arith))) f)
@@ -84,10 +84,10 @@ module _ (s ms : List ℕ) (m : Marked s ms) where
 pub record Marking (s ms : List ℕ) (c : Cursor) (number k : ℕ) : Type 0 where
   pub marked : Marked s ms
   pub fit : Fit s c
-  pub low : number ≤ 272 * k
+  pub low : number ≤ 1040 * k
 
-pub marking-more : (s ms : List ℕ) (c : Cursor) (number k : ℕ) → Marking s ms c number k → k < 1024 → (n : Cursor) → Fit s n
-    → (ms′ : List ℕ) → ms′ ≡ markSet ms k n → (stride : ℕ) → stride ≤ 272 → Marking s ms′ n (number + stride) (k + 1)
+pub marking-more : (s ms : List ℕ) (c : Cursor) (number k : ℕ) → Marking s ms c number k → k < 256 → (n : Cursor) → Fit s n
+    → (ms′ : List ℕ) → ms′ ≡ markSet ms k n → (stride : ℕ) → stride ≤ 1040 → Marking s ms′ n (number + stride) (k + 1)
 marking-more s ms c number k w l n f ms′ e stride h = record {
   marked = subst (Marked s) (sym e) (marked-more s ms (w .marked) k l n f);
   fit = f;

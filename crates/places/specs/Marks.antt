@@ -18,5 +18,5 @@ markSet ms k c = sets ms (4 * k) (c .at ∷ c .chars ∷ c .number ∷ c .texts 
 
 -- Each mark is a cursor of the script: it stands behind as many commands as it says.
 pub record Marked (script ms : List ℕ) : Type 0 where
-  pub long : length ms ≡ 4097
-  pub each : (k : ℕ) → k < 1024 → Fit script (markIn ms k)
+  pub long : length ms ≡ 1025
+  pub each : (k : ℕ) → k < 256 → Fit script (markIn ms k)

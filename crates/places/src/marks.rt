@@ -6,11 +6,11 @@ ghost use Prim.Native.Nat.{_<_};
 ghost use Rattle.script.specs.Step.{Fit, placeOf};
 ghost use Rattle.places.specs.Marks.{markIn, markSet, Marked};
 
-// 1,024 marks of four words each; the last word is how many commands lie between two of them, 0 where none is set.
+// 256 marks of four words each; the last word is how many commands lie between two of them, 0 where none is set.
 
 // Mark k.
-fn mark_at(marks: &[usize; 4097], k: usize) -> Cursor
-    requires { ⌜ k < 1024 ⌝ }
+fn mark_at(marks: &[usize; 1025], k: usize) -> Cursor
+    requires { ⌜ k < 256 ⌝ }
     ensures { λ r. ⌜ r ≡ markIn (now (marks .entry)) k ⌝ }
 {
     let i = 4 * k;
@@ -23,8 +23,8 @@ fn mark_at(marks: &[usize; 4097], k: usize) -> Cursor
 }
 
 // Mark k becomes c.
-fn put_mark(marks: &mut [usize; 4097], k: usize, c: Cursor)
-    requires { ⌜ k < 1024 ⌝ }
+fn put_mark(marks: &mut [usize; 1025], k: usize, c: Cursor)
+    requires { ⌜ k < 256 ⌝ }
     ensures { λ _. ⌜ now (marks .exit) ≡ markSet (now (marks .entry)) k c ⌝ }
 {
     let i = 4 * k;
@@ -34,25 +34,25 @@ fn put_mark(marks: &mut [usize; 4097], k: usize, c: Cursor)
     marks[i + 3] = c.texts;
 }
 
-// The last of 1,024 marks that is no later than that number of commands.
+// The last of 256 marks that is no later than that number of commands.
 fn mark_of(number: usize, stride: usize) -> usize
     requires { ⌜ 0 < stride ⌝ }
-    ensures { λ r. ⌜ r < 1024 ⌝ }
+    ensures { λ r. ⌜ r < 256 ⌝ }
 {
     let k = number / stride;
-    if k < 1024 {
+    if k < 256 {
         return k;
     }
-    1023
+    255
 }
 
 // A place from which to look for the command behind that many: the hint, or a mark that is nearer.
-fn near(script: &[u8], marks: &[usize; 4097], number: usize, hint: Cursor) -> Cursor
+fn near(script: &[u8], marks: &[usize; 1025], number: usize, hint: Cursor) -> Cursor
     requires { ⌜ Fit (now script) hint ⌝ }
     requires { ⌜ Marked (now script) (now marks) ⌝ }
     ensures { λ r. ⌜ Fit (now (script .entry)) r ⌝ }
 {
-    let stride = marks[4096];
+    let stride = marks[1024];
     if stride == 0 {
         return hint;
     }
@@ -74,7 +74,7 @@ fn near(script: &[u8], marks: &[usize; 4097], number: usize, hint: Cursor) -> Cu
 pub fn seek_near(
     script: &[u8],
     characters: &[u8],
-    marks: &[usize; 4097],
+    marks: &[usize; 1025],
     number: usize,
     hint: Cursor,
 ) -> Cursor
@@ -88,16 +88,16 @@ pub fn seek_near(
 }
 
 // All marks of a script, in one walk.
-pub fn set_marks(script: &[u8], characters: &[u8], marks: &mut [usize; 4097])
+pub fn set_marks(script: &[u8], characters: &[u8], marks: &mut [usize; 1025])
     requires { ⌜ Marked (now script) (now marks) ⌝ }
     ensures { λ _. ⌜ Marked (now (script .entry)) (now (marks .exit)) ⌝ }
 {
-    let stride = script.len() / 4096 + 16;
-    marks[4096] = stride;
+    let stride = script.len() / 1024 + 16;
+    marks[1024] = stride;
     let mut c = Cursor::start();
     let mut number = 0;
     let mut k = 0;
-    while k < 1024 {
+    while k < 256 {
         c = seek(script, characters, number, c);
         put_mark(marks, k, c);
         if c.number < number {

@@ -273,8 +273,8 @@ unlinked chars values t h =
     none code k = none-named t code (t .nodeCount) 0 (λ m x y. k m (omega arith))
 
 -- Heads that are all 0: nothing is chained.
-pub heads-none : (length {A = ℕ} (replicate 8193 0) ≡ 8193) × ((b : ℕ) → _≡_ {A = ℕ} (getD (replicate 8193 0) b 0) 0)
-heads-none = (length-replicate {A = ℕ} 8193 0, replicate-zero 8193)
+pub heads-none : (length {A = ℕ} (replicate 2049 0) ≡ 2049) × ((b : ℕ) → _≡_ {A = ℕ} (getD (replicate 2049 0) b 0) 0)
+heads-none = (length-replicate {A = ℕ} 2049 0, replicate-zero 2049)
 
-pub indexed-none : (chars : List ℕ) (t : Tree) (n : ℕ) → Indexed chars t (replicate 8193 0) n
-indexed-none chars t n = record { chained = λ z. absurd (z (replicate-zero 8193 8192)) }
+pub indexed-none : (chars : List ℕ) (t : Tree) (n : ℕ) → Indexed chars t (replicate 2049 0) n
+indexed-none chars t n = record { chained = λ z. absurd (z (replicate-zero 2049 2048)) }

@@ -28,8 +28,8 @@ pub struct Image {
 pub fn image_of(
     script: &[u8],
     characters: &[u8],
-    marks: &[usize; 4097],
-    heads: &[u32; 8193],
+    marks: &[usize; 1025],
+    heads: &[u32; 2049],
     nodes: &[u32],
     attributes: &[u32],
     counts: Counts,

@@ -19,8 +19,8 @@ ghost use Rattle.repair.specs.Passes.{imageCuts};
 fn cut_image(
     script: &[u8],
     characters: &[u8],
-    marks: &[usize; 4097],
-    heads: &[u32; 8193],
+    marks: &[usize; 1025],
+    heads: &[u32; 2049],
     nodes: &[u32],
     attributes: &mut [u32],
     counts: Counts,
@@ -62,8 +62,8 @@ fn cut_image(
 pub fn cut_images(
     script: &[u8],
     characters: &[u8],
-    marks: &[usize; 4097],
-    heads: &[u32; 8193],
+    marks: &[usize; 1025],
+    heads: &[u32; 2049],
     nodes: &[u32],
     attributes: &mut [u32],
     counts: Counts,

@@ -51,8 +51,8 @@ pub fn is_named(nodes: &[u32], code: u32, i: u32) -> bool
 fn cut_named(
     script: &[u8],
     characters: &[u8],
-    marks: &[usize; 4097],
-    heads: &[u32; 8193],
+    marks: &[usize; 1025],
+    heads: &[u32; 2049],
     nodes: &[u32],
     attributes: &mut [u32],
     counts: Counts,
@@ -91,8 +91,8 @@ fn cut_named(
 pub fn cut_pass(
     script: &[u8],
     characters: &[u8],
-    marks: &[usize; 4097],
-    heads: &[u32; 8193],
+    marks: &[usize; 1025],
+    heads: &[u32; 2049],
     nodes: &[u32],
     attributes: &mut [u32],
     counts: Counts,

@@ -26,8 +26,8 @@ ghost use Rattle.repair.specs.Passes.{allPasses};
 fn mend(
     script: &[u8],
     characters: &[u8],
-    marks: &[usize; 4097],
-    heads: &[u32; 8193],
+    marks: &[usize; 1025],
+    heads: &[u32; 2049],
     nodes: &[u32],
     attributes: &mut [u32],
     counts: Counts,
@@ -127,9 +127,9 @@ pub fn repair(
     if !any_linked(nodes, counts.nodes) {
         return;
     }
-    let mut marks: [usize; 4097] = [0; 4097];
+    let mut marks: [usize; 1025] = [0; 1025];
     set_marks(script, characters, &mut marks);
-    let mut heads: [u32; 8193] = [0; 8193];
+    let mut heads: [u32; 2049] = [0; 2049];
     if !is_plain(attributes, counts.attributes) {
         mend(
             script,

@@ -10,7 +10,7 @@ abbrev Inv-loop : tie.InvT-loop
 Inv-loop script characters marks₀ stride c₀ number₀ k₀ marks c number k = Marking script marks c number k
 
 abbrev μ-loop : tie.MeasureT-loop
-μ-loop script characters marks₀ stride c₀ number₀ k₀ marks c number k = 1024 - k
+μ-loop script characters marks₀ stride c₀ number₀ k₀ marks c number k = 256 - k
 
 add-stride : tie.Need-add-stride Inv-loop μ-loop
 add-stride c = search needs
