@@ -167,6 +167,9 @@ pub fn links_table() {
     for n in [300, 600, 1200] {
         row(&format!("{n} fills with a pattern of as many"), &drawings::crossed(n));
     }
+    for n in [500, 1000, 2000] {
+        row(&format!("{n} uses of one group"), &drawings::uses_of_one(n));
+    }
     for n in [1000, 2000, 4000] {
         row(&format!("{n} uses of as many groups"), &drawings::uses(n));
     }

@@ -142,8 +142,13 @@ fn inherit(size: Size) -> Drawing {
     })
 }
 
+/// Comments, and nothing else.
+fn comments(size: Size) -> Drawing {
+    filled(size, |d| d.comment())
+}
+
 /// The drawings of a size.
-pub fn large(size: Size) -> [(&'static str, Drawing); 6] {
+pub fn large(size: Size) -> [(&'static str, Drawing); 7] {
     [
         ("rects", rects(size)),
         ("groups, 1,000 deep", groups(size)),
@@ -151,6 +156,7 @@ pub fn large(size: Size) -> [(&'static str, Drawing); 6] {
         ("styles", styles(size)),
         ("fonts", fonts(size)),
         ("inherit, 50 deep", inherit(size)),
+        ("comments", comments(size)),
     ]
 }
 
@@ -275,6 +281,21 @@ pub fn uses(n: usize) -> Drawing {
         for i in 0..n {
             d.open(USE, 1);
             href(d, 0, &format!("g{i}"));
+            d.close();
+        }
+    })
+}
+
+/// A group of ten rects, and so many uses of it.
+pub fn uses_of_one(n: usize) -> Drawing {
+    in_svg(|d| {
+        d.open(G, 1);
+        d.attribute(Id as u8, 0, b"g");
+        (0..10).for_each(|_| rect(d));
+        d.close();
+        for _ in 0..n {
+            d.open(USE, 1);
+            href(d, 0, "g");
             d.close();
         }
     })
