@@ -1,0 +1,4 @@
+pub mod Ids
+pub mod Slots
+pub mod Probing
+pub mod Knowing
