@@ -1,4 +1,1 @@
 pub mod Ids
-pub mod Slots
-pub mod Probing
-pub mod Knowing
