@@ -1,1 +1,7 @@
 pub mod Ids
+pub mod Parts
+pub mod Within
+pub mod Probing
+pub mod Knowing
+pub mod Entering
+pub mod Filling

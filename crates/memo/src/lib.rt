@@ -1,3 +1,6 @@
-// Elements by their ids: the plain search, and a table of elements that is filled once and makes the search short.
+// Elements by their ids: the plain search, and a table that is filled once and makes the search short.
+pub mod fill;
+pub mod key;
 pub mod plain;
 pub mod table;
+pub mod words;
