@@ -161,7 +161,17 @@ fn begin(
         });
     }
     if code == eid::TEXT {
-        return begin_text(script, characters, slots, nodes, attributes, text, ignored, s, e);
+        return begin_text(
+            script,
+            characters,
+            slots,
+            nodes,
+            attributes,
+            text,
+            ignored,
+            s,
+            e,
+        );
     }
     match parse_svg_element(
         script,
@@ -202,7 +212,17 @@ fn advance(
     let c = s.c;
     let counts = s.counts;
     match next_item(script, characters, c) {
-        Item::Begin(e) => begin(script, characters, slots, nodes, attributes, text, ignored, s, e),
+        Item::Begin(e) => begin(
+            script,
+            characters,
+            slots,
+            nodes,
+            attributes,
+            text,
+            ignored,
+            s,
+            e,
+        ),
         Item::Text(_, _, n) => Turn::On(State {
             c: n,
             parent: s.parent,
@@ -238,7 +258,16 @@ fn run_by(
 {
     let mut s = first;
     loop {
-        match advance(script, characters, slots, nodes, attributes, text, ignored, s) {
+        match advance(
+            script,
+            characters,
+            slots,
+            nodes,
+            attributes,
+            text,
+            ignored,
+            s,
+        ) {
             Turn::On(n) => {
                 s = n;
             }
@@ -277,7 +306,16 @@ fn run(
 {
     let mut slots: [u16; 32768] = [0; 32768];
     fill(script, characters, &mut slots);
-    run_by(script, characters, &slots, nodes, attributes, text, ignored, first)
+    run_by(
+        script,
+        characters,
+        &slots,
+        nodes,
+        attributes,
+        text,
+        ignored,
+        first,
+    )
 }
 
 // A refusal's number.

@@ -153,7 +153,14 @@ pub fn leading_id(script: &[u8], characters: &[u8], slots: &[u16], e: Opened) ->
 }
 
 // Does a use inside the element l, to which the link of the use e leads, lead to e or to l? Links are compared with the ids of these two.
-pub fn leads_back(script: &[u8], characters: &[u8], slots: &[u16], e: Opened, l: Opened, link: FoundPart) -> bool
+pub fn leads_back(
+    script: &[u8],
+    characters: &[u8],
+    slots: &[u16],
+    e: Opened,
+    l: Opened,
+    link: FoundPart,
+) -> bool
     requires { ⌜ Standing (now script) e ⌝ }
     requires { ⌜ Standing (now script) l ⌝ }
     requires { ⌜ PartFit link ⌝ }
@@ -189,7 +196,13 @@ pub fn leads_back(script: &[u8], characters: &[u8], slots: &[u16], e: Opened, l:
 }
 
 // The element that a use, met with that origin, copies; nothing where it copies none.
-pub fn use_target(script: &[u8], characters: &[u8], slots: &[u16], e: Opened, origin: usize) -> FoundElement
+pub fn use_target(
+    script: &[u8],
+    characters: &[u8],
+    slots: &[u16],
+    e: Opened,
+    origin: usize,
+) -> FoundElement
     requires { ⌜ Standing (now script) e ⌝ }
     requires { ⌜ Memo (now script) (now characters) (now slots) ⌝ }
     ensures same { λ r. ⌜ nodeOf (now (script .entry)) (now (characters .entry)) r

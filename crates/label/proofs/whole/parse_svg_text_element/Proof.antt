@@ -48,15 +48,15 @@ space-of-requires c κs = (
 inside-requires : tie.Need-inside-requires
 inside-requires c κs = (
   label-within _ _ _ _ _ _ _ _ (c .before .before .before .before .before .before .before .before .before .before .before
-    .before .before .before .before .before .before .before .before .before .before .before .pre .0)
-    (c .before .before .before .before .before .before .before .before .before .before .before .before .before .before .before
-    .before .before .before .before .before .before .before .args .ignored) _ _ _ _ _
-    (element-behind _ _ _ _ (c .before .before .before .before .before .before .before .before .before .before .before .before
-    .before .parse-svg-element .ensures .1) _ _ (c .before .before .before .before .before .before .before .taken .given .1))
-    (element-done _ _ _ _ _ (c .before .before .before .before .before .before .before .before .before .before .before .before
-    .before .parse-svg-element .ensures .0 (c .before .before .before .before .before .before .before .before .before .before
-    .before .before .before .before .before .before .before .before .before .before .before .before .args .text .now)) _ _
-    (c .before .before .before .before .before .before .before .taken .given .1)) _ (c .before .before .before .space-of .ensures),
+      .before .before .before .before .before .before .before .before .before .before .before .pre .0)
+      (c .before .before .before .before .before .before .before .before .before .before .before .before .before .before .before
+      .before .before .before .before .before .before .before .args .ignored) _ _ _ _ _
+      (element-behind _ _ _ _ (c .before .before .before .before .before .before .before .before .before .before .before .before
+      .before .parse-svg-element .ensures .1) _ _ (c .before .before .before .before .before .before .before .taken .given .1))
+      (element-done _ _ _ _ _ (c .before .before .before .before .before .before .before .before .before .before .before .before
+      .before .parse-svg-element .ensures .0 (c .before .before .before .before .before .before .before .before .before .before
+      .before .before .before .before .before .before .before .before .before .before .before .before .args .text .now)) _ _
+      (c .before .before .before .before .before .before .before .taken .given .1)) _ (c .before .before .before .space-of .ensures),
   c .before .before .before .before .before .before .before .before .before .before .before .before .before .before .before .before .before .before .before .before .before .before .pre .1,
 )
 

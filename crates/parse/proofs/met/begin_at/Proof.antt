@@ -23,9 +23,10 @@ counted-requires c κs = search needs
 
 begin-node-requires : tie.Need-begin-node-requires
 begin-node-requires c κs =
-    let at-args = c .before .before .before .before .before .before .before .before .before .before .before .before .before in
-    (begins-as _ _ _ _ _ (at-args .args .taken .now) _ _ _ (c .before .before .before .counted .ensures) (at-args .pre .0),
-    at-args .pre .1 .1 .1)
+    let at-args = c .before .before .before .before .before .before .before .before .before .before .before .before .before in (
+      begins-as _ _ _ _ _ (at-args .args .taken .now) _ _ _ (c .before .before .before .counted .ensures) (at-args .pre .0),
+      at-args .pre .1 .1 .1,
+    )
 
 enum-known-n : tie.Need-enum-known-n
 enum-known-n c = search needs
