@@ -25,4 +25,5 @@ pub fn fill(script: &[u8], characters: &[u8], slots: &mut [u16])
     requires { ⌜ length (now script) ≤ mostBytes ⌝ }
     requires { ⌜ now slots ≡ replicate (length (now slots)) 0 ⌝ }
     ensures { λ _. ⌜ Memo (now (script .entry)) (now (characters .entry)) (now (slots .exit)) ⌝ }
-{}
+{
+}
