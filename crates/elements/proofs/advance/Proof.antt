@@ -16,8 +16,14 @@ begin-requires c κs =
     let going = c .before .before .before .before .before .before .before .before .before .before .before .before .before .before .before
     .pre .0 in
     let opens = item-told _ _ _ _ _ (c .before .before .before .before .e .given .1)
-    (c .before .before .before .before .before .before .next-item .ensures) in
-    (going, (opening _ _ _ _ (opens .0) (opens .1 .1) (going .lies), c .before .before .before .before .before .before .before .before .before .before .before .before .before .before .before .pre .1))
+    (c .before .before .before .before .before .before .next-item .ensures) in (
+      going,
+      (
+        opening _ _ _ _ (opens .0) (opens .1 .1) (going .lies),
+        c .before .before .before .before .before .before .before
+            .before .before .before .before .before .before .before .before .pre .1,
+      ),
+    )
 
 enum-known-n : tie.Need-enum-known-n
 enum-known-n c = search needs

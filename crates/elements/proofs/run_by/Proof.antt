@@ -20,7 +20,11 @@ loop-holds : tie.Need-loop-holds Inv-loop μ-loop
 loop-holds c = (c .before .before .before .before .before .before .pre .0, refl, refl, refl)
 
 advance-requires : tie.Need-advance-requires Inv-loop μ-loop
-advance-requires c κs = (c .before .before .before .loop .inv .0, c .before .before .before .before .before .before .before .before .before .before .pre .1)
+advance-requires c κs = (
+  c .before .before .before .loop .inv .0,
+  c .before .before .before .before .before .before .before
+      .before .before .before .pre .1,
+)
 
 enum-known-n : tie.Need-enum-known-n Inv-loop μ-loop
 enum-known-n c = search needs

@@ -57,7 +57,8 @@ inside-requires c κs = (
       .before .parse-svg-element .ensures .0 (c .before .before .before .before .before .before .before .before .before .before
       .before .before .before .before .before .before .before .before .before .before .before .before .args .text .now)) _ _
       (c .before .before .before .before .before .before .before .taken .given .1)) _ (c .before .before .before .space-of .ensures),
-  c .before .before .before .before .before .before .before .before .before .before .before .before .before .before .before .before .before .before .before .before .before .before .pre .1,
+  c .before .before .before .before .before .before .before .before .before .before .before .before .before .before .before
+      .before .before .before .before .before .before .before .pre .1,
 )
 
 enum-known-k-2 : tie.Need-enum-known-k-2

@@ -22,8 +22,17 @@ begin-requires c κs =
     let recalled = c .before .before .before .before .before .before .before .before .before .before .before .before .before
     .before .before .before .pre .1 .0 in
     let opens = item-told _ _ _ _ _ (c .before .before .before .before .before .x .given .1)
-    (c .before .before .before .before .before .before .before .next-item .ensures) in
-    (within, (opening _ _ _ _ (opens .0) (opens .1 .0) (opens .1 .1) (within .lies), (recalled, c .before .before .before .before .before .before .before .before .before .before .before .before .before .before .before .before .pre .1 .1)))
+    (c .before .before .before .before .before .before .before .next-item .ensures) in (
+      within,
+      (
+        opening _ _ _ _ (opens .0) (opens .1 .0) (opens .1 .1) (within .lies),
+        (
+          recalled,
+          c .before .before .before .before
+              .before .before .before .before .before .before .before .before .before .before .before .before .pre .1 .1,
+        ),
+      ),
+    )
 
 enum-known-own : tie.Need-enum-known-own
 enum-known-own c = search needs
@@ -66,7 +75,8 @@ returns c =
 
 node-word-requires : tie.Need-node-word-requires
 node-word-requires c κs =
-    let within = c .before .before .before .before .before .before .before .before .before .before .before .before .before .before .before .pre .0 in
+    let within = c .before .before .before .before .before .before .before .before .before .before .before .before .before .before
+    .before .pre .0 in
     omega (arith, within .below, within .sound .tidy .kept .fits .nodes)
 
 sub-up : tie.Need-sub-up

@@ -178,7 +178,15 @@ add-quoted-requires c κs =
       (
         new-space _ _ _ _ _ _ _ within _ opens is _ named _ _ _ _ _ nodes told
             (c .before .before .before .before .get-xmlspace .result) (c .before .before .before .before .get-xmlspace .ensures),
-        (opens .standing, (within .all, c .before .before .before .before .before .before .before .before .before .before .before .before .before .before .before .before .before .before .before .before .before .before .before .before .before .before .before .before .before .before .pre .1 .1 .1)),
+        (
+          opens .standing,
+          (
+            within .all,
+            c .before .before .before .before .before .before .before .before .before .before .before
+                .before .before .before .before .before .before .before .before .before .before .before .before .before .before .before
+                .before .before .before .before .pre .1 .1 .1,
+          ),
+        ),
       ),
     )
 

@@ -35,7 +35,11 @@ loop-holds c = (
 advance-requires : tie.Need-advance-requires Inv-loop μ-loop
 advance-requires c κs = (
   c .before .before .before .before .loop .inv .0 .within,
-  (c .before .before .before .before .loop .inv .1, c .before .before .before .before .before .before .before .before .before .before .before .before .pre .1),
+  (
+    c .before .before .before .before .loop .inv .1,
+    c .before .before .before .before .before .before .before .before .before
+        .before .before .before .pre .1,
+  ),
 )
 
 enum-known-n : tie.Need-enum-known-n Inv-loop μ-loop

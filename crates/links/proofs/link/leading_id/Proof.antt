@@ -27,7 +27,8 @@ returns c =
     let held = value-fit _ _ _ _ _ (c .before .before .before .before .before .before .before .before .before .v .given .1)
     (c .before .before .before .before .before .before .before .before .before .before .before .first-id .ensures .1) in (
       leading-found _ _
-          (c .before .before .before .before .before .before .before .before .before .before .before .before .before .before .before .args .e) _
+          (c .before .before .before .before .before .before .before .before .before .before .before .before .before .before
+          .before .args .e) _
           (c .before .before .before .before .before .before .before .before .before .before .before .first-id .ensures) _
           (c .before .before .before .before .before .before .before .before .before .v .given .1) _
           (c .before .before .before .before .before .before .before .part-at .ensures) _

@@ -25,7 +25,8 @@ leading-id-requires c κs = (c .before .before .before .pre .0, c .before .befor
 loop-holds : tie.Need-loop-holds Inv-loop μ-loop
 loop-holds c =
     along-none (leadingBy (partOf (c .before .before .before .before .before .args .characters .now) (c .before .leading-id .result))
-    (partOf (c .before .before .before .before .before .args .characters .now) (c .before .before .before .before .before .args .link))) _ _ _ _
+    (partOf (c .before .before .before .before .before .args .characters .now) (c .before .before .before .before .before .args
+    .link))) _ _ _ _
     (c .before .before .before .before .before .pre .1 .0 .fit) (omega arith)
 
 next-use-requires : tie.Need-next-use-requires Inv-loop μ-loop

@@ -311,7 +311,8 @@ parse-svg-use-element-returns t c =
     .before .before .before .before .before .before in
     let at-copy-by = at-meet .before .before .before .before .before .before in (
       copy-built _ _ _ _ _ _ _
-          (at-copy-by .before .before .before .before .before .before .before .before .before .before .before .before .before .before .pre .1 .0) _
+          (at-copy-by .before .before .before .before .before .before .before .before .before .before .before .before .before
+          .before .pre .1 .0) _
           (at-copy-by .copy-by .ensures) _ (at-copy-by .before .before .before .two-less .ensures) _ _ _ (at-meet .meet .result)
           (at-meet .meet .ensures) _ _ _ _ (parse-xml-node-ensures .0) (parse-xml-node-ensures .1),
       λ z. absurd (c .if1 .taken z),
@@ -556,7 +557,8 @@ parse-xml-node-returns-3 t c =
     (c .if2 .left)
 
 abbrev parse-xml-node-children-Inv-loop : parse-xml-node-children-lts.InvT-loop
-parse-xml-node-children-Inv-loop place₀ taken₀ left parent script characters nodes₀ attributes₀ text₀ slots place taken nodes attributes text =
+parse-xml-node-children-Inv-loop place₀ taken₀ left parent script characters nodes₀ attributes₀ text₀ slots place taken nodes
+    attributes text =
     Goes script characters left (originIn place₀) parent (placeIn place₀) (countsIn taken₀ .nodes)
     (levelBuilt script characters left (originIn place₀) parent (placeIn place₀) (treeOf nodes₀ attributes₀ text₀ (countsIn taken₀)))
     place taken (treeOf nodes attributes text (countsIn taken)) × (length nodes ≡ length nodes₀)
