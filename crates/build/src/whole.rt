@@ -18,6 +18,7 @@ ghost use Rattle.model.specs.Drawing.{events};
 ghost use Rattle.model.specs.Tables.{then};
 ghost use Rattle.model.specs.Parse.{plain};
 ghost use Rattle.model.specs.Build.{parsed, tested, withRepairs, answered, build};
+ghost use Rattle.memo.specs.Table.{Memo};
 ghost use Rattle.tree.specs.Lent.{treeOf};
 ghost use Rattle.build.specs.Results.{resultOf, rootAlone, clearedAs, Tended, Rooted};
 
@@ -48,15 +49,17 @@ fn finish(
     }
 }
 
-// What is still to do behind the root. The recursion begins before the first command, with the root alone taken.
-fn fill(
+// What is still to do behind the root, by the table of ids. The recursion begins before the first command, with the root alone taken.
+fn fill_by(
     script: &[u8],
     characters: &[u8],
+    slots: &[u16],
     nodes: &mut [u32],
     attributes: &mut [u32],
     text: &mut [u8],
 ) -> Built
     requires { ⌜ Rooted (now script) (now characters) (treeOf (now nodes) (now attributes) (now text) rootAlone) ⌝ }
+    requires { ⌜ Memo (now script) (now characters) (now slots) ⌝ }
     ensures { λ r. ⌜ resultOf (now (characters .entry)) (now (nodes .exit)) (now (attributes .exit)) (now (text .exit)) r
         ≡ answered (now (characters .entry)) (clearedAs (now (nodes .entry)) (now (attributes .entry)) (now (text .entry)))
         (withRepairs (now (characters .entry)) (events (now (script .entry)) (now (characters .entry)))
@@ -75,6 +78,7 @@ fn fill(
         nodes,
         attributes,
         text,
+        slots,
     );
     if refused != 0 {
         let number = taken[3];
@@ -82,6 +86,26 @@ fn fill(
     }
     let counts = counted(&taken);
     finish(script, characters, nodes, attributes, text, counts)
+}
+
+// What is still to do behind the root: the table of ids, and the rest by it.
+fn fill(
+    script: &[u8],
+    characters: &[u8],
+    nodes: &mut [u32],
+    attributes: &mut [u32],
+    text: &mut [u8],
+) -> Built
+    requires { ⌜ Rooted (now script) (now characters) (treeOf (now nodes) (now attributes) (now text) rootAlone) ⌝ }
+    ensures { λ r. ⌜ resultOf (now (characters .entry)) (now (nodes .exit)) (now (attributes .exit)) (now (text .exit)) r
+        ≡ answered (now (characters .entry)) (clearedAs (now (nodes .entry)) (now (attributes .entry)) (now (text .entry)))
+        (withRepairs (now (characters .entry)) (events (now (script .entry)) (now (characters .entry)))
+        (then (parsed (plain (now (characters .entry))) (events (now (script .entry)) (now (characters .entry)))
+        (treeOf (now (nodes .entry)) (now (attributes .entry)) (now (text .entry)) rootAlone)) tested)) ⌝ }
+{
+    let mut slots: [u16; 32768] = [0; 32768];
+    memo::table::fill(script, characters, &mut slots);
+    fill_by(script, characters, &slots, nodes, attributes, text)
 }
 
 // The build of a drawing that check takes.

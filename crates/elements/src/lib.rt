@@ -3,6 +3,7 @@
 use element::Parsed;
 use element::parse::parse_svg_element;
 use label::whole::parse_svg_text_element;
+use memo::table::fill;
 use names::eid;
 use names::is_element;
 use script::check::check;
@@ -22,6 +23,7 @@ ghost use Prim.Native.Nat.{_+_, _*_, _≤_, _<_};
 ghost use lib.ListN.{length};
 ghost use Rattle.model.specs.Check.{check};
 ghost use Rattle.model.specs.Tables.{word};
+ghost use Rattle.memo.specs.Table.{Memo};
 ghost use Rattle.elements.specs.Turns.{isKept, tagIn, Going, Opening, TurnFit};
 
 // A place in the drawing, the node that is open there, and how much of the tables is taken.
@@ -93,6 +95,7 @@ fn above(nodes: &[u32], parent: u32) -> u32
 fn begin_text(
     script: &[u8],
     characters: &[u8],
+    slots: &[u16],
     nodes: &mut [u32],
     attributes: &mut [u32],
     text: &mut [u8],
@@ -102,6 +105,7 @@ fn begin_text(
 ) -> Turn
     requires { ⌜ Going (now script) (now characters) (now nodes) (now attributes) (now text) s ⌝ }
     requires { ⌜ Opening (now script) (now characters) s e ⌝ }
+    requires { ⌜ Memo (now script) (now characters) (now slots) ⌝ }
     ensures { λ r. ⌜ TurnFit (now (script .entry)) (now (characters .entry)) (now (nodes .exit)) (now (attributes .exit))
         (now (text .exit)) s r ⌝ }
 {
@@ -109,6 +113,7 @@ fn begin_text(
     match parse_svg_text_element(
         script,
         characters,
+        slots,
         nodes,
         attributes,
         text,
@@ -130,6 +135,7 @@ fn begin_text(
 fn begin(
     script: &[u8],
     characters: &[u8],
+    slots: &[u16],
     nodes: &mut [u32],
     attributes: &mut [u32],
     text: &mut [u8],
@@ -139,6 +145,7 @@ fn begin(
 ) -> Turn
     requires { ⌜ Going (now script) (now characters) (now nodes) (now attributes) (now text) s ⌝ }
     requires { ⌜ Opening (now script) (now characters) s e ⌝ }
+    requires { ⌜ Memo (now script) (now characters) (now slots) ⌝ }
     ensures { λ r. ⌜ TurnFit (now (script .entry)) (now (characters .entry)) (now (nodes .exit)) (now (attributes .exit))
         (now (text .exit)) s r ⌝ }
 {
@@ -154,7 +161,17 @@ fn begin(
         });
     }
     if code == eid::TEXT {
-        return begin_text(script, characters, nodes, attributes, text, ignored, s, e);
+        return begin_text(
+            script,
+            characters,
+            slots,
+            nodes,
+            attributes,
+            text,
+            ignored,
+            s,
+            e,
+        );
     }
     match parse_svg_element(
         script,
@@ -180,6 +197,7 @@ fn begin(
 fn advance(
     script: &[u8],
     characters: &[u8],
+    slots: &[u16],
     nodes: &mut [u32],
     attributes: &mut [u32],
     text: &mut [u8],
@@ -187,13 +205,24 @@ fn advance(
     s: State,
 ) -> Turn
     requires { ⌜ Going (now script) (now characters) (now nodes) (now attributes) (now text) s ⌝ }
+    requires { ⌜ Memo (now script) (now characters) (now slots) ⌝ }
     ensures { λ r. ⌜ TurnFit (now (script .entry)) (now (characters .entry)) (now (nodes .exit)) (now (attributes .exit))
         (now (text .exit)) s r ⌝ }
 {
     let c = s.c;
     let counts = s.counts;
     match next_item(script, characters, c) {
-        Item::Begin(e) => begin(script, characters, nodes, attributes, text, ignored, s, e),
+        Item::Begin(e) => begin(
+            script,
+            characters,
+            slots,
+            nodes,
+            attributes,
+            text,
+            ignored,
+            s,
+            e,
+        ),
         Item::Text(_, _, n) => Turn::On(State {
             c: n,
             parent: s.parent,
@@ -213,10 +242,11 @@ fn advance(
     }
 }
 
-// The elements from a state on.
-fn run(
+// The elements from a state on, by the table of ids.
+fn run_by(
     script: &[u8],
     characters: &[u8],
+    slots: &[u16],
     nodes: &mut [u32],
     attributes: &mut [u32],
     text: &mut [u8],
@@ -224,10 +254,20 @@ fn run(
     first: State,
 ) -> Built
     requires { ⌜ Going (now script) (now characters) (now nodes) (now attributes) (now text) first ⌝ }
+    requires { ⌜ Memo (now script) (now characters) (now slots) ⌝ }
 {
     let mut s = first;
     loop {
-        match advance(script, characters, nodes, attributes, text, ignored, s) {
+        match advance(
+            script,
+            characters,
+            slots,
+            nodes,
+            attributes,
+            text,
+            ignored,
+            s,
+        ) {
             Turn::On(n) => {
                 s = n;
             }
@@ -250,6 +290,32 @@ fn run(
             }
         }
     }
+}
+
+// The elements from a state on.
+fn run(
+    script: &[u8],
+    characters: &[u8],
+    nodes: &mut [u32],
+    attributes: &mut [u32],
+    text: &mut [u8],
+    ignored: bool,
+    first: State,
+) -> Built
+    requires { ⌜ Going (now script) (now characters) (now nodes) (now attributes) (now text) first ⌝ }
+{
+    let mut slots: [u16; 32768] = [0; 32768];
+    fill(script, characters, &mut slots);
+    run_by(
+        script,
+        characters,
+        &slots,
+        nodes,
+        attributes,
+        text,
+        ignored,
+        first,
+    )
 }
 
 // A refusal's number.

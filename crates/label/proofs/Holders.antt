@@ -15,9 +15,10 @@ use Rattle.model.specs.Theorems.Inside.{LiesElement, LiesText}
 use Rattle.model.specs.Theorems.Kept.{withAttributes, last-within}
 use Rattle.walk.specs.declared.node.Opened.{Opened}
 use Rattle.walk.specs.Nodes.{Standing}
-use Rattle.links.specs.declared.link.FoundElement.{FoundElement}
-use Rattle.links.specs.declared.link.FoundElement.the-variants as found
-use Rattle.links.specs.Links.{NodeFit, textsOf}
+use Rattle.memo.specs.declared.plain.FoundElement.{FoundElement}
+use Rattle.memo.specs.declared.plain.FoundElement.the-variants as found
+use Rattle.memo.specs.Plain.{NodeFit}
+use Rattle.links.specs.Links.{textsOf}
 use Rattle.tree.specs.declared.Counts.{Counts}
 use Rattle.tree.specs.declared.Outcome.{Outcome}
 use Rattle.tree.specs.declared.Outcome.the-variants as outcome

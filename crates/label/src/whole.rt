@@ -13,6 +13,7 @@ ghost use Rattle.model.specs.Drawing.{events};
 ghost use Rattle.model.specs.Parse.{label, plain};
 ghost use Rattle.walk.specs.Nodes.{elementOf};
 ghost use Rattle.walk.specs.Values.{eventsAt};
+ghost use Rattle.memo.specs.Table.{Memo};
 ghost use Rattle.tree.specs.Lent.{treeOf};
 ghost use Rattle.element.specs.Runs.{parsedOf};
 ghost use Rattle.label.specs.Whole.{Beginning, ClosedFit};
@@ -21,6 +22,7 @@ ghost use Rattle.label.specs.Whole.{Beginning, ClosedFit};
 pub fn parse_svg_text_element(
     script: &[u8],
     characters: &[u8],
+    slots: &[u16],
     nodes: &mut [u32],
     attributes: &mut [u32],
     text: &mut [u8],
@@ -30,6 +32,7 @@ pub fn parse_svg_text_element(
     x: Opened,
 ) -> Parsed
     requires { ⌜ Beginning (now script) (now characters) (treeOf (now nodes) (now attributes) (now text) counts) parent x ⌝ }
+    requires { ⌜ Memo (now script) (now characters) (now slots) ⌝ }
     ensures outcome { λ r. ⌜ parsedOf (now (nodes .exit)) (now (attributes .exit)) (now (text .exit)) r
         ≡ label (plain (now (characters .entry))) (events (now (script .entry)) (now (characters .entry)))
         (elementOf (now (script .entry)) (now (characters .entry)) x)
@@ -59,7 +62,7 @@ pub fn parse_svg_text_element(
                 counts: taken,
                 space,
             };
-            match inside(script, characters, nodes, attributes, text, e, first) {
+            match inside(script, characters, slots, nodes, attributes, text, e, first) {
                 Parsed::Refused(k) => Parsed::Refused(k),
                 Parsed::Done(all, c) => {
                     trim_text_nodes(nodes, attributes, text, characters, all, e);

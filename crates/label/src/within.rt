@@ -3,8 +3,8 @@ use crate::State;
 use crate::Turn;
 use element::Parsed;
 use element::parse::parse_svg_element;
-use links::link::FoundElement;
 use links::link::quoted;
+use memo::plain::FoundElement;
 use names::aid;
 use names::eid;
 use pieces::Above;
@@ -41,6 +41,7 @@ ghost use Rattle.model.specs.Tables.{parentOf};
 ghost use Rattle.model.specs.Text.{appendText, spaceOf};
 ghost use Rattle.script.specs.Step.{markOf};
 ghost use Rattle.walk.specs.Nodes.{elementOf, Standing};
+ghost use Rattle.memo.specs.Table.{Memo};
 ghost use Rattle.tree.specs.Lent.{treeOf, readOf, outOf, ReadableIn, Climbable};
 ghost use Rattle.text.specs.Spaces.{spaceIn};
 ghost use Rattle.pieces.specs.Levels.{Recalled};
@@ -101,6 +102,7 @@ fn add_text(
 fn add_quoted(
     script: &[u8],
     characters: &[u8],
+    slots: &[u16],
     nodes: &mut [u32],
     attributes: &[u32],
     text: &mut [u8],
@@ -113,12 +115,13 @@ fn add_quoted(
     requires { ⌜ spaceIn space ≡ spaceOf (now characters) (readOf (now nodes) (now attributes)) p ⌝ }
     requires { ⌜ Standing (now script) x ⌝ }
     requires { ⌜ Lies (now characters) (events (now script) (now characters)) ⌝ }
+    requires { ⌜ Memo (now script) (now characters) (now slots) ⌝ }
     ensures { λ r. ⌜ outOf (now (nodes .exit)) (now (attributes .entry)) (now (text .exit)) r
         ≡ quoteOf (now (characters .entry)) (quoted (events (now (script .entry)) (now (characters .entry)))
         (elementOf (now (script .entry)) (now (characters .entry)) x)) p
         (treeOf (now (nodes .entry)) (now (attributes .entry)) (now (text .entry)) counts) ⌝ }
 {
-    match quoted(script, characters, x) {
+    match quoted(script, characters, slots, x) {
         FoundElement::At(l) => {
             append_quoted(script, characters, nodes, text, counts, p, l.inside, space)
         }
@@ -131,6 +134,7 @@ fn add_quoted(
 fn begin(
     script: &[u8],
     characters: &[u8],
+    slots: &[u16],
     nodes: &mut [u32],
     attributes: &mut [u32],
     text: &mut [u8],
@@ -143,6 +147,7 @@ fn begin(
     requires { ⌜ Within (now script) (now characters) (now nodes) (now attributes) (now text) e s ⌝ }
     requires { ⌜ Opening (now script) (now characters) s x ⌝ }
     requires { ⌜ Recalled (now characters) (treeOf (now nodes) (now attributes) (now text) (s .counts)) (now words) (s .p) levels ⌝ }
+    requires { ⌜ Memo (now script) (now characters) (now slots) ⌝ }
     ensures { λ r. ⌜ TurnFit (now (script .entry)) (now (characters .entry)) e (now (nodes .entry)) (now (attributes .entry))
         (now (text .entry)) s (now (nodes .exit)) (now (attributes .exit)) (now (text .exit)) (now (words .exit)) r ⌝ }
 {
@@ -191,6 +196,7 @@ fn begin(
             match add_quoted(
                 script,
                 characters,
+                slots,
                 nodes,
                 attributes,
                 text,
@@ -221,6 +227,7 @@ fn begin(
 fn advance(
     script: &[u8],
     characters: &[u8],
+    slots: &[u16],
     nodes: &mut [u32],
     attributes: &mut [u32],
     text: &mut [u8],
@@ -231,6 +238,7 @@ fn advance(
 ) -> Turn
     requires { ⌜ Within (now script) (now characters) (now nodes) (now attributes) (now text) e s ⌝ }
     requires { ⌜ Recalled (now characters) (treeOf (now nodes) (now attributes) (now text) (s .counts)) (now words) (s .p) levels ⌝ }
+    requires { ⌜ Memo (now script) (now characters) (now slots) ⌝ }
     ensures { λ r. ⌜ TurnFit (now (script .entry)) (now (characters .entry)) e (now (nodes .entry)) (now (attributes .entry))
         (now (text .entry)) s (now (nodes .exit)) (now (attributes .exit)) (now (text .exit)) (now (words .exit)) r ⌝ }
 {
@@ -241,6 +249,7 @@ fn advance(
         Item::Begin(x) => begin(
             script,
             characters,
+            slots,
             nodes,
             attributes,
             text,
@@ -321,6 +330,7 @@ fn advance(
 pub fn inside(
     script: &[u8],
     characters: &[u8],
+    slots: &[u16],
     nodes: &mut [u32],
     attributes: &mut [u32],
     text: &mut [u8],
@@ -328,6 +338,7 @@ pub fn inside(
     first: State,
 ) -> Parsed
     requires { ⌜ Within (now script) (now characters) (now nodes) (now attributes) (now text) e first ⌝ }
+    requires { ⌜ Memo (now script) (now characters) (now slots) ⌝ }
     ensures { λ r. ⌜ InsideFit (now (script .entry)) (now (characters .entry)) e (now (nodes .entry)) (now (attributes .entry))
         (now (text .entry)) first (now (nodes .exit)) (now (attributes .exit)) (now (text .exit)) r ⌝ }
 {
@@ -338,6 +349,7 @@ pub fn inside(
         match advance(
             script,
             characters,
+            slots,
             nodes,
             attributes,
             text,

@@ -20,7 +20,7 @@ use Rattle.walk.specs.Values.{eventsAt}
 use Rattle.walk.specs.Nodes.{elementOf, nodeAt, Standing}
 use Rattle.links.specs.Links.{sameParts, leadingId}
 use Rattle.walk.proofs.Walks.{stepped}
-use Rattle.links.proofs.Ids.{id-hit, id-miss}
+use Rattle.memo.proofs.Ids.{id-hit, id-miss}
 
 -- STRINGS
 

@@ -1,4 +1,3 @@
-pub mod Ids
 pub mod Leading
 pub mod Linking
 pub mod Using

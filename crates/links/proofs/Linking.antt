@@ -25,14 +25,15 @@ use Rattle.walk.specs.declared.value.FoundValue.{FoundValue}
 use Rattle.walk.specs.declared.value.FoundValue.the-variants as found
 use Rattle.walk.specs.declared.value.FoundPart.{FoundPart}
 use Rattle.walk.specs.declared.value.FoundPart.the-variants as part
-use Rattle.links.specs.declared.link.FoundElement.{FoundElement}
-use Rattle.links.specs.declared.link.FoundElement.the-variants as node
+use Rattle.memo.specs.declared.plain.FoundElement.{FoundElement}
+use Rattle.memo.specs.declared.plain.FoundElement.the-variants as node
 use Rattle.walk.specs.Values.{attributesIn, readingsIn, eventsAt, valueIn, ValueFit, Readable, Attributed, partOf, PartFit}
 use Rattle.walk.specs.Nodes.{elementOf, nodeAt, Standing}
 use Rattle.links.specs.Uses.{usesOf, UseFit}
-use Rattle.links.specs.Links.{nodeOf, NodeFit, textsOf, sameParts, leadingId}
+use Rattle.memo.specs.Plain.{nodeOf, NodeFit}
+use Rattle.links.specs.Links.{textsOf, sameParts, leadingId}
 use Rattle.walk.proofs.Along.{Along}
-use Rattle.links.proofs.Ids.{IdIs}
+use Rattle.memo.proofs.Ids.{IdIs}
 use Rattle.links.proofs.Leading.{leads-to-own, leads-to-linked}
 
 -- LINKS

@@ -1,45 +1,20 @@
 -- What the searches for elements answer, as the model has it.
-use mathlib.Core.Path.{_≡_}
 use Prim.Native.Nat.{ℕ, zero}
-use mathlib.Core.Bool.{Bool, true, false}
+use mathlib.Core.Bool.{Bool, false}
 use mathlib.Core.List.{List, []}
 use mathlib.Core.Option.{Option, none, some}
 use lib.Dec.{eqb}
 use Rattle.model.specs.Base.{pick, given, sameBytes}
 use Rattle.model.specs.AId
-use Rattle.model.specs.Drawing.{Part, Element, Event, Source, textsIn, attributeIn, hasId, firstWithId, numberOf}
-use Rattle.script.specs.declared.cursor.Cursor.{Cursor}
-use Rattle.walk.specs.declared.node.Opened.{Opened}
-use Rattle.links.specs.declared.link.FoundElement.{FoundElement}
-use Rattle.links.specs.declared.link.FoundElement.the-variants as found
-use Rattle.links.specs.declared.link.Asked.{Asked}
-use Rattle.links.specs.declared.link.Asked.the-variants.{Has, HasNot}
-use Rattle.walk.specs.Values.{eventsAt, SameNodes}
-use Rattle.walk.specs.Nodes.{elementOf, nodeAt, Standing}
+use Rattle.model.specs.Drawing.{Part, Element, Event, Source, textsIn, attributeIn, firstWithId, numberOf}
+use Rattle.memo.specs.declared.plain.FoundElement.{FoundElement}
+use Rattle.memo.specs.declared.plain.FoundElement.the-variants as found
+use Rattle.walk.specs.Values.{eventsAt}
 
--- An element that was looked for, as a node.
-abbrev pub nodeOf : List ℕ → List ℕ → FoundElement → List Event
-nodeOf script chars (found.At e) = nodeAt script chars e
-nodeOf script chars found.Nothing = []
-
-abbrev pub NodeFit : List ℕ → FoundElement → Type 0
-NodeFit script (found.At e) = Standing script e
-NodeFit script found.Nothing = Unit {0}
-
--- The texts inside it, at any depth.
+-- The texts inside an element that was looked for, at any depth.
 abbrev pub textsOf : List ℕ → List ℕ → FoundElement → List Source
 textsOf script chars (found.At e) = textsIn zero (eventsAt script chars (e .inside))
 textsOf script chars found.Nothing = []
-
--- An element without that id, and a cursor inside it with all its children behind.
-pub record Without (script chars id : List ℕ) (e : Opened) (n : Cursor) : Type 0 where
-  pub has-not : hasId id (elementOf script chars e) ≡ false
-  pub nodes : SameNodes script chars (e .inside) n
-
--- An element, rightly asked for its id.
-abbrev pub Tested : List ℕ → List ℕ → List ℕ → Opened → Asked → Type 0
-Tested script chars id e Has = hasId id (elementOf script chars e) ≡ true
-Tested script chars id e (HasNot n) = Without script chars id e n
 
 -- Are both parts there, with the same bytes?
 abbrev pub sameParts : Option Part → Option Part → Bool

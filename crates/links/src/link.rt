@@ -1,13 +1,14 @@
 // Links: ids, the elements that use and tref lead to.
 use super::uses::NextUse;
 use super::uses::next_use;
+use memo::plain::FoundElement;
+use memo::plain::first_id;
+use memo::table::find;
 use names::aid;
 use names::same;
 use script::cursor::Cursor;
-use walk::node::Item;
 use walk::node::Opened;
 use walk::node::has_tag_name;
-use walk::node::next_item;
 use walk::value::FoundPart;
 use walk::value::FoundValue;
 use walk::value::attribute_in;
@@ -19,29 +20,17 @@ ghost use lib.ListN.{length};
 ghost use Rattle.model.specs.Base.{orElse};
 ghost use Rattle.model.specs.AId;
 ghost use Rattle.model.specs.Check.{mostBytes};
-ghost use Rattle.model.specs.Drawing.{events, attributeIn, iriOf, useHref, trefHref, firstWithId, linkedBy};
+ghost use Rattle.model.specs.Drawing.{events, attributeIn, iriOf, useHref, trefHref, linkedBy};
 ghost use Rattle.model.specs.Drawing.{leadsBack, usesIn, useTarget, quoted};
 ghost use Rattle.script.specs.Step.{Fit};
-ghost use Rattle.walk.specs.Values.{attributesIn, eventsAt, valueIn, ValueFit, Readable, partOf, PartFit};
+ghost use Rattle.walk.specs.Values.{attributesIn, eventsAt, valueIn, Readable, partOf, PartFit};
 ghost use Rattle.walk.specs.Nodes.{elementOf, nodeAt, Standing};
-ghost use Rattle.links.specs.Links.{nodeOf, NodeFit, textsOf, Tested, sameParts, leadingId};
+ghost use Rattle.memo.specs.Plain.{nodeOf, NodeFit};
+ghost use Rattle.memo.specs.Table.{Memo};
+ghost use Rattle.links.specs.Links.{textsOf, sameParts, leadingId};
 
 // The codes of the names that links ask for.
 const HREF: u8 = aid::HREF as u8;
-
-const ID: u8 = aid::ID as u8;
-
-// An element that is looked for.
-pub enum FoundElement {
-    At(Opened),
-    Nothing,
-}
-
-// An element asked for its id: it has it, or not, with the cursor behind the attributes that were read.
-pub enum Asked {
-    Has,
-    HasNot(Cursor),
-}
 
 // The IRI that the host has read in a value.
 fn iri_of(script: &[u8], characters: &[u8], value: FoundValue) -> FoundPart
@@ -97,81 +86,20 @@ pub fn tref_href(script: &[u8], characters: &[u8], e: Opened) -> FoundPart
     href_of(script, characters, e.inside, 2, 0)
 }
 
-// The first unprefixed id of an element.
-fn first_id(script: &[u8], characters: &[u8], e: Opened) -> FoundValue
-    requires { ⌜ Standing (now script) e ⌝ }
-    ensures same { λ r. ⌜ valueIn (now (script .entry)) (now (characters .entry)) r
-        ≡ attributeIn 0 AId.Id (attributesIn (now (script .entry)) (now (characters .entry)) (e .inside)) ⌝ }
-    ensures fit { λ r. ⌜ ValueFit (now (script .entry)) (now (characters .entry)) (e .inside) r ⌝ }
-{
-    attribute_in(script, characters, e.inside, 0, ID)
-}
-
-// Has the element an unprefixed id, and the first one is this?
-fn has_id(script: &[u8], characters: &[u8], e: Opened, id: &[u8]) -> Asked
-    requires { ⌜ Standing (now script) e ⌝ }
-    ensures { λ r. ⌜ Tested (now (script .entry)) (now (characters .entry)) (now (id .entry)) e r ⌝ }
-{
-    match first_id(script, characters, e) {
-        FoundValue::At(v) => {
-            let start = v.own.chars;
-            let first = part_at(characters, start, v.len);
-            if same(first, id) {
-                return Asked::Has;
-            }
-            let n = v.behind;
-            Asked::HasNot(n)
-        }
-        FoundValue::Nothing(n) => Asked::HasNot(n),
-    }
-}
-
-// The first element with that unprefixed id. Each attribute is read once.
-pub fn first_with_id(script: &[u8], characters: &[u8], id: &[u8]) -> FoundElement
-    requires { ⌜ length (now script) ≤ mostBytes ⌝ }
-    ensures same { λ r. ⌜ nodeOf (now (script .entry)) (now (characters .entry)) r
-        ≡ firstWithId (now (id .entry)) (events (now (script .entry)) (now (characters .entry))) ⌝ }
-    ensures fit { λ r. ⌜ NodeFit (now (script .entry)) r ⌝ }
-{
-    let mut c = Cursor::start();
-    loop {
-        match next_item(script, characters, c) {
-            Item::Begin(e) => match has_id(script, characters, e, id) {
-                Asked::Has => {
-                    return FoundElement::At(e);
-                }
-                Asked::HasNot(n) => {
-                    c = n;
-                }
-            },
-            Item::Text(_, _, n) => {
-                c = n;
-            }
-            Item::Other(n) => {
-                c = n;
-            }
-            Item::Close(n) => {
-                c = n;
-            }
-            Item::End => {
-                return FoundElement::Nothing;
-            }
-        }
-    }
-}
-
 // The element that a link leads to: the first with that id.
-pub fn linked(script: &[u8], characters: &[u8], link: FoundPart) -> FoundElement
+pub fn linked(script: &[u8], characters: &[u8], slots: &[u16], link: FoundPart) -> FoundElement
     requires { ⌜ length (now script) ≤ mostBytes ⌝ }
     requires { ⌜ PartFit link ⌝ }
+    requires { ⌜ Memo (now script) (now characters) (now slots) ⌝ }
     ensures same { λ r. ⌜ nodeOf (now (script .entry)) (now (characters .entry)) r
         ≡ linkedBy (events (now (script .entry)) (now (characters .entry))) (partOf (now (characters .entry)) link) ⌝ }
     ensures fit { λ r. ⌜ NodeFit (now (script .entry)) r ⌝ }
 {
     match link {
-        FoundPart::At(start, len) => first_with_id(
+        FoundPart::At(start, len) => find(
             script,
             characters,
+            slots,
             part_at(characters, start, len),
         ),
         FoundPart::Nothing => FoundElement::Nothing,
@@ -198,8 +126,9 @@ fn same_parts(characters: &[u8], a: FoundPart, b: FoundPart) -> bool
 }
 
 // The id by which links lead to an element: its first unprefixed one, if it is the first element with it.
-pub fn leading_id(script: &[u8], characters: &[u8], e: Opened) -> FoundPart
+pub fn leading_id(script: &[u8], characters: &[u8], slots: &[u16], e: Opened) -> FoundPart
     requires { ⌜ Standing (now script) e ⌝ }
+    requires { ⌜ Memo (now script) (now characters) (now slots) ⌝ }
     ensures same { λ r. ⌜ partOf (now (characters .entry)) r
         ≡ leadingId (events (now (script .entry)) (now (characters .entry)))
         (elementOf (now (script .entry)) (now (characters .entry)) e) ⌝ }
@@ -209,7 +138,7 @@ pub fn leading_id(script: &[u8], characters: &[u8], e: Opened) -> FoundPart
         FoundValue::At(v) => {
             let start = v.own.chars;
             let len = v.len;
-            match first_with_id(script, characters, part_at(characters, start, len)) {
+            match find(script, characters, slots, part_at(characters, start, len)) {
                 FoundElement::At(f) => {
                     if f.own.number == e.own.number {
                         return FoundPart::At(start, len);
@@ -224,18 +153,26 @@ pub fn leading_id(script: &[u8], characters: &[u8], e: Opened) -> FoundPart
 }
 
 // Does a use inside the element l, to which the link of the use e leads, lead to e or to l? Links are compared with the ids of these two.
-pub fn leads_back(script: &[u8], characters: &[u8], e: Opened, l: Opened, link: FoundPart) -> bool
+pub fn leads_back(
+    script: &[u8],
+    characters: &[u8],
+    slots: &[u16],
+    e: Opened,
+    l: Opened,
+    link: FoundPart,
+) -> bool
     requires { ⌜ Standing (now script) e ⌝ }
     requires { ⌜ Standing (now script) l ⌝ }
     requires { ⌜ PartFit link ⌝ }
     requires { ⌜ nodeAt (now script) (now characters) l
         ≡ linkedBy (events (now script) (now characters)) (partOf (now characters) link) ⌝ }
+    requires { ⌜ Memo (now script) (now characters) (now slots) ⌝ }
     ensures { λ r. ⌜ r ≡ leadsBack (events (now (script .entry)) (now (characters .entry)))
         (elementOf (now (script .entry)) (now (characters .entry)) e .number)
         (elementOf (now (script .entry)) (now (characters .entry)) l .number)
         (usesIn 0 (eventsAt (now (script .entry)) (now (characters .entry)) (l .inside))) ⌝ }
 {
-    let id = leading_id(script, characters, e);
+    let id = leading_id(script, characters, slots, e);
     let mut c = l.inside;
     let mut level: usize = 0;
     loop {
@@ -259,15 +196,22 @@ pub fn leads_back(script: &[u8], characters: &[u8], e: Opened, l: Opened, link: 
 }
 
 // The element that a use, met with that origin, copies; nothing where it copies none.
-pub fn use_target(script: &[u8], characters: &[u8], e: Opened, origin: usize) -> FoundElement
+pub fn use_target(
+    script: &[u8],
+    characters: &[u8],
+    slots: &[u16],
+    e: Opened,
+    origin: usize,
+) -> FoundElement
     requires { ⌜ Standing (now script) e ⌝ }
+    requires { ⌜ Memo (now script) (now characters) (now slots) ⌝ }
     ensures same { λ r. ⌜ nodeOf (now (script .entry)) (now (characters .entry)) r
         ≡ useTarget (events (now (script .entry)) (now (characters .entry)))
         (elementOf (now (script .entry)) (now (characters .entry)) e) origin ⌝ }
     ensures fit { λ r. ⌜ NodeFit (now (script .entry)) r ⌝ }
 {
     let link = use_href(script, characters, e);
-    let node = linked(script, characters, link);
+    let node = linked(script, characters, slots, link);
     match node {
         FoundElement::At(l) => {
             if !has_tag_name(l.name, l.space) {
@@ -280,7 +224,7 @@ pub fn use_target(script: &[u8], characters: &[u8], e: Opened, origin: usize) ->
             if number == origin {
                 return FoundElement::Nothing;
             }
-            if leads_back(script, characters, e, l, link) {
+            if leads_back(script, characters, slots, e, l, link) {
                 return FoundElement::Nothing;
             }
             FoundElement::At(l)
@@ -290,13 +234,14 @@ pub fn use_target(script: &[u8], characters: &[u8], e: Opened, origin: usize) ->
 }
 
 // The element whose texts a tref quotes; nothing where it quotes none.
-pub fn quoted(script: &[u8], characters: &[u8], e: Opened) -> FoundElement
+pub fn quoted(script: &[u8], characters: &[u8], slots: &[u16], e: Opened) -> FoundElement
     requires { ⌜ Standing (now script) e ⌝ }
+    requires { ⌜ Memo (now script) (now characters) (now slots) ⌝ }
     ensures same { λ r. ⌜ textsOf (now (script .entry)) (now (characters .entry)) r
         ≡ quoted (events (now (script .entry)) (now (characters .entry))) (elementOf (now (script .entry)) (now (characters .entry)) e) ⌝ }
     ensures fit { λ r. ⌜ NodeFit (now (script .entry)) r ⌝ }
 {
-    match linked(script, characters, tref_href(script, characters, e)) {
+    match linked(script, characters, slots, tref_href(script, characters, e)) {
         FoundElement::At(l) => {
             if has_tag_name(l.name, l.space) {
                 return FoundElement::At(l);

@@ -14,9 +14,9 @@ use Rattle.walk.specs.declared.node.Opened.{Opened}
 use Rattle.walk.specs.Nodes.{elementOf, nodeAt, leave, Standing}
 use Rattle.walk.specs.Values.{eventsAt}
 use Rattle.walk.proofs.Walks.{stepped}
-use Rattle.links.specs.declared.link.FoundElement.{FoundElement}
-use Rattle.links.specs.declared.link.FoundElement.the-variants as found
-use Rattle.links.specs.Links.{nodeOf, NodeFit}
+use Rattle.memo.specs.declared.plain.FoundElement.{FoundElement}
+use Rattle.memo.specs.declared.plain.FoundElement.the-variants as found
+use Rattle.memo.specs.Plain.{nodeOf, NodeFit}
 use Rattle.tree.specs.declared.Counts.{Counts}
 use Rattle.tree.specs.Lent.{treeOf}
 use Rattle.label.specs.Whole.{Beginning}

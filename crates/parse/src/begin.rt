@@ -10,6 +10,7 @@ use pieces::content::code_of;
 use tree::Counts;
 use walk::node::Opened;
 use walk::node::past_element;
+ghost use Rattle.memo.specs.Table.{Memo};
 ghost use Rattle.tree.specs.Lent.{treeOf};
 ghost use Rattle.label.specs.Whole.{Beginning};
 ghost use Rattle.parse.specs.Cycle.{IsText, IsOther, BegunFit};
@@ -18,6 +19,7 @@ ghost use Rattle.parse.specs.Cycle.{IsText, IsOther, BegunFit};
 fn begin_text(
     script: &[u8],
     characters: &[u8],
+    slots: &[u16],
     nodes: &mut [u32],
     attributes: &mut [u32],
     text: &mut [u8],
@@ -29,6 +31,7 @@ fn begin_text(
 ) -> Begun
     requires { ⌜ Beginning (now script) (now characters) (treeOf (now nodes) (now attributes) (now text) counts) parent e ⌝ }
     requires { ⌜ IsText left (e .name) (e .space) ⌝ }
+    requires { ⌜ Memo (now script) (now characters) (now slots) ⌝ }
     ensures { λ r. ⌜ BegunFit (now (script .entry)) (now (characters .entry)) left ignored parent e
         (treeOf (now (nodes .entry)) (now (attributes .entry)) (now (text .entry)) counts)
         (now (nodes .exit)) (now (attributes .exit)) (now (text .exit)) r ⌝ }
@@ -36,6 +39,7 @@ fn begin_text(
     match parse_svg_text_element(
         script,
         characters,
+        slots,
         nodes,
         attributes,
         text,
@@ -95,6 +99,7 @@ fn begin_element(
 pub fn begin_node(
     script: &[u8],
     characters: &[u8],
+    slots: &[u16],
     nodes: &mut [u32],
     attributes: &mut [u32],
     text: &mut [u8],
@@ -105,6 +110,7 @@ pub fn begin_node(
     e: Opened,
 ) -> Begun
     requires { ⌜ Beginning (now script) (now characters) (treeOf (now nodes) (now attributes) (now text) counts) parent e ⌝ }
+    requires { ⌜ Memo (now script) (now characters) (now slots) ⌝ }
     ensures { λ r. ⌜ BegunFit (now (script .entry)) (now (characters .entry)) left ignored parent e
         (treeOf (now (nodes .entry)) (now (attributes .entry)) (now (text .entry)) counts)
         (now (nodes .exit)) (now (attributes .exit)) (now (text .exit)) r ⌝ }
@@ -121,6 +127,7 @@ pub fn begin_node(
         return begin_text(
             script,
             characters,
+            slots,
             nodes,
             attributes,
             text,

@@ -8,8 +8,8 @@ use crate::state::stand;
 use crate::state::stand_aside;
 use crate::state::standing;
 use crate::state::take;
-use links::link::FoundElement;
 use links::link::use_target;
+use memo::plain::FoundElement;
 use script::cursor::Cursor;
 use walk::node::Item;
 use walk::node::Opened;
@@ -19,6 +19,7 @@ ghost use mathlib.Core.Path.{_≡_};
 ghost use lib.ListN.{length};
 ghost use Rattle.script.specs.Step.{Fit};
 ghost use Rattle.walk.specs.Nodes.{nodeAt, Standing};
+ghost use Rattle.memo.specs.Table.{Memo};
 ghost use Rattle.tree.specs.Lent.{treeOf};
 ghost use Rattle.label.specs.Whole.{Underway, Beginning};
 ghost use Rattle.parse.specs.State.{placeIn, originIn, countsIn};
@@ -44,15 +45,17 @@ fn begin_copy(
     place: &mut [usize; 10],
     script: &[u8],
     characters: &[u8],
+    slots: &[u16],
     e: Opened,
     children: Cursor,
 ) -> u32
     requires { ⌜ Standing (now script) e ⌝ }
     requires { ⌜ Fit (now script) children ⌝ }
     requires { ⌜ length (now place) ≡ 10 ⌝ }
+    requires { ⌜ Memo (now script) (now characters) (now slots) ⌝ }
     ensures { λ r. ⌜ CopyFit (now (script .entry)) (now (characters .entry)) e children (now (place .entry)) (now (place .exit)) r ⌝ }
 {
-    match use_target(script, characters, e, place[9]) {
+    match use_target(script, characters, slots, e, place[9]) {
         FoundElement::At(l) => {
             let own = l.own;
             let number = e.own.number + 1;
@@ -78,12 +81,14 @@ fn begin_at(
     nodes: &mut [u32],
     attributes: &mut [u32],
     text: &mut [u8],
+    slots: &[u16],
     e: Opened,
 ) -> u32
     requires { ⌜ Beginning (now script) (now characters)
         (treeOf (now nodes) (now attributes) (now text) (countsIn (now taken))) parent e ⌝ }
     requires { ⌜ Standing (now script) e ⌝ }
     requires { ⌜ (length (now place) ≡ 10) × (length (now taken) ≡ 4) ⌝ }
+    requires { ⌜ Memo (now script) (now characters) (now slots) ⌝ }
     ensures { λ r. ⌜ MetNode (now (script .entry)) (now (characters .entry)) left (originIn (now (place .entry))) parent
         (nodeAt (now (script .entry)) (now (characters .entry)) e) (e .inside .at)
         (treeOf (now (nodes .entry)) (now (attributes .entry)) (now (text .entry)) (countsIn (now (taken .entry))))
@@ -95,6 +100,7 @@ fn begin_at(
     match begin_node(
         script,
         characters,
+        slots,
         nodes,
         attributes,
         text,
@@ -120,7 +126,7 @@ fn begin_at(
         }
         Begun::Use(k, c) => {
             take(taken, k);
-            begin_copy(place, script, characters, e, c)
+            begin_copy(place, script, characters, slots, e, c)
         }
     }
 }
@@ -149,10 +155,12 @@ pub fn meet(
     nodes: &mut [u32],
     attributes: &mut [u32],
     text: &mut [u8],
+    slots: &[u16],
 ) -> u32
     requires { ⌜ Underway (now script) (now characters) (treeOf (now nodes) (now attributes) (now text) (countsIn (now taken))) parent
         (placeIn (now place)) ⌝ }
     requires { ⌜ (length (now place) ≡ 10) × (length (now taken) ≡ 4) ⌝ }
+    requires { ⌜ Memo (now script) (now characters) (now slots) ⌝ }
     ensures { λ r. ⌜ MetFit (now (script .entry)) (now (characters .entry)) left (originIn (now (place .entry))) parent
         (placeIn (now (place .entry)))
         (treeOf (now (nodes .entry)) (now (attributes .entry)) (now (text .entry)) (countsIn (now (taken .entry))))
@@ -171,6 +179,7 @@ pub fn meet(
             nodes,
             attributes,
             text,
+            slots,
             e,
         ),
         Item::Text(_, _, n) => hand_over(place, taken, left, n),

@@ -17,6 +17,7 @@ ghost use Prim.Native.Nat.{_-_};
 ghost use Rattle.script.specs.Step.{Fit};
 ghost use Rattle.walk.specs.Nodes.{leave};
 ghost use Rattle.walk.specs.Values.{eventsAt};
+ghost use Rattle.memo.specs.Table.{Memo};
 ghost use Rattle.tree.specs.Lent.{treeOf};
 ghost use Rattle.label.specs.Whole.{Underway};
 ghost use Rattle.parse.specs.State.{placeIn, asideIn, copierIn, originIn, countsIn};
@@ -34,9 +35,11 @@ fn parse_xml_node(
     nodes: &mut [u32],
     attributes: &mut [u32],
     text: &mut [u8],
+    slots: &[u16],
 ) -> u32
     requires { ⌜ RestFit (now script) (now characters) left index (now place) (now taken)
         (treeOf (now nodes) (now attributes) (now text) (countsIn (now taken))) begun ⌝ }
+    requires { ⌜ Memo (now script) (now characters) (now slots) ⌝ }
     ensures outcome { λ r. ⌜ outcomeOf (now (taken .exit))
         (treeOf (now (nodes .exit)) (now (attributes .exit)) (now (text .exit)) (countsIn (now (taken .exit)))) r
         ≡ restBuilt (now (script .entry)) (now (characters .entry)) left index (now (place .entry)) (now (taken .entry))
@@ -57,6 +60,7 @@ fn parse_xml_node(
             nodes,
             attributes,
             text,
+            slots,
         );
     }
     if begun == COPY {
@@ -70,6 +74,7 @@ fn parse_xml_node(
             nodes,
             attributes,
             text,
+            slots,
         );
     }
     begun
@@ -97,9 +102,11 @@ fn parse_svg_use_element(
     nodes: &mut [u32],
     attributes: &mut [u32],
     text: &mut [u8],
+    slots: &[u16],
 ) -> u32
     requires { ⌜ Copying (now script) (now characters) left parent (now place) (now taken)
         (treeOf (now nodes) (now attributes) (now text) (countsIn (now taken))) ⌝ }
+    requires { ⌜ Memo (now script) (now characters) (now slots) ⌝ }
     ensures outcome { λ r. ⌜ outcomeOf (now (taken .exit))
         (treeOf (now (nodes .exit)) (now (attributes .exit)) (now (text .exit)) (countsIn (now (taken .exit)))) r
         ≡ firstOf (now (script .entry)) (now (characters .entry)) (left - 2) (copierIn (now (place .entry))) parent
@@ -126,6 +133,7 @@ fn parse_svg_use_element(
         nodes,
         attributes,
         text,
+        slots,
     );
     let r = parse_xml_node(
         place,
@@ -138,6 +146,7 @@ fn parse_svg_use_element(
         nodes,
         attributes,
         text,
+        slots,
     );
     if r != 0 {
         return r;
@@ -158,10 +167,12 @@ pub fn parse_xml_node_children(
     nodes: &mut [u32],
     attributes: &mut [u32],
     text: &mut [u8],
+    slots: &[u16],
 ) -> u32
     requires { ⌜ Underway (now script) (now characters) (treeOf (now nodes) (now attributes) (now text) (countsIn (now taken))) parent
         (placeIn (now place)) ⌝ }
     requires { ⌜ (length (now place) ≡ 10) × (length (now taken) ≡ 4) ⌝ }
+    requires { ⌜ Memo (now script) (now characters) (now slots) ⌝ }
     ensures outcome { λ r. ⌜ outcomeOf (now (taken .exit))
         (treeOf (now (nodes .exit)) (now (attributes .exit)) (now (text .exit)) (countsIn (now (taken .exit)))) r
         ≡ levelBuilt (now (script .entry)) (now (characters .entry)) left (originIn (now (place .entry))) parent
@@ -184,6 +195,7 @@ pub fn parse_xml_node_children(
             nodes,
             attributes,
             text,
+            slots,
         );
         if begun == END {
             return 0;
@@ -199,6 +211,7 @@ pub fn parse_xml_node_children(
             nodes,
             attributes,
             text,
+            slots,
         );
         if r != 0 {
             return r;

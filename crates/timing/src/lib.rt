@@ -1,8 +1,9 @@
 // The walks as functions that bench/ measures. Nothing else uses them; what they answer only shows that the walk was made.
-use links::link::FoundElement;
 use links::link::use_target;
 use links::uses::NextUse;
 use links::uses::next_use;
+use memo::plain::FoundElement;
+use memo::table::fill;
 use places::seek::seek;
 use script::cursor::Cursor;
 
@@ -20,9 +21,11 @@ pub extern "C" fn timing_first_use(script: &[u8], characters: &[u8]) -> usize {
     if 1048576 < script.len() {
         return 0;
     }
+    let mut slots: [u16; 32768] = [0; 32768];
+    fill(script, characters, &mut slots);
     let c = Cursor::start();
     match next_use(script, characters, c, 0) {
-        NextUse::At(u, _) => number_in(use_target(script, characters, u, 0)),
+        NextUse::At(u, _) => number_in(use_target(script, characters, &slots, u, 0)),
         NextUse::End => 0,
     }
 }
@@ -33,13 +36,15 @@ pub extern "C" fn timing_every_use(script: &[u8], characters: &[u8]) -> usize {
     if 1048576 < script.len() {
         return 0;
     }
+    let mut slots: [u16; 32768] = [0; 32768];
+    fill(script, characters, &mut slots);
     let mut c = Cursor::start();
     let mut level: usize = 0;
     let mut last: usize = 0;
     loop {
         match next_use(script, characters, c, level) {
             NextUse::At(u, k) => {
-                last = number_in(use_target(script, characters, u, 0));
+                last = number_in(use_target(script, characters, &slots, u, 0));
                 level = k;
                 c = u.inside;
             }

@@ -15,8 +15,8 @@ past-element-requires c κs = search needs
 
 returns : tie.Need-returns
 returns c =
-    let going = c .before .before .before .before .before .before .before .before .before .before .before .pre .0 in
-    let opens = c .before .before .before .before .before .before .before .before .before .before .before .pre .1 in
+    let going = c .before .before .before .before .before .before .before .before .before .before .before .before .pre .0 in
+    let opens = c .before .before .before .before .before .before .before .before .before .before .before .before .pre .1 .0 in
     passed _ _ _ _ _ _ going _ opens _ (c .past-element .ensures .0) (c .past-element .ensures .1 .0)
     (c .past-element .ensures .1 .1)
 
@@ -40,10 +40,10 @@ tag-of-requires c κs = search needs
 
 parse-svg-element-requires : tie.Need-parse-svg-element-requires
 parse-svg-element-requires c κs =
-    let going = c .before .before .before .before .before .before .before .before .before .before .before .before .before .before
+    let going = c .before .before .before .before .before .before .before .before .before .before .before .before .before .before .before
     .pre .0 in
-    let opens = c .before .before .before .before .before .before .before .before .before .before .before .before .before .before
-    .pre .1 in
+    let opens = c .before .before .before .before .before .before .before .before .before .before .before .before .before .before .before
+    .pre .1 .0 in
     (ready _ _ _ _ _ _ going _ opens, inside _ _ _ _ _ _ going _ opens)
 
 enum-known-k : tie.Need-enum-known-k
@@ -70,13 +70,13 @@ same-length-7 c = search needs
 returns-4 : tie.Need-returns-4
 returns-4 c =
     let going = c .before .before .before .before .before .before .before .before .before .before .before .before .before .before
-    .before .before .before .before .before .before .before .before .pre .0 in
+    .before .before .before .before .before .before .before .before .before .pre .0 in
     let opens = c .before .before .before .before .before .before .before .before .before .before .before .before .before .before
-    .before .before .before .before .before .before .before .before .pre .1 in
+    .before .before .before .before .before .before .before .before .before .pre .1 .0 in
     grown _ _ _ _ _ _ going _ opens _ _ (kept-tag _ (c .before .before .before .before .before .before .before .before .before
     .before .before .before .before .before .before .before .code-of .result)
     (c .before .before .before .before .before .before .before .before .before .before .before .before .before .before .before
-    .before .before .before .before .before .before .before .args .e .space)
+    .before .before .before .before .before .before .before .before .args .e .space)
     (c .before .before .before .before .before .before .before .before .tag-of .ensures)
     (passes
     (c .before .before .before .before .before .before .before .before .before .before .before .before .before .is-kept .ensures)

@@ -4,7 +4,9 @@ use Rattle.elements.proofs.begin_text.Statement.{statement}
 use Rattle.elements.proofs.begin_text.Tie as tie
 
 parse-svg-text-element-requires : tie.Need-parse-svg-text-element-requires
-parse-svg-text-element-requires c κs = search needs
+parse-svg-text-element-requires c κs =
+    let pre = c .before .before .before .before .before .before .before .before .before .before .pre in
+    (beginning _ _ _ _ _ _ (pre .0) _ (pre .1 .0), pre .1 .1)
 
 enum-known-k : tie.Need-enum-known-k
 enum-known-k c = search needs
@@ -36,9 +38,9 @@ same-length-6 c = search needs
 returns-2 : tie.Need-returns-2
 returns-2 c =
     labelled _ _ _ _ _ _ (c .before .before .before .before .before .before .before .before .before .before .before .before
-    .before .before .before .before .before .before .before .pre .0) _
+    .before .before .before .before .before .before .before .before .pre .0) _
     (c .before .before .before .before .before .before .before .before .before .before .before .before .before .before .before
-    .before .before .before .before .pre .1) _ _ _ (c .before .taken .given .1) _ _ _
+    .before .before .before .before .before .pre .1 .0) _ _ _ (c .before .taken .given .1) _ _ _
     (c .before .before .before .before .before .before .before .before .before .parse-svg-text-element .ensures .1)
 
 pub begin-text-spec : {M : Type 1} → statement M

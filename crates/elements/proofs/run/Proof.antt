@@ -1,90 +1,46 @@
+use mathlib.Core.Path.{sym, ap}
+use Prim.Native.Nat.{ℕ}
+use lib.ListN.{replicate, length-replicate}
 use borrow.Author.Needs.{needs}
-use mathlib.Core.Path.{_≡_, refl, _∙_}
-use native.Mathlib.Omega.{arith}
-use Prim.Native.Nat.{_-_}
-use lib.ListN.{length}
-use Rattle.elements.specs.Turns.{Going}
-use Rattle.elements.proofs.Turning.{turn-told}
 use Rattle.elements.proofs.run.Statement.{statement}
 use Rattle.elements.proofs.run.Tie as tie
 
-abbrev Inv-loop : tie.InvT-loop
-Inv-loop script characters nodes₀ attributes₀ text₀ ignored s₀ nodes attributes text s =
-    Going script characters nodes attributes text s × (length nodes ≡ length nodes₀) × (length attributes ≡ length attributes₀)
-    × (length text ≡ length text₀)
+slice-aggregate-fill : tie.Need-slice-aggregate-fill
+slice-aggregate-fill c = search needs
 
-abbrev μ-loop : tie.MeasureT-loop
-μ-loop script characters nodes₀ attributes₀ text₀ ignored s₀ nodes attributes text s = length script - s .c .at
+fill-requires : tie.Need-fill-requires
+fill-requires c κs = (
+  c .before .before .before .before .before .before .pre .fit .size,
+  sym (ap (λ n. replicate n 0) (length-replicate {A = ℕ} 32768 0)),
+)
 
-loop-holds : tie.Need-loop-holds Inv-loop μ-loop
-loop-holds c = (c .before .before .before .before .before .pre, refl, refl, refl)
+slice-aggregate-run-by : tie.Need-slice-aggregate-run-by
+slice-aggregate-run-by c = search needs
 
-advance-requires : tie.Need-advance-requires Inv-loop μ-loop
-advance-requires c κs = c .before .before .before .loop .inv .0
+run-by-requires : tie.Need-run-by-requires
+run-by-requires c κs = search needs
 
-enum-known-n : tie.Need-enum-known-n Inv-loop μ-loop
-enum-known-n c = search needs
-
-loop-less : tie.Need-loop-less Inv-loop μ-loop
-loop-less c =
-    let on = turn-told _ _ _ _ _ _ _ _ (c .before .n .given .1)
-    (c .before .before .before .before .before .before .before .before .before .advance .ensures) in
-    omega (arith, on .1, on .0 .fit .at)
-
-loop-again : tie.Need-loop-again Inv-loop μ-loop
-loop-again c =
-    let on = turn-told _ _ _ _ _ _ _ _ (c .before .n .given .1)
-    (c .before .before .before .before .before .before .before .before .before .advance .ensures) in
-    (on .0, search needs, search needs, search needs)
-
-enum-known-k : tie.Need-enum-known-k Inv-loop μ-loop
-enum-known-k c = search needs
-
-same-length : tie.Need-same-length Inv-loop μ-loop
+same-length : tie.Need-same-length
 same-length c = search needs
 
-same-length-2 : tie.Need-same-length-2 Inv-loop μ-loop
+same-length-2 : tie.Need-same-length-2
 same-length-2 c = search needs
 
-same-length-3 : tie.Need-same-length-3 Inv-loop μ-loop
+same-length-3 : tie.Need-same-length-3
 same-length-3 c = search needs
 
-returns : tie.Need-returns Inv-loop μ-loop
-returns c = tt
-
-enum-told : tie.Need-enum-told Inv-loop μ-loop
-enum-told c = search needs
-
-same-length-4 : tie.Need-same-length-4 Inv-loop μ-loop
-same-length-4 c = search needs
-
-same-length-5 : tie.Need-same-length-5 Inv-loop μ-loop
-same-length-5 c = search needs
-
-same-length-6 : tie.Need-same-length-6 Inv-loop μ-loop
-same-length-6 c = search needs
-
-returns-2 : tie.Need-returns-2 Inv-loop μ-loop
-returns-2 c = tt
+returns : tie.Need-returns
+returns c = search needs
 
 pub run-spec : {M : Type 1} → statement M
 run-spec =
     tie.close
     (tie.spec
-    Inv-loop
-    μ-loop
-    loop-holds
-    advance-requires
-    enum-known-n
-    loop-less
-    loop-again
-    enum-known-k
+    slice-aggregate-fill
+    fill-requires
+    slice-aggregate-run-by
+    run-by-requires
     same-length
     same-length-2
     same-length-3
-    returns
-    enum-told
-    same-length-4
-    same-length-5
-    same-length-6
-    returns-2)
+    returns)

@@ -1,4 +1,7 @@
+use mathlib.Core.Path.{sym, ap}
+use Prim.Native.Nat.{ℕ}
 use native.Mathlib.Omega.{arith}
+use lib.ListN.{replicate, length-replicate}
 use Rattle.script.proofs.Commands.{placed-first}
 use Rattle.links.proofs.Linking.{use-told}
 use borrow.Author.Needs.{needs}
@@ -7,6 +10,12 @@ use Rattle.timing.proofs.timing_first_use.Tie as tie
 
 returns : tie.Need-returns
 returns c = search needs
+
+slice-aggregate-fill : tie.Need-slice-aggregate-fill
+slice-aggregate-fill c = search needs
+
+fill-requires : tie.Need-fill-requires
+fill-requires c κs = (search needs, sym (ap (λ n. replicate n 0) (length-replicate {A = ℕ} 32768 0)))
 
 start-requires : tie.Need-start-requires
 start-requires c κs = search needs
@@ -17,8 +26,13 @@ next-use-requires c κs = (placed-first _ _ (c .start .ensures) (search needs), 
 enum-known-u : tie.Need-enum-known-u
 enum-known-u c = search needs
 
+slice-aggregate-use-target : tie.Need-slice-aggregate-use-target
+slice-aggregate-use-target c = search needs
+
 use-target-requires : tie.Need-use-target-requires
-use-target-requires c κs = (use-told _ _ _ _ _ _ (c .before .u .given .1) (c .before .before .before .next-use .ensures)) .1 .stands
+use-target-requires c κs =
+    let use′ = use-told _ _ _ _ _ _ (c .before .before .u .given .1) (c .before .before .before .before .next-use .ensures) in
+    (use′ .1 .stands, c .before .before .before .before .before .before .before .fill .ensures)
 
 number-in-requires : tie.Need-number-in-requires
 number-in-requires c κs = search needs
@@ -37,9 +51,12 @@ timing-first-use-spec =
     tie.close
     (tie.spec
     returns
+    slice-aggregate-fill
+    fill-requires
     start-requires
     next-use-requires
     enum-known-u
+    slice-aggregate-use-target
     use-target-requires
     number-in-requires
     enum-told

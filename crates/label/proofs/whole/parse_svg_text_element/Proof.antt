@@ -9,10 +9,10 @@ use Rattle.label.proofs.whole.parse_svg_text_element.Tie as tie
 
 parse-svg-element-requires : tie.Need-parse-svg-element-requires
 parse-svg-element-requires c κs = (
-  label-ready _ _ _ _ _ _ _ _ (c .before .before .before .before .before .before .before .pre)
-      (c .before .before .before .before .before .before .before .args .ignored),
-  label-values _ _ _ _ _ _ _ _ (c .before .before .before .before .before .before .before .pre)
-      (c .before .before .before .before .before .before .before .args .ignored),
+  label-ready _ _ _ _ _ _ _ _ (c .before .before .before .before .before .before .before .before .pre .0)
+      (c .before .before .before .before .before .before .before .before .args .ignored),
+  label-values _ _ _ _ _ _ _ _ (c .before .before .before .before .before .before .before .before .pre .0)
+      (c .before .before .before .before .before .before .before .before .args .ignored),
 )
 
 enum-known-k : tie.Need-enum-known-k
@@ -24,39 +24,42 @@ enum-known-taken c = search needs
 space-of-requires : tie.Need-space-of-requires
 space-of-requires c κs = (
   climbs _ _ _ _ _ _ (label-holds _ _ _ _ _ _ _ _ (c .before .before .before .before .before .before .before .before .before
-      .before .before .before .before .before .before .before .before .pre)
+      .before .before .before .before .before .before .before .before .before .pre .0)
       (c .before .before .before .before .before .before .before .before .before .before .before .before .before .before .before
-      .before .before .args .ignored) _ _ _ _ _
+      .before .before .before .args .ignored) _ _ _ _ _
       (element-behind _ _ _ _
       (c .before .before .before .before .before .before .before .before .before .parse-svg-element .ensures .1) _ _
       (c .before .before .before .taken .given .1))
       (element-done _ _ _ _ _ (c .before .before .before .before .before .before .before .before .before .parse-svg-element .ensures
       .0 (c .before .before .before .before .before .before .before .before .before .before .before .before .before .before .before
-      .before .before .args .text .now)) _ _ (c .before .before .before .taken .given .1))),
+      .before .before .before .args .text .now)) _ _ (c .before .before .before .taken .given .1))),
   reads _ _ _ _ _ _ (label-holds _ _ _ _ _ _ _ _ (c .before .before .before .before .before .before .before .before .before
-      .before .before .before .before .before .before .before .before .pre)
+      .before .before .before .before .before .before .before .before .before .pre .0)
       (c .before .before .before .before .before .before .before .before .before .before .before .before .before .before .before
-      .before .before .args .ignored) _ _ _ _ _
+      .before .before .before .args .ignored) _ _ _ _ _
       (element-behind _ _ _ _
       (c .before .before .before .before .before .before .before .before .before .parse-svg-element .ensures .1) _ _
       (c .before .before .before .taken .given .1))
       (element-done _ _ _ _ _ (c .before .before .before .before .before .before .before .before .before .parse-svg-element .ensures
       .0 (c .before .before .before .before .before .before .before .before .before .before .before .before .before .before .before
-      .before .before .args .text .now)) _ _ (c .before .before .before .taken .given .1))),
+      .before .before .before .args .text .now)) _ _ (c .before .before .before .taken .given .1))),
 )
 
 inside-requires : tie.Need-inside-requires
-inside-requires c κs =
-    label-within _ _ _ _ _ _ _ _ (c .before .before .before .before .before .before .before .before .before .before .before
-    .before .before .before .before .before .before .before .before .before .before .pre)
-    (c .before .before .before .before .before .before .before .before .before .before .before .before .before .before .before
-    .before .before .before .before .before .before .args .ignored) _ _ _ _ _
-    (element-behind _ _ _ _ (c .before .before .before .before .before .before .before .before .before .before .before .before
-    .before .parse-svg-element .ensures .1) _ _ (c .before .before .before .before .before .before .before .taken .given .1))
-    (element-done _ _ _ _ _ (c .before .before .before .before .before .before .before .before .before .before .before .before
-    .before .parse-svg-element .ensures .0 (c .before .before .before .before .before .before .before .before .before .before
-    .before .before .before .before .before .before .before .before .before .before .before .args .text .now)) _ _
-    (c .before .before .before .before .before .before .before .taken .given .1)) _ (c .before .before .before .space-of .ensures)
+inside-requires c κs = (
+  label-within _ _ _ _ _ _ _ _ (c .before .before .before .before .before .before .before .before .before .before .before
+      .before .before .before .before .before .before .before .before .before .before .before .pre .0)
+      (c .before .before .before .before .before .before .before .before .before .before .before .before .before .before .before
+      .before .before .before .before .before .before .before .args .ignored) _ _ _ _ _
+      (element-behind _ _ _ _ (c .before .before .before .before .before .before .before .before .before .before .before .before
+      .before .parse-svg-element .ensures .1) _ _ (c .before .before .before .before .before .before .before .taken .given .1))
+      (element-done _ _ _ _ _ (c .before .before .before .before .before .before .before .before .before .before .before .before
+      .before .parse-svg-element .ensures .0 (c .before .before .before .before .before .before .before .before .before .before
+      .before .before .before .before .before .before .before .before .before .before .before .before .args .text .now)) _ _
+      (c .before .before .before .before .before .before .before .taken .given .1)) _ (c .before .before .before .space-of .ensures),
+  c .before .before .before .before .before .before .before .before .before .before .before .before .before .before .before
+      .before .before .before .before .before .before .before .pre .1,
+)
 
 enum-known-k-2 : tie.Need-enum-known-k-2
 enum-known-k-2 c = search needs
@@ -68,10 +71,10 @@ trim-text-nodes-requires : tie.Need-trim-text-nodes-requires
 trim-text-nodes-requires c κs =
     label-trims _ _ _ _ _ _ _ _ (c .before .before .before .before .before .before .before .before .before .before .before .before
     .before .before .before .before .before .before .before .before .before .before .before .before .before .before .before
-    .before .before .before .before .before .before .before .pre)
+    .before .before .before .before .before .before .before .before .pre .0)
     (c .before .before .before .before .before .before .before .before .before .before .before .before .before .before .before
     .before .before .before .before .before .before .before .before .before .before .before .before .before .before .before
-    .before .before .before .before .args .ignored) _ _ _ _ _
+    .before .before .before .before .before .args .ignored) _ _ _ _ _
     (element-behind _ _ _ _ (c .before .before .before .before .before .before .before .before .before .before .before .before
     .before .before .before .before .before .before .before .before .before .before .before .before .before .before
     .parse-svg-element .ensures .1) _ _ (c .before .before .before .before .before .before .before .before .before .before .before
@@ -80,7 +83,7 @@ trim-text-nodes-requires c κs =
     .before .before .before .before .before .before .before .before .before .before .before .before .before .before
     .parse-svg-element .ensures .0 (c .before .before .before .before .before .before .before .before .before .before .before
     .before .before .before .before .before .before .before .before .before .before .before .before .before .before .before
-    .before .before .before .before .before .before .before .before .args .text .now)) _ _
+    .before .before .before .before .before .before .before .before .before .args .text .now)) _ _
     (c .before .before .before .before .before .before .before .before .before .before .before .before .before .before .before
     .before .before .before .before .before .taken .given .1)) _
     (c .before .before .before .before .before .before .before .before .before .before .before .before .before .before .before
@@ -97,8 +100,8 @@ same-length-2 c = search needs
 returns : tie.Need-returns
 returns c = (
   label-refused _ _ _ _ _ _ _ _ (c .before .before .before .before .before .before .before .before .before .before .before
-      .before .before .before .before .pre) (c .before .before .before .before .before .before .before .before .before .before
-      .before .before .before .before .before .args .ignored) _
+      .before .before .before .before .before .pre .0) (c .before .before .before .before .before .before .before .before .before .before
+      .before .before .before .before .before .before .args .ignored) _
       (element-none _ _ _ _ _ (c .before .before .before .before .before .before .before .parse-svg-element .ensures .0 _) _
       (c .before .k .given .1)),
   tt,
@@ -117,10 +120,10 @@ returns-2 : tie.Need-returns-2
 returns-2 c = (
   inside-refused _ _ _ _ _ _ _ _ (c .before .before .before .before .before .before .before .before .before .before .before
       .before .before .before .before .before .before .before .before .before .before .before .before .before .before .before
-      .before .before .before .before .before .pre)
+      .before .before .before .before .before .before .pre .0)
       (c .before .before .before .before .before .before .before .before .before .before .before .before .before .before .before
       .before .before .before .before .before .before .before .before .before .before .before .before .before .before .before
-      .before .args .ignored) _ _ _ _ _ (element-behind _ _ _ _ (c .before .before .before .before .before .before .before .before
+      .before .before .args .ignored) _ _ _ _ _ (element-behind _ _ _ _ (c .before .before .before .before .before .before .before .before
       .before .before .before .before .before .before .before .before .before .before .before .before .before .before .before
       .parse-svg-element .ensures .1) _ _ (c .before .before .before .before .before .before .before .before .before .before .before
       .before .before .before .before .before .before .taken .given .1))
@@ -128,7 +131,7 @@ returns-2 c = (
       .before .before .before .before .before .before .before .before .before .before .before .parse-svg-element .ensures .0
       (c .before .before .before .before .before .before .before .before .before .before .before .before .before .before .before
       .before .before .before .before .before .before .before .before .before .before .before .before .before .before .before
-      .before .args .text .now)) _ _ (c .before .before .before .before .before .before .before .before .before .before .before
+      .before .before .args .text .now)) _ _ (c .before .before .before .before .before .before .before .before .before .before .before
       .before .before .before .before .before .before .taken .given .1))
       (c .before .before .before .before .before .before .before .before .before .before .before .before .before .space-of .result)
       (c .before .before .before .before .before .before .before .before .before .before .before .before .before .space-of .ensures)
@@ -159,10 +162,10 @@ returns-3 : tie.Need-returns-3
 returns-3 c = (
   label-done _ _ _ _ _ _ _ _ (c .before .before .before .before .before .before .before .before .before .before .before .before
       .before .before .before .before .before .before .before .before .before .before .before .before .before .before .before
-      .before .before .before .before .before .before .before .before .before .before .before .before .pre)
+      .before .before .before .before .before .before .before .before .before .before .before .before .before .pre .0)
       (c .before .before .before .before .before .before .before .before .before .before .before .before .before .before .before
       .before .before .before .before .before .before .before .before .before .before .before .before .before .before .before
-      .before .before .before .before .before .before .before .before .before .args .ignored) _ _ _ _ _
+      .before .before .before .before .before .before .before .before .before .before .args .ignored) _ _ _ _ _
       (element-behind _ _ _ _ (c .before .before .before .before .before .before .before .before .before .before .before .before
       .before .before .before .before .before .before .before .before .before .before .before .before .before .before .before
       .before .before .before .before .parse-svg-element .ensures .1) _ _
@@ -173,7 +176,7 @@ returns-3 c = (
       .before .before .before .before .parse-svg-element .ensures .0
       (c .before .before .before .before .before .before .before .before .before .before .before .before .before .before .before
       .before .before .before .before .before .before .before .before .before .before .before .before .before .before .before
-      .before .before .before .before .before .before .before .before .before .args .text .now)) _ _
+      .before .before .before .before .before .before .before .before .before .before .args .text .now)) _ _
       (c .before .before .before .before .before .before .before .before .before .before .before .before .before .before .before
       .before .before .before .before .before .before .before .before .before .before .taken .given .1)) _
       (c .before .before .before .before .before .before .before .before .before .before .before .before .before .before .before
@@ -184,10 +187,10 @@ returns-3 c = (
       (c .before .before .before .before .trim-text-nodes .ensures),
   label-leaves _ _ _ _ _ _ _ _ (c .before .before .before .before .before .before .before .before .before .before .before
       .before .before .before .before .before .before .before .before .before .before .before .before .before .before .before
-      .before .before .before .before .before .before .before .before .before .before .before .before .before .pre)
+      .before .before .before .before .before .before .before .before .before .before .before .before .before .before .pre .0)
       (c .before .before .before .before .before .before .before .before .before .before .before .before .before .before .before
       .before .before .before .before .before .before .before .before .before .before .before .before .before .before .before
-      .before .before .before .before .before .before .before .before .before .args .ignored) _ _ _ _ _
+      .before .before .before .before .before .before .before .before .before .before .args .ignored) _ _ _ _ _
       (element-behind _ _ _ _ (c .before .before .before .before .before .before .before .before .before .before .before .before
       .before .before .before .before .before .before .before .before .before .before .before .before .before .before .before
       .before .before .before .before .parse-svg-element .ensures .1) _ _
@@ -198,7 +201,7 @@ returns-3 c = (
       .before .before .before .before .parse-svg-element .ensures .0
       (c .before .before .before .before .before .before .before .before .before .before .before .before .before .before .before
       .before .before .before .before .before .before .before .before .before .before .before .before .before .before .before
-      .before .before .before .before .before .before .before .before .before .args .text .now)) _ _
+      .before .before .before .before .before .before .before .before .before .before .args .text .now)) _ _
       (c .before .before .before .before .before .before .before .before .before .before .before .before .before .before .before
       .before .before .before .before .before .before .before .before .before .before .taken .given .1)) _
       (c .before .before .before .before .before .before .before .before .before .before .before .before .before .before .before

@@ -18,8 +18,8 @@ append-quoted-requires : tie.Need-append-quoted-requires
 append-quoted-requires c κs = (
   found-quotes _ _ _ _ (c .before .before .before .before .before .quoted .ensures .0) _
       (c .before .before .before .l .given .1) (c .before .before .before .before .before .quoted .ensures .1)
-      (c .before .before .before .before .before .before .before .before .before .before .before .pre .1 .1 .1),
-  appends _ _ _ _ _ _ (c .before .before .before .before .before .before .before .before .before .before .before .pre .0),
+      (c .before .before .before .before .before .before .before .before .before .before .before .before .pre .1 .1 .1 .0),
+  appends _ _ _ _ _ _ (c .before .before .before .before .before .before .before .before .before .before .before .before .pre .0),
 )
 
 enum-told : tie.Need-enum-told
@@ -34,18 +34,18 @@ same-length-2 c = search needs
 returns : tie.Need-returns
 returns c =
     quote-node _ _ _ _ _ _ _ _ (c .before .before .before .before .before .before .before .before .before .before .before .before
-    .before .before .before .before .pre .1 .0) _ _ (c .before .before .before .before .append-quoted .result)
+    .before .before .before .before .before .pre .1 .0) _ _ (c .before .before .before .before .append-quoted .result)
     (c .before .before .before .before .append-quoted .ensures)
     ∙ ap (λ (l : List Source). quoteOf (c .before .before .before .before .before .before .before .before .before .before .before
-    .before .before .before .before .before .args .characters .now) l
+    .before .before .before .before .before .before .args .characters .now) l
     (c .before .before .before .before .before .before .before .before .before .before .before .before .before .before .before
-    .before .args .p) (treeOf (c .before .before .before .before .before .before .before .before .before .before .before .before
-    .before .before .before .before .args .nodes .now)
+    .before .before .args .p) (treeOf (c .before .before .before .before .before .before .before .before .before .before .before .before
+    .before .before .before .before .before .args .nodes .now)
     (c .before .before .before .before .before .before .before .before .before .before .before .before .before .before .before
-    .before .args .attributes .now) (c .before .before .before .before .before .before .before .before .before .before .before
-    .before .before .before .before .before .args .text .now)
+    .before .before .args .attributes .now) (c .before .before .before .before .before .before .before .before .before .before .before
+    .before .before .before .before .before .before .args .text .now)
     (c .before .before .before .before .before .before .before .before .before .before .before .before .before .before .before
-    .before .args .counts))) (found-texts _ _ _ _
+    .before .before .args .counts))) (found-texts _ _ _ _
     (c .before .before .before .before .before .before .before .before .before .before .quoted .ensures .0) _
     (c .before .before .before .before .before .before .before .before .l .given .1))
 

@@ -18,19 +18,28 @@ enum-known-x c = search needs
 begin-requires : tie.Need-begin-requires
 begin-requires c κs =
     let within = c .before .before .before .before .before .before .before .before .before .before .before .before .before .before
-    .before .pre .0 in
+    .before .before .pre .0 in
     let recalled = c .before .before .before .before .before .before .before .before .before .before .before .before .before
-    .before .before .pre .1 in
+    .before .before .before .pre .1 .0 in
     let opens = item-told _ _ _ _ _ (c .before .before .before .before .before .x .given .1)
-    (c .before .before .before .before .before .before .before .next-item .ensures) in
-    (within, (opening _ _ _ _ (opens .0) (opens .1 .0) (opens .1 .1) (within .lies), recalled))
+    (c .before .before .before .before .before .before .before .next-item .ensures) in (
+      within,
+      (
+        opening _ _ _ _ (opens .0) (opens .1 .0) (opens .1 .1) (within .lies),
+        (
+          recalled,
+          c .before .before .before .before
+              .before .before .before .before .before .before .before .before .before .before .before .before .pre .1 .1,
+        ),
+      ),
+    )
 
 enum-known-own : tie.Need-enum-known-own
 enum-known-own c = search needs
 
 add-text-requires : tie.Need-add-text-requires
 add-text-requires c κs =
-    let within = c .before .before .before .before .before .before .before .before .before .before .before .before .before .before
+    let within = c .before .before .before .before .before .before .before .before .before .before .before .before .before .before .before
     .pre .0 in
     let spoken = item-told _ _ _ _ _ (c .before .before .before .before .own .given .1)
     (c .before .before .before .before .before .before .next-item .ensures) in (
@@ -58,21 +67,24 @@ enum-known-n-2 c = search needs
 
 returns : tie.Need-returns
 returns c =
-    let within = c .before .before .before .before .before .before .before .before .before .before .before .before .before .pre
+    let within = c .before .before .before .before .before .before .before .before .before .before .before .before .before .before .pre
     .0 in
     let closed = item-told _ _ _ _ _ (c .before .before .before .n2 .given .1)
     (c .before .before .before .before .before .next-item .ensures) in
     ends-close _ _ _ _ _ _ _ within _ (closed .1) (closed .0) (c .if1 .taken)
 
 node-word-requires : tie.Need-node-word-requires
-node-word-requires c κs = search needs
+node-word-requires c κs =
+    let within = c .before .before .before .before .before .before .before .before .before .before .before .before .before .before
+    .before .pre .0 in
+    omega (arith, within .below, within .sound .tidy .kept .fits .nodes)
 
 sub-up : tie.Need-sub-up
 sub-up c =
     let within = c .before .before .before .before .before .before .before .before .before .before .before .before .before .before
-    .before .pre .0 in
+    .before .before .pre .0 in
     let parent = within .sound .under (c .before .before .before .before .before .before .before .before .before .before .before
-    .before .before .before .before .args .s .p) (omega (arith, within .up, c .before .before .if1 .left)) (within .below) in
+    .before .before .before .before .before .args .s .p) (omega (arith, within .up, c .before .before .if1 .left)) (within .below) in
     omega (arith, c .node-word .ensures, parent)
 
 pop-requires : tie.Need-pop-requires
@@ -87,9 +99,9 @@ enum-told c = search needs
 space-above-requires : tie.Need-space-above-requires
 space-above-requires c κs =
     let within = c .before .before .before .before .before .before .before .before .before .before .before .before .before .before
-    .before .before .before .before .before .before .before .pre .0 in
+    .before .before .before .before .before .before .before .before .pre .0 in
     let parent = within .sound .under (c .before .before .before .before .before .before .before .before .before .before .before
-    .before .before .before .before .before .before .before .before .before .before .args .s .p)
+    .before .before .before .before .before .before .before .before .before .before .before .args .s .p)
     (omega (arith, within .up, c .before .before .before .before .before .before .before .before .if1 .left)) (within .below) in (
       climbs _ _ _ _ _ _ (holds _ _ _ _ _ _ _ within),
       (
@@ -131,7 +143,7 @@ same-length-6 c = search needs
 returns-3 : tie.Need-returns-3
 returns-3 c =
     let within = c .before .before .before .before .before .before .before .before .before .before .before .before .before .before
-    .before .before .before .before .before .before .before .before .pre .0 in
+    .before .before .before .before .before .before .before .before .before .pre .0 in
     let spoken = item-told _ _ _ _ _
     (c .before .before .before .before .before .before .before .before .before .before .before .before .own .given .1)
     (c .before .before .before .before .before .before .before .before .before .before .before .before .before .before .next-item
@@ -152,9 +164,9 @@ same-length-9 c = search needs
 returns-4 : tie.Need-returns-4
 returns-4 c =
     let within = c .before .before .before .before .before .before .before .before .before .before .before .before .before .before
-    .before .before .before .before .before .before .before .before .pre .0 in
+    .before .before .before .before .before .before .before .before .before .pre .0 in
     let recalled = c .before .before .before .before .before .before .before .before .before .before .before .before .before
-    .before .before .before .before .before .before .before .before .before .pre .1 in
+    .before .before .before .before .before .before .before .before .before .before .pre .1 .0 in
     let spoken = item-told _ _ _ _ _
     (c .before .before .before .before .before .before .before .before .before .before .before .before .own .given .1)
     (c .before .before .before .before .before .before .before .before .before .before .before .before .before .before .next-item
@@ -166,8 +178,8 @@ returns-4 c =
 
 returns-5 : tie.Need-returns-5
 returns-5 c =
-    let within = c .before .before .before .before .before .before .before .before .before .before .before .pre .0 in
-    let recalled = c .before .before .before .before .before .before .before .before .before .before .before .pre .1 in
+    let within = c .before .before .before .before .before .before .before .before .before .before .before .before .pre .0 in
+    let recalled = c .before .before .before .before .before .before .before .before .before .before .before .before .pre .1 .0 in
     let passed = item-told _ _ _ _ _ (c .before .n .given .1) (c .before .before .before .next-item .ensures) in
     let on = goes-other _ _ _ _ _ _ _ within _ (passed .1) (passed .0) in
     (on .0, on .1, recalled)
@@ -178,9 +190,9 @@ same-length-10 c = search needs
 returns-6 : tie.Need-returns-6
 returns-6 c =
     let within = c .before .before .before .before .before .before .before .before .before .before .before .before .before .before
-    .before .before .before .before .before .before .pre .0 in
+    .before .before .before .before .before .before .before .pre .0 in
     let recalled = c .before .before .before .before .before .before .before .before .before .before .before .before .before
-    .before .before .before .before .before .before .before .pre .1 in
+    .before .before .before .before .before .before .before .before .pre .1 .0 in
     let closed = item-told _ _ _ _ _
     (c .before .before .before .before .before .before .before .before .before .before .n2 .given .1)
     (c .before .before .before .before .before .before .before .before .before .before .before .before .next-item .ensures) in
@@ -198,9 +210,9 @@ same-length-12 c = search needs
 returns-7 : tie.Need-returns-7
 returns-7 c =
     let within = c .before .before .before .before .before .before .before .before .before .before .before .before .before .before
-    .before .before .before .before .before .before .before .before .before .pre .0 in
+    .before .before .before .before .before .before .before .before .before .before .pre .0 in
     let recalled = c .before .before .before .before .before .before .before .before .before .before .before .before .before
-    .before .before .before .before .before .before .before .before .before .before .pre .1 in
+    .before .before .before .before .before .before .before .before .before .before .before .pre .1 .0 in
     let closed = item-told _ _ _ _ _
     (c .before .before .before .before .before .before .before .before .before .before .before .before .before .n2 .given .1)
     (c .before .before .before .before .before .before .before .before .before .before .before .before .before .before .before
@@ -212,7 +224,7 @@ returns-7 c =
 
 returns-8 : tie.Need-returns-8
 returns-8 c =
-    let within = c .before .before .before .before .before .before .before .before .before .before .pre .0 in
+    let within = c .before .before .before .before .before .before .before .before .before .before .before .pre .0 in
     let ended = item-told _ _ _ _ _ (c .enum-told2 .given .1) (c .before .before .next-item .ensures) in
     ends-none _ _ _ _ _ _ _ within (ended .0)
 

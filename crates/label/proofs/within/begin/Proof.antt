@@ -25,14 +25,14 @@ past-element-requires c κs = search needs
 returns : tie.Need-returns
 returns c =
     let content = content-is (elementOf
-    (c .before .before .before .before .before .before .before .before .before .before .before .before .args .script .now)
-    (c .before .before .before .before .before .before .before .before .before .before .before .before .args .characters .now)
-    (c .before .before .before .before .before .before .before .before .before .before .before .before .args .x))
-    (eqb (c .before .before .before .before .before .before .before .before .before .before .before .before .args .s .p)
-    (c .before .before .before .before .before .before .before .before .before .before .before .before .args .e)) in
-    let within = c .before .before .before .before .before .before .before .before .before .before .before .before .pre .0 in
-    let opens = c .before .before .before .before .before .before .before .before .before .before .before .before .pre .1 .0 in
-    let recalled = c .before .before .before .before .before .before .before .before .before .before .before .before .pre .1 .1 in
+    (c .before .before .before .before .before .before .before .before .before .before .before .before .before .args .script .now)
+    (c .before .before .before .before .before .before .before .before .before .before .before .before .before .args .characters .now)
+    (c .before .before .before .before .before .before .before .before .before .before .before .before .before .args .x))
+    (eqb (c .before .before .before .before .before .before .before .before .before .before .before .before .before .args .s .p)
+    (c .before .before .before .before .before .before .before .before .before .before .before .before .before .args .e)) in
+    let within = c .before .before .before .before .before .before .before .before .before .before .before .before .before .pre .0 in
+    let opens = c .before .before .before .before .before .before .before .before .before .before .before .before .before .pre .1 .0 in
+    let recalled = c .before .before .before .before .before .before .before .before .before .before .before .before .before .pre .1 .1 .0 in
     let on = goes-past _ _ _ _ _ _ _ within _ opens
     (sym content ∙ fails (c .before .before .is-text-content .ensures) (c .before .if1 .taken)) _ (c .past-element .ensures .0)
     (c .past-element .ensures .1 .0) (c .past-element .ensures .1 .1) in
@@ -43,9 +43,9 @@ text-tag-of-requires c κs = search needs
 
 parse-svg-element-requires : tie.Need-parse-svg-element-requires
 parse-svg-element-requires c κs =
-    let within = c .before .before .before .before .before .before .before .before .before .before .before .before .before .before
+    let within = c .before .before .before .before .before .before .before .before .before .before .before .before .before .before .before
     .pre .0 in
-    let opens = c .before .before .before .before .before .before .before .before .before .before .before .before .before .before
+    let opens = c .before .before .before .before .before .before .before .before .before .before .before .before .before .before .before
     .pre .1 .0 in
     (ready _ _ _ _ _ _ _ within _ opens, in-values _ _ _ _ _ _ _ within _ opens)
 
@@ -58,19 +58,19 @@ enum-known-taken c = search needs
 get-xmlspace-requires : tie.Need-get-xmlspace-requires
 get-xmlspace-requires c κs =
     let content = content-is (elementOf (c .before .before .before .before .before .before .before .before .before .before .before
-    .before .before .before .before .before .before .before .before .before .before .before .before .before .args .script .now)
+    .before .before .before .before .before .before .before .before .before .before .before .before .before .before .args .script .now)
     (c .before .before .before .before .before .before .before .before .before .before .before .before .before .before .before
-    .before .before .before .before .before .before .before .before .before .args .characters .now)
+    .before .before .before .before .before .before .before .before .before .before .args .characters .now)
     (c .before .before .before .before .before .before .before .before .before .before .before .before .before .before .before
-    .before .before .before .before .before .before .before .before .before .args .x))
+    .before .before .before .before .before .before .before .before .before .before .args .x))
     (eqb (c .before .before .before .before .before .before .before .before .before .before .before .before .before .before
-    .before .before .before .before .before .before .before .before .before .before .args .s .p)
+    .before .before .before .before .before .before .before .before .before .before .before .args .s .p)
     (c .before .before .before .before .before .before .before .before .before .before .before .before .before .before .before
-    .before .before .before .before .before .before .before .before .before .args .e)) in
+    .before .before .before .before .before .before .before .before .before .before .args .e)) in
     let within = c .before .before .before .before .before .before .before .before .before .before .before .before .before .before
-    .before .before .before .before .before .before .before .before .before .before .pre .0 in
+    .before .before .before .before .before .before .before .before .before .before .before .pre .0 in
     let opens = c .before .before .before .before .before .before .before .before .before .before .before .before .before .before
-    .before .before .before .before .before .before .before .before .before .before .pre .1 .0 in
+    .before .before .before .before .before .before .before .before .before .before .before .pre .1 .0 in
     let is = sym content ∙ passes (c .before .before .before .before .before .before .before .before .before .before .before
     .before .before .before .is-text-content .ensures)
     (c .before .before .before .before .before .before .before .before .before .before .before .before .before .if1 .left) in
@@ -82,14 +82,14 @@ get-xmlspace-requires c κs =
     (c .before .before .before .taken .given .1) in
     let told = element-done _ _ _ _ _ (c .before .before .before .before .before .before .before .before .before
     .parse-svg-element .ensures .0 (c .before .before .before .before .before .before .before .before .before .before .before
-    .before .before .before .before .before .before .before .before .before .before .before .before .before .args .text .now)) _ _
+    .before .before .before .before .before .before .before .before .before .before .before .before .before .before .args .text .now)) _ _
     (c .before .before .before .taken .given .1) in
     reads _ _ _ _ _ _ (tref-holds _ _ _ _ _ _ _ within _ opens is _ named _ _ _ _ _ nodes told) _ (omega arith)
 
 push-requires : tie.Need-push-requires
 push-requires c κs =
     let recalled = c .before .before .before .before .before .before .before .before .before .before .before .before .before
-    .before .before .before .before .before .before .before .before .before .before .before .before .before .before .pre .1 .1 in
+    .before .before .before .before .before .before .before .before .before .before .before .before .before .before .before .pre .1 .1 .0 in
     recalled .few
 
 same-length : tie.Need-same-length
@@ -102,22 +102,22 @@ returns-2 : tie.Need-returns-2
 returns-2 c =
     let content = content-is (elementOf (c .before .before .before .before .before .before .before .before .before .before .before
     .before .before .before .before .before .before .before .before .before .before .before .before .before .before .before
-    .before .before .args .script .now) (c .before .before .before .before .before .before .before .before .before .before .before
+    .before .before .before .args .script .now) (c .before .before .before .before .before .before .before .before .before .before .before
     .before .before .before .before .before .before .before .before .before .before .before .before .before .before .before
-    .before .before .args .characters .now) (c .before .before .before .before .before .before .before .before .before .before
+    .before .before .before .args .characters .now) (c .before .before .before .before .before .before .before .before .before .before
     .before .before .before .before .before .before .before .before .before .before .before .before .before .before .before
-    .before .before .before .args .x)) (eqb (c .before .before .before .before .before .before .before .before .before .before
+    .before .before .before .before .args .x)) (eqb (c .before .before .before .before .before .before .before .before .before .before
     .before .before .before .before .before .before .before .before .before .before .before .before .before .before .before
-    .before .before .before .args .s .p) (c .before .before .before .before .before .before .before .before .before .before
+    .before .before .before .before .args .s .p) (c .before .before .before .before .before .before .before .before .before .before
     .before .before .before .before .before .before .before .before .before .before .before .before .before .before .before
-    .before .before .before .args .e)) in
+    .before .before .before .before .args .e)) in
     let within = c .before .before .before .before .before .before .before .before .before .before .before .before .before .before
-    .before .before .before .before .before .before .before .before .before .before .before .before .before .before .pre .0 in
+    .before .before .before .before .before .before .before .before .before .before .before .before .before .before .before .pre .0 in
     let opens = c .before .before .before .before .before .before .before .before .before .before .before .before .before .before
-    .before .before .before .before .before .before .before .before .before .before .before .before .before .before .pre .1 .0 in
+    .before .before .before .before .before .before .before .before .before .before .before .before .before .before .before .pre .1 .0 in
     let recalled = c .before .before .before .before .before .before .before .before .before .before .before .before .before
-    .before .before .before .before .before .before .before .before .before .before .before .before .before .before .before .pre
-    .1 .1 in
+    .before .before .before .before .before .before .before .before .before .before .before .before .before .before .before .before .pre
+    .1 .1 .0 in
     let is = sym content ∙ passes (c .before .before .before .before .before .before .before .before .before .before .before
     .before .before .before .before .before .before .before .is-text-content .ensures)
     (c .before .before .before .before .before .before .before .before .before .before .before .before .before .before .before
@@ -131,7 +131,7 @@ returns-2 c =
     let told = element-done _ _ _ _ _ (c .before .before .before .before .before .before .before .before .before .before .before
     .before .before .parse-svg-element .ensures .0
     (c .before .before .before .before .before .before .before .before .before .before .before .before .before .before .before
-    .before .before .before .before .before .before .before .before .before .before .before .before .before .args .text .now)) _ _
+    .before .before .before .before .before .before .before .before .before .before .before .before .before .before .args .text .now)) _ _
     (c .before .before .before .before .before .before .before .taken .given .1) in
     let on = goes-in _ _ _ _ _ _ _ within _ opens is _ named _ _ _ _ _ nodes told _
     (c .before .before .before .get-xmlspace .ensures)
@@ -143,21 +143,21 @@ add-quoted-requires : tie.Need-add-quoted-requires
 add-quoted-requires c κs =
     let content = content-is (elementOf (c .before .before .before .before .before .before .before .before .before .before .before
     .before .before .before .before .before .before .before .before .before .before .before .before .before .before .before
-    .before .before .before .args .script .now)
+    .before .before .before .before .args .script .now)
     (c .before .before .before .before .before .before .before .before .before .before .before .before .before .before .before
-    .before .before .before .before .before .before .before .before .before .before .before .before .before .before .args
+    .before .before .before .before .before .before .before .before .before .before .before .before .before .before .before .args
     .characters .now) (c .before .before .before .before .before .before .before .before .before .before .before .before .before
     .before .before .before .before .before .before .before .before .before .before .before .before .before .before .before
-    .before .args .x)) (eqb (c .before .before .before .before .before .before .before .before .before .before .before .before
+    .before .before .args .x)) (eqb (c .before .before .before .before .before .before .before .before .before .before .before .before
     .before .before .before .before .before .before .before .before .before .before .before .before .before .before .before
-    .before .before .args .s .p) (c .before .before .before .before .before .before .before .before .before .before .before
+    .before .before .before .args .s .p) (c .before .before .before .before .before .before .before .before .before .before .before
     .before .before .before .before .before .before .before .before .before .before .before .before .before .before .before
-    .before .before .before .args .e)) in
+    .before .before .before .before .args .e)) in
     let within = c .before .before .before .before .before .before .before .before .before .before .before .before .before .before
-    .before .before .before .before .before .before .before .before .before .before .before .before .before .before .before .pre
+    .before .before .before .before .before .before .before .before .before .before .before .before .before .before .before .before .pre
     .0 in
     let opens = c .before .before .before .before .before .before .before .before .before .before .before .before .before .before
-    .before .before .before .before .before .before .before .before .before .before .before .before .before .before .before .pre
+    .before .before .before .before .before .before .before .before .before .before .before .before .before .before .before .before .pre
     .1 .0 in
     let is = sym content ∙ passes (c .before .before .before .before .before .before .before .before .before .before .before
     .before .before .before .before .before .before .before .before .is-text-content .ensures)
@@ -172,13 +172,21 @@ add-quoted-requires c κs =
     let told = element-done _ _ _ _ _ (c .before .before .before .before .before .before .before .before .before .before .before
     .before .before .before .parse-svg-element .ensures .0
     (c .before .before .before .before .before .before .before .before .before .before .before .before .before .before .before
-    .before .before .before .before .before .before .before .before .before .before .before .before .before .before .args .text
+    .before .before .before .before .before .before .before .before .before .before .before .before .before .before .before .args .text
     .now)) _ _ (c .before .before .before .before .before .before .before .before .taken .given .1) in (
       tref-holds _ _ _ _ _ _ _ within _ opens is _ named _ _ _ _ _ nodes told,
       (
         new-space _ _ _ _ _ _ _ within _ opens is _ named _ _ _ _ _ nodes told
             (c .before .before .before .before .get-xmlspace .result) (c .before .before .before .before .get-xmlspace .ensures),
-        (opens .standing, within .all),
+        (
+          opens .standing,
+          (
+            within .all,
+            c .before .before .before .before .before .before .before .before .before .before .before
+                .before .before .before .before .before .before .before .before .before .before .before .before .before .before .before
+                .before .before .before .before .pre .1 .1 .1,
+          ),
+        ),
       ),
     )
 
@@ -205,19 +213,19 @@ same-length-4 c = search needs
 returns-3 : tie.Need-returns-3
 returns-3 c =
     let content = content-is (elementOf (c .before .before .before .before .before .before .before .before .before .before .before
-    .before .before .before .before .before .before .before .before .before .before .before .args .script .now)
+    .before .before .before .before .before .before .before .before .before .before .before .before .args .script .now)
     (c .before .before .before .before .before .before .before .before .before .before .before .before .before .before .before
-    .before .before .before .before .before .before .before .args .characters .now)
+    .before .before .before .before .before .before .before .before .args .characters .now)
     (c .before .before .before .before .before .before .before .before .before .before .before .before .before .before .before
-    .before .before .before .before .before .before .before .args .x))
+    .before .before .before .before .before .before .before .before .args .x))
     (eqb (c .before .before .before .before .before .before .before .before .before .before .before .before .before .before
-    .before .before .before .before .before .before .before .before .args .s .p)
+    .before .before .before .before .before .before .before .before .before .args .s .p)
     (c .before .before .before .before .before .before .before .before .before .before .before .before .before .before .before
-    .before .before .before .before .before .before .before .args .e)) in
+    .before .before .before .before .before .before .before .before .args .e)) in
     let within = c .before .before .before .before .before .before .before .before .before .before .before .before .before .before
-    .before .before .before .before .before .before .before .before .pre .0 in
+    .before .before .before .before .before .before .before .before .before .pre .0 in
     let opens = c .before .before .before .before .before .before .before .before .before .before .before .before .before .before
-    .before .before .before .before .before .before .before .before .pre .1 .0 in
+    .before .before .before .before .before .before .before .before .before .pre .1 .0 in
     let is = sym content ∙ passes
     (c .before .before .before .before .before .before .before .before .before .before .before .before .is-text-content .ensures)
     (c .before .before .before .before .before .before .before .before .before .before .before .if1 .left) in
@@ -241,25 +249,25 @@ returns-4 : tie.Need-returns-4
 returns-4 c =
     let content = content-is (elementOf (c .before .before .before .before .before .before .before .before .before .before .before
     .before .before .before .before .before .before .before .before .before .before .before .before .before .before .before
-    .before .before .before .before .before .before .before .before .before .before .before .args .script .now)
+    .before .before .before .before .before .before .before .before .before .before .before .before .args .script .now)
     (c .before .before .before .before .before .before .before .before .before .before .before .before .before .before .before
     .before .before .before .before .before .before .before .before .before .before .before .before .before .before .before
-    .before .before .before .before .before .before .before .args .characters .now)
+    .before .before .before .before .before .before .before .before .args .characters .now)
     (c .before .before .before .before .before .before .before .before .before .before .before .before .before .before .before
     .before .before .before .before .before .before .before .before .before .before .before .before .before .before .before
-    .before .before .before .before .before .before .before .args .x))
+    .before .before .before .before .before .before .before .before .args .x))
     (eqb (c .before .before .before .before .before .before .before .before .before .before .before .before .before .before
     .before .before .before .before .before .before .before .before .before .before .before .before .before .before .before
-    .before .before .before .before .before .before .before .before .args .s .p)
+    .before .before .before .before .before .before .before .before .before .args .s .p)
     (c .before .before .before .before .before .before .before .before .before .before .before .before .before .before .before
     .before .before .before .before .before .before .before .before .before .before .before .before .before .before .before
-    .before .before .before .before .before .before .before .args .e)) in
+    .before .before .before .before .before .before .before .before .args .e)) in
     let within = c .before .before .before .before .before .before .before .before .before .before .before .before .before .before
     .before .before .before .before .before .before .before .before .before .before .before .before .before .before .before
-    .before .before .before .before .before .before .before .before .pre .0 in
+    .before .before .before .before .before .before .before .before .before .pre .0 in
     let opens = c .before .before .before .before .before .before .before .before .before .before .before .before .before .before
     .before .before .before .before .before .before .before .before .before .before .before .before .before .before .before
-    .before .before .before .before .before .before .before .before .pre .1 .0 in
+    .before .before .before .before .before .before .before .before .before .pre .1 .0 in
     let is = sym content ∙ passes (c .before .before .before .before .before .before .before .before .before .before .before
     .before .before .before .before .before .before .before .before .before .before .before .before .before .before .before
     .before .is-text-content .ensures) (c .before .before .before .before .before .before .before .before .before .before .before
@@ -278,7 +286,7 @@ returns-4 c =
     .before .before .before .before .before .before .before .before .before .before .before .parse-svg-element .ensures .0
     (c .before .before .before .before .before .before .before .before .before .before .before .before .before .before .before
     .before .before .before .before .before .before .before .before .before .before .before .before .before .before .before
-    .before .before .before .before .before .before .before .args .text .now)) _ _
+    .before .before .before .before .before .before .before .before .args .text .now)) _ _
     (c .before .before .before .before .before .before .before .before .before .before .before .before .before .before .before
     .before .taken .given .1) in
     let tref = sym (c .before .before .before .before .before .before .before .before .before .before .before .before .before
@@ -307,28 +315,28 @@ returns-5 : tie.Need-returns-5
 returns-5 c =
     let content = content-is (elementOf (c .before .before .before .before .before .before .before .before .before .before .before
     .before .before .before .before .before .before .before .before .before .before .before .before .before .before .before
-    .before .before .before .before .before .before .before .before .before .before .before .before .args .script .now)
+    .before .before .before .before .before .before .before .before .before .before .before .before .before .args .script .now)
     (c .before .before .before .before .before .before .before .before .before .before .before .before .before .before .before
     .before .before .before .before .before .before .before .before .before .before .before .before .before .before .before
-    .before .before .before .before .before .before .before .before .args .characters .now)
+    .before .before .before .before .before .before .before .before .before .args .characters .now)
     (c .before .before .before .before .before .before .before .before .before .before .before .before .before .before .before
     .before .before .before .before .before .before .before .before .before .before .before .before .before .before .before
-    .before .before .before .before .before .before .before .before .args .x))
+    .before .before .before .before .before .before .before .before .before .args .x))
     (eqb (c .before .before .before .before .before .before .before .before .before .before .before .before .before .before
     .before .before .before .before .before .before .before .before .before .before .before .before .before .before .before
-    .before .before .before .before .before .before .before .before .before .args .s .p)
+    .before .before .before .before .before .before .before .before .before .before .args .s .p)
     (c .before .before .before .before .before .before .before .before .before .before .before .before .before .before .before
     .before .before .before .before .before .before .before .before .before .before .before .before .before .before .before
-    .before .before .before .before .before .before .before .before .args .e)) in
+    .before .before .before .before .before .before .before .before .before .args .e)) in
     let within = c .before .before .before .before .before .before .before .before .before .before .before .before .before .before
     .before .before .before .before .before .before .before .before .before .before .before .before .before .before .before
-    .before .before .before .before .before .before .before .before .before .pre .0 in
+    .before .before .before .before .before .before .before .before .before .before .pre .0 in
     let opens = c .before .before .before .before .before .before .before .before .before .before .before .before .before .before
     .before .before .before .before .before .before .before .before .before .before .before .before .before .before .before
-    .before .before .before .before .before .before .before .before .before .pre .1 .0 in
+    .before .before .before .before .before .before .before .before .before .before .pre .1 .0 in
     let recalled = c .before .before .before .before .before .before .before .before .before .before .before .before .before
     .before .before .before .before .before .before .before .before .before .before .before .before .before .before .before
-    .before .before .before .before .before .before .before .before .before .before .pre .1 .1 in
+    .before .before .before .before .before .before .before .before .before .before .before .pre .1 .1 .0 in
     let is = sym content ∙ passes (c .before .before .before .before .before .before .before .before .before .before .before
     .before .before .before .before .before .before .before .before .before .before .before .before .before .before .before
     .before .before .is-text-content .ensures)
@@ -347,7 +355,7 @@ returns-5 c =
     .before .before .before .before .before .before .before .before .before .before .before .before .parse-svg-element .ensures .0
     (c .before .before .before .before .before .before .before .before .before .before .before .before .before .before .before
     .before .before .before .before .before .before .before .before .before .before .before .before .before .before .before
-    .before .before .before .before .before .before .before .before .args .text .now)) _ _
+    .before .before .before .before .before .before .before .before .before .args .text .now)) _ _
     (c .before .before .before .before .before .before .before .before .before .before .before .before .before .before .before
     .before .before .taken .given .1) in
     let tref = sym (c .before .before .before .before .before .before .before .before .before .before .before .before .before

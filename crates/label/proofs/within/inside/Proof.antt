@@ -11,13 +11,13 @@ use Rattle.label.proofs.within.inside.Statement.{statement}
 use Rattle.label.proofs.within.inside.Tie as tie
 
 abbrev Inv-loop : tie.InvT-loop
-Inv-loop script characters nodes₀ attributes₀ text₀ e words₀ levels₀ s₀ nodes attributes text words levels s =
+Inv-loop script characters slots nodes₀ attributes₀ text₀ e words₀ levels₀ s₀ nodes attributes text words levels s =
     Goes script characters e nodes₀ attributes₀ text₀ s₀ nodes attributes text s
     × Recalled characters (treeOf nodes attributes text (s .counts)) words (s .p) levels × (length nodes ≡ length nodes₀)
     × (length attributes ≡ length attributes₀) × (length text ≡ length text₀)
 
 abbrev μ-loop : tie.MeasureT-loop
-μ-loop script characters nodes₀ attributes₀ text₀ e words₀ levels₀ s₀ nodes attributes text words levels s =
+μ-loop script characters slots nodes₀ attributes₀ text₀ e words₀ levels₀ s₀ nodes attributes text words levels s =
     length script - s .c .at
 
 nothing-requires : tie.Need-nothing-requires Inv-loop μ-loop
@@ -25,7 +25,7 @@ nothing-requires c κs = search needs
 
 loop-holds : tie.Need-loop-holds Inv-loop μ-loop
 loop-holds c = (
-  goes-none _ _ _ _ _ _ _ (c .before .before .before .before .before .before .pre),
+  goes-none _ _ _ _ _ _ _ (c .before .before .before .before .before .before .before .pre .0),
   c .nothing .ensures _ (length-replicate {A = ℕ} 32 0) _,
   refl,
   refl,
@@ -33,7 +33,14 @@ loop-holds c = (
 )
 
 advance-requires : tie.Need-advance-requires Inv-loop μ-loop
-advance-requires c κs = (c .before .before .before .before .loop .inv .0 .within, c .before .before .before .before .loop .inv .1)
+advance-requires c κs = (
+  c .before .before .before .before .loop .inv .0 .within,
+  (
+    c .before .before .before .before .loop .inv .1,
+    c .before .before .before .before .before .before .before .before .before
+        .before .before .before .pre .1,
+  ),
+)
 
 enum-known-n : tie.Need-enum-known-n Inv-loop μ-loop
 enum-known-n c = search needs

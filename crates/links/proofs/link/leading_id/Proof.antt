@@ -16,8 +16,8 @@ part-at-requires c κs =
     let held = value-fit _ _ _ _ _ (c .before .v .given .1) (c .before .before .before .first-id .ensures .1) in
     omega (arith, fit-chars _ _ (held .own))
 
-first-with-id-requires : tie.Need-first-with-id-requires
-first-with-id-requires c κs = search needs
+find-requires : tie.Need-find-requires
+find-requires c κs = search needs
 
 enum-known-f : tie.Need-enum-known-f
 enum-known-f c = search needs
@@ -27,11 +27,12 @@ returns c =
     let held = value-fit _ _ _ _ _ (c .before .before .before .before .before .before .before .before .before .v .given .1)
     (c .before .before .before .before .before .before .before .before .before .before .before .first-id .ensures .1) in (
       leading-found _ _
-          (c .before .before .before .before .before .before .before .before .before .before .before .before .before .before .args .e) _
+          (c .before .before .before .before .before .before .before .before .before .before .before .before .before .before
+          .before .args .e) _
           (c .before .before .before .before .before .before .before .before .before .before .before .first-id .ensures) _
           (c .before .before .before .before .before .before .before .before .before .v .given .1) _
           (c .before .before .before .before .before .before .before .part-at .ensures) _
-          (c .before .before .before .before .before .before .first-with-id .ensures .0) _
+          (c .before .before .before .before .before .before .find .ensures .0) _
           (c .before .before .before .before .f .given .1) (c .if1 .taken),
       omega (arith, fit-chars _ _ (held .own)),
     )
@@ -45,27 +46,27 @@ enum-told-2 c = search needs
 returns-2 : tie.Need-returns-2
 returns-2 c = (
   leading-other _ _
-      (c .before .before .before .before .before .before .before .before .before .before .before .before .before .before .args .e) _
+      (c .before .before .before .before .before .before .before .before .before .before .before .before .before .before .before .args .e) _
       (c .before .before .before .before .before .before .before .before .before .before .before .first-id .ensures) _
       (c .before .before .before .before .before .before .before .before .before .v .given .1) _
       (c .before .before .before .before .before .before .before .part-at .ensures) _
-      (c .before .before .before .before .before .before .first-with-id .ensures .0) _
+      (c .before .before .before .before .before .before .find .ensures .0) _
       (c .before .before .before .before .f .given .1) (c .if1 .left),
   tt,
 )
 
 returns-3 : tie.Need-returns-3
 returns-3 c = (
-  leading-nowhere _ _ (c .before .before .before .before .before .before .before .before .before .before .args .e) _
+  leading-nowhere _ _ (c .before .before .before .before .before .before .before .before .before .before .before .args .e) _
       (c .before .before .before .before .before .before .before .first-id .ensures) _
       (c .before .before .before .before .before .v .given .1) _ (c .before .before .before .part-at .ensures) _
-      (c .before .before .first-with-id .ensures .0) (c .enum-told .given .1),
+      (c .before .before .find .ensures .0) (c .enum-told .given .1),
   tt,
 )
 
 returns-4 : tie.Need-returns-4
 returns-4 c = (
-  leading-none _ _ (c .before .before .before .before .before .args .e) _ (c .before .before .first-id .ensures) _
+  leading-none _ _ (c .before .before .before .before .before .before .args .e) _ (c .before .before .first-id .ensures) _
       (c .enum-told2 .given .1),
   tt,
 )
@@ -77,7 +78,7 @@ leading-id-spec =
     first-id-requires
     enum-known-v
     part-at-requires
-    first-with-id-requires
+    find-requires
     enum-known-f
     returns
     enum-told

@@ -11,22 +11,23 @@ use Rattle.links.proofs.link.leads_back.Statement.{statement}
 use Rattle.links.proofs.link.leads_back.Tie as tie
 
 abbrev Inv-loop : tie.InvT-loop
-Inv-loop script characters link id c₀ level₀ c level =
+Inv-loop script characters slots link id c₀ level₀ c level =
     Along (leadingBy (partOf characters id) (partOf characters link))
     (ledBy (partOf characters id) (partOf characters link) (usesIn 0 (eventsAt script characters c₀))) script characters c₀ c
     level
 
 abbrev μ-loop : tie.MeasureT-loop
-μ-loop script characters link id c₀ level₀ c level = length script - c .at
+μ-loop script characters slots link id c₀ level₀ c level = length script - c .at
 
 leading-id-requires : tie.Need-leading-id-requires Inv-loop μ-loop
-leading-id-requires c κs = c .before .before .pre .0
+leading-id-requires c κs = (c .before .before .before .pre .0, c .before .before .before .pre .1 .1 .1 .1)
 
 loop-holds : tie.Need-loop-holds Inv-loop μ-loop
 loop-holds c =
-    along-none (leadingBy (partOf (c .before .before .before .before .args .characters .now) (c .before .leading-id .result))
-    (partOf (c .before .before .before .before .args .characters .now) (c .before .before .before .before .args .link))) _ _ _ _
-    (c .before .before .before .before .pre .1 .0 .fit) (omega arith)
+    along-none (leadingBy (partOf (c .before .before .before .before .before .args .characters .now) (c .before .leading-id .result))
+    (partOf (c .before .before .before .before .before .args .characters .now) (c .before .before .before .before .before .args
+    .link))) _ _ _ _
+    (c .before .before .before .before .before .pre .1 .0 .fit) (omega arith)
 
 next-use-requires : tie.Need-next-use-requires Inv-loop μ-loop
 next-use-requires c κs = (c .loop .inv .fit, c .loop .inv .low)
@@ -47,19 +48,19 @@ returns c =
     back-first _ _ _ _ _ _ _ _ (c .before .before .before .before .before .before .before .loop .inv) _ _ _
     (c .before .before .before .before .u .given .1) (c .before .before .before .before .before .before .next-use .ensures) _
     (c .before .before .use-href .ensures .0) _ (c .before .same-parts .ensures) (c .if1 .taken)
-    ∙ (let at = c .before .before .before .before .before .before .before .before .before .before .before .before in led-back
+    ∙ (let at = c .before .before .before .before .before .before .before .before .before .before .before .before .before in led-back
     (at .args .script .now) (at .args .characters .now) (at .args .e) (at .args .l) (at .args .link)
     (c .before .before .before .before .before .before .before .before .before .leading-id .result)
     (record {
       use-stands = at .pre .0;
-      leads = at .pre .1 .1 .1;
+      leads = at .pre .1 .1 .1 .0;
       by = c .before .before .before .before .before .before .before .before .before .leading-id .ensures .0;
     }) _)
 
 same-parts-requires-2 : tie.Need-same-parts-requires-2 Inv-loop μ-loop
 same-parts-requires-2 c κs = (
   c .before .before .use-href .ensures .1,
-  c .before .before .before .before .before .before .before .before .before .before .before .before .pre .1 .1 .0,
+  c .before .before .before .before .before .before .before .before .before .before .before .before .before .pre .1 .1 .0,
 )
 
 returns-2 : tie.Need-returns-2 Inv-loop μ-loop
@@ -69,12 +70,12 @@ returns-2 c =
     (c .before .before .before .before .before .before .before .before .next-use .ensures) _
     (c .before .before .before .before .use-href .ensures .0) _ (c .before .before .before .same-parts .ensures) _
     (c .before .same-parts2 .ensures) (c .before .before .if1 .left) (c .if2 .taken)
-    ∙ (let at = c .before .before .before .before .before .before .before .before .before .before .before .before .before .before in
+    ∙ (let at = c .before .before .before .before .before .before .before .before .before .before .before .before .before .before .before in
     led-back (at .args .script .now) (at .args .characters .now) (at .args .e) (at .args .l) (at .args .link)
     (c .before .before .before .before .before .before .before .before .before .before .before .leading-id .result)
     (record {
       use-stands = at .pre .0;
-      leads = at .pre .1 .1 .1;
+      leads = at .pre .1 .1 .1 .0;
       by = c .before .before .before .before .before .before .before .before .before .before .before .leading-id .ensures .0;
     }) _)
 
@@ -99,13 +100,13 @@ returns-3 : tie.Need-returns-3 Inv-loop μ-loop
 returns-3 c =
     back-end _ _ _ _ _ _ _ _ (c .before .before .before .loop .inv) _ (c .enum-told .given .1)
     (c .before .before .next-use .ensures)
-    ∙ (let at = c .before .before .before .before .before .before .before .before in
+    ∙ (let at = c .before .before .before .before .before .before .before .before .before in
     led-back (at .args .script .now)
     (at .args .characters .now) (at .args .e) (at .args .l) (at .args .link)
     (c .before .before .before .before .before .leading-id .result)
     (record {
       use-stands = at .pre .0;
-      leads = at .pre .1 .1 .1;
+      leads = at .pre .1 .1 .1 .0;
       by = c .before .before .before .before .before .leading-id .ensures .0;
     }) _)
 

@@ -7,10 +7,10 @@ enum-known-link : tie.Need-enum-known-link
 enum-known-link c = search needs
 
 part-at-requires : tie.Need-part-at-requires
-part-at-requires c κs = part-fit _ _ _ (c .before .link .given .1) (c .before .before .before .before .before .pre .1)
+part-at-requires c κs = part-fit _ _ _ (c .before .link .given .1) (c .before .before .before .before .before .before .pre .1 .0)
 
-first-with-id-requires : tie.Need-first-with-id-requires
-first-with-id-requires c κs = search needs
+find-requires : tie.Need-find-requires
+find-requires c κs = search needs
 
 enum-told : tie.Need-enum-told
 enum-told c = search needs
@@ -18,8 +18,8 @@ enum-told c = search needs
 returns : tie.Need-returns
 returns c = (
   linked-at _ _ _ _ _ (c .before .before .before .link .given .1) _ (c .before .part-at .ensures) _
-      (c .first-with-id .ensures .0),
-  c .first-with-id .ensures .1,
+      (c .find .ensures .0),
+  c .find .ensures .1,
 )
 
 returns-2 : tie.Need-returns-2
@@ -28,4 +28,4 @@ returns-2 c = search needs
 pub linked-spec : {M : Type 1} → statement M
 linked-spec =
     tie.close
-    (tie.spec enum-known-link part-at-requires first-with-id-requires enum-told returns returns-2)
+    (tie.spec enum-known-link part-at-requires find-requires enum-told returns returns-2)

@@ -17,7 +17,7 @@ has-tag-name-requires c κs = search needs
 
 returns : tie.Need-returns
 returns c = (
-  quotes-texts _ _ (c .before .before .before .before .before .before .before .before .before .args .e) _
+  quotes-texts _ _ (c .before .before .before .before .before .before .before .before .before .before .args .e) _
       (c .before .before .before .before .before .before .tref-href .ensures .0) _
       (c .before .before .before .before .before .linked .ensures .0) _ (c .before .before .before .l .given .1) _
       (c .before .has-tag-name .ensures) (c .if1 .taken),
@@ -29,7 +29,7 @@ enum-told c = search needs
 
 returns-2 : tie.Need-returns-2
 returns-2 c = (
-  quotes-foreign _ _ (c .before .before .before .before .before .before .before .before .before .args .e) _
+  quotes-foreign _ _ (c .before .before .before .before .before .before .before .before .before .before .args .e) _
       (c .before .before .before .before .before .before .tref-href .ensures .0) _
       (c .before .before .before .before .before .linked .ensures .0) _ (c .before .before .before .l .given .1) _
       (c .before .has-tag-name .ensures) (c .if1 .left),
@@ -38,7 +38,7 @@ returns-2 c = (
 
 returns-3 : tie.Need-returns-3
 returns-3 c = (
-  quotes-nothing _ _ (c .before .before .before .before .before .before .args .e) _
+  quotes-nothing _ _ (c .before .before .before .before .before .before .before .args .e) _
       (c .before .before .before .tref-href .ensures .0) _ (c .before .before .linked .ensures .0) (c .enum-told .given .1),
   tt,
 )

@@ -19,7 +19,7 @@ has-tag-name-requires c κs = search needs
 
 returns : tie.Need-returns
 returns c = (
-  no-tag _ _ (c .before .before .before .before .before .before .before .before .before .args .e) _ _
+  no-tag _ _ (c .before .before .before .before .before .before .before .before .before .before .args .e) _ _
       (c .before .before .before .before .before .before .use-href .ensures .0) _
       (c .before .before .before .before .before .linked .ensures .0) _ (c .before .before .before .node .given .1) _
       (c .before .has-tag-name .ensures) (not-true _ (c .if1 .taken)),
@@ -36,14 +36,14 @@ add-if2 : tie.Need-add-if2
 add-if2 c =
     omega (
       arith,
-      c .before .before .before .before .before .before .before .before .before .before .before .pre .own .number,
-      c .before .before .before .before .before .before .before .before .before .before .before .pre .own .at,
-      c .before .before .before .before .before .before .before .before .before .before .before .pre .own .size,
+      c .before .before .before .before .before .before .before .before .before .before .before .before .pre .0 .own .number,
+      c .before .before .before .before .before .before .before .before .before .before .before .before .pre .0 .own .at,
+      c .before .before .before .before .before .before .before .before .before .before .before .before .pre .0 .own .size,
     )
 
 returns-2 : tie.Need-returns-2
 returns-2 c = (
-  itself _ _ (c .before .before .before .before .before .before .before .before .before .before .before .before .args .e) _ _
+  itself _ _ (c .before .before .before .before .before .before .before .before .before .before .before .before .before .args .e) _ _
       (c .before .before .before .before .before .before .before .before .before .use-href .ensures .0) _
       (c .before .before .before .before .before .before .before .before .linked .ensures .0) _
       (c .before .before .before .before .before .before .node .given .1) _
@@ -54,7 +54,7 @@ returns-2 c = (
 returns-3 : tie.Need-returns-3
 returns-3 c = (
   its-origin _ _
-      (c .before .before .before .before .before .before .before .before .before .before .before .before .before .args .e) _ _
+      (c .before .before .before .before .before .before .before .before .before .before .before .before .before .before .args .e) _ _
       (c .before .before .before .before .before .before .before .before .before .before .use-href .ensures .0) _
       (c .before .before .before .before .before .before .before .before .before .linked .ensures .0) _
       (c .before .before .before .before .before .before .before .node .given .1) _
@@ -67,13 +67,16 @@ leads-back-requires : tie.Need-leads-back-requires
 leads-back-requires c κs =
     let stands = node-stands _ _ _ (c .before .before .before .before .before .before .before .node .given .1)
     (c .before .before .before .before .before .before .before .before .before .linked .ensures .1) in (
-      c .before .before .before .before .before .before .before .before .before .before .before .before .before .pre,
+      c .before .before .before .before .before .before .before .before .before .before .before .before .before .before .pre .0,
       (
         stands,
         (
           c .before .before .before .before .before .before .before .before .before .before .use-href .ensures .1,
-          node-led _ _ _ _ _ (c .before .before .before .before .before .before .before .node .given .1)
-              (c .before .before .before .before .before .before .before .before .before .linked .ensures .0),
+          (
+            node-led _ _ _ _ _ (c .before .before .before .before .before .before .before .node .given .1)
+                (c .before .before .before .before .before .before .before .before .before .linked .ensures .0),
+            c .before .before .before .before .before .before .before .before .before .before .before .before .before .before .pre .1,
+          ),
         ),
       ),
     )
@@ -81,7 +84,7 @@ leads-back-requires c κs =
 returns-4 : tie.Need-returns-4
 returns-4 c = (
   leads-itself _ _ (c .before .before .before .before .before .before .before .before .before .before .before .before .before
-      .before .before .args .e) _ _
+      .before .before .before .args .e) _ _
       (c .before .before .before .before .before .before .before .before .before .before .before .before .use-href .ensures .0) _
       (c .before .before .before .before .before .before .before .before .before .before .before .linked .ensures .0) _
       (c .before .before .before .before .before .before .before .before .before .node .given .1) _
@@ -99,7 +102,7 @@ returns-5 c =
     let stands = node-stands _ _ _ (c .before .before .before .before .before .before .before .before .before .node .given .1)
     (c .before .before .before .before .before .before .before .before .before .before .before .linked .ensures .1) in (
       copies _ _ (c .before .before .before .before .before .before .before .before .before .before .before .before .before .before
-          .before .args .e) _ _
+          .before .before .args .e) _ _
           (c .before .before .before .before .before .before .before .before .before .before .before .before .use-href .ensures .0) _
           (c .before .before .before .before .before .before .before .before .before .before .before .linked .ensures .0) _
           (c .before .before .before .before .before .before .before .before .before .node .given .1) _
@@ -111,7 +114,7 @@ returns-5 c =
 
 returns-6 : tie.Need-returns-6
 returns-6 c = (
-  copies-nothing _ _ (c .before .before .before .before .before .before .args .e) _ _
+  copies-nothing _ _ (c .before .before .before .before .before .before .before .args .e) _ _
       (c .before .before .before .use-href .ensures .0) _ (c .before .before .linked .ensures .0) (c .enum-told .given .1),
   tt,
 )

@@ -8,7 +8,7 @@ use Rattle.parse.proofs.begin.begin_node.Statement.{statement}
 use Rattle.parse.proofs.begin.begin_node.Tie as tie
 
 returns : tie.Need-returns
-returns c = begun-deep _ _ _ _ _ _ _ _ _ _ (c .before .before .before .before .before .before .before .pre) (c .if1 .taken)
+returns c = begun-deep _ _ _ _ _ _ _ _ _ _ (c .before .before .before .before .before .before .before .before .pre .0) (c .if1 .taken)
 
 is-parsed-requires : tie.Need-is-parsed-requires
 is-parsed-requires c κs = search needs
@@ -18,8 +18,8 @@ past-element-requires c κs = search needs
 
 returns-2 : tie.Need-returns-2
 returns-2 c =
-    let at-args = c .before .before .before .before .before .before .before .before .before .before in
-    begun-skipped _ _ _ _ _ _ (at-args .args .left) _ _ _ (at-args .pre) (omega (arith, c .before .before .before .if1 .left))
+    let at-args = c .before .before .before .before .before .before .before .before .before .before .before in
+    begun-skipped _ _ _ _ _ _ (at-args .args .left) _ _ _ (at-args .pre .0) (omega (arith, c .before .before .before .if1 .left))
     (fails (c .before .before .is-parsed .ensures) (c .before .if2 .taken)) _ (c .past-element .ensures .0)
     (c .past-element .ensures .1 .0) (c .past-element .ensures .1 .1)
 
@@ -29,11 +29,14 @@ code-of-requires c κs = search needs
 begin-text-requires : tie.Need-begin-text-requires
 begin-text-requires c κs =
     let at-is-parsed = c .before .before .before .before .before .before in (
-      at-is-parsed .before .before .before .before .before .before .before .before .pre,
+      at-is-parsed .before .before .before .before .before .before .before .before .before .pre .0,
       (
-        omega (arith, at-is-parsed .before .if1 .left),
-        passes (at-is-parsed .is-parsed .ensures) (c .before .before .before .before .before .if2 .left),
-        eq-eqb _ _ (sym (c .before .before .before .before .code-of .ensures) ∙ c .before .before .before .if3 .taken),
+        (
+          omega (arith, at-is-parsed .before .if1 .left),
+          passes (at-is-parsed .is-parsed .ensures) (c .before .before .before .before .before .if2 .left),
+          eq-eqb _ _ (sym (c .before .before .before .before .code-of .ensures) ∙ c .before .before .before .if3 .taken),
+        ),
+        at-is-parsed .before .before .before .before .before .before .before .before .before .pre .1,
       ),
     )
 
@@ -52,7 +55,7 @@ returns-3 c = search needs
 begin-element-requires : tie.Need-begin-element-requires
 begin-element-requires c κs =
     let at-is-parsed = c .before .before .before .before .before .before in (
-      at-is-parsed .before .before .before .before .before .before .before .before .pre,
+      at-is-parsed .before .before .before .before .before .before .before .before .before .pre .0,
       (
         omega (arith, at-is-parsed .before .if1 .left),
         passes (at-is-parsed .is-parsed .ensures) (c .before .before .before .before .before .if2 .left),

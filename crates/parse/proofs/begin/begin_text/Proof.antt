@@ -24,8 +24,8 @@ same-length-3 c = search needs
 returns : tie.Need-returns
 returns c =
     let at-parse-svg-text-element = c .before .before .before .before .before .before .before .before .before in
-    let pre = at-parse-svg-text-element .before .before .before .before .before .before .before .before .before .pre in
-    text-refused _ _ _ _ _ _ _ _ _ _ (pre .0) (pre .1) _ _ _ _ (at-parse-svg-text-element .parse-svg-text-element .ensures .0)
+    let pre = at-parse-svg-text-element .before .before .before .before .before .before .before .before .before .before .pre in
+    text-refused _ _ _ _ _ _ _ _ _ _ (pre .0) (pre .1 .0) _ _ _ _ (at-parse-svg-text-element .parse-svg-text-element .ensures .0)
     (at-parse-svg-text-element .parse-svg-text-element .ensures .1) _ (c .before .k .given .1)
 
 same-length-4 : tie.Need-same-length-4
@@ -40,8 +40,8 @@ same-length-6 c = search needs
 returns-2 : tie.Need-returns-2
 returns-2 c =
     let at-parse-svg-text-element = c .before .before .before .before .before .before .before .before .before in
-    let pre = at-parse-svg-text-element .before .before .before .before .before .before .before .before .before .pre in
-    text-done _ _ _ _ _ _ _ _ _ _ (pre .0) (pre .1) _ _ _ _ (at-parse-svg-text-element .parse-svg-text-element .ensures .0)
+    let pre = at-parse-svg-text-element .before .before .before .before .before .before .before .before .before .before .pre in
+    text-done _ _ _ _ _ _ _ _ _ _ (pre .0) (pre .1 .0) _ _ _ _ (at-parse-svg-text-element .parse-svg-text-element .ensures .0)
     (at-parse-svg-text-element .parse-svg-text-element .ensures .1) _ _ (c .before .taken .given .1)
 
 pub begin-text-spec : {M : Type 1} → statement M

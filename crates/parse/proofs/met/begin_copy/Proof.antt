@@ -9,46 +9,36 @@ use Rattle.parse.proofs.state.stand.Reads as stand-reads
 use Rattle.parse.proofs.state.stand_aside.Reads as stand-aside-reads
 use Rattle.walk.proofs.node.past_element.Reads as past-element-reads
 
--- src/met.rt:56:45
 element-copy-out-use-target : tie.Need-element-copy-out-use-target
 element-copy-out-use-target c = search needs
 
--- src/met.rt:56:11
 use-target-requires : tie.Need-use-target-requires
 use-target-requires c κs = search needs
 
--- src/met.rt:57:26
 enum-known-l : tie.Need-enum-known-l
 enum-known-l c = search needs
 
--- src/met.rt:59:26
 add-number : tie.Need-add-number
 add-number c = search needs
 
--- src/met.rt:60:13
 stand-aside-requires : tie.Need-stand-aside-requires
 stand-aside-requires c κs = search needs
 
--- src/met.rt:64:17
 enum-told : tie.Need-enum-told
 enum-told c = search needs
 
--- src/met.rt:64:17
 past-element-requires : tie.Need-past-element-requires
 past-element-requires c κs = search needs
 
--- src/met.rt:65:13
 stand-requires : tie.Need-stand-requires
 stand-requires c κs = search needs
 
--- src/met.rt:44:1
 returns : tie.Need-returns
 returns c =
     copy-found _ _ _ _ _ _ (c .before .before .before .before .before .before .before .use-target .ensures .0)
     (c .before .before .before .before .before .before .before .use-target .ensures .1) _
     (c .before .before .before .before .before .l .given .1) _ (c .stand-aside .ensures)
 
--- src/met.rt:44:1
 returns-2 : tie.Need-returns-2
 returns-2 c =
     copy-none _ _ _ _ _ _ (c .before .before .before .before .before .use-target .ensures .0)

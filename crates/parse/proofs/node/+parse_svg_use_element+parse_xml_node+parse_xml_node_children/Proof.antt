@@ -34,61 +34,61 @@ use Rattle.parse.proofs.node.+parse_svg_use_element+parse_xml_node+pars
   close,
 }
 
-abbrev μ-parse-svg-use-element : Measures 7 parse-svg-use-element-kinds.ps ℕ
+abbrev μ-parse-svg-use-element : Measures 8 parse-svg-use-element-kinds.ps ℕ
 μ-parse-svg-use-element κs a = 3 * a .1 .1 .0
 
-abbrev μ-parse-xml-node : Measures 7 parse-xml-node-kinds.ps ℕ
+abbrev μ-parse-xml-node : Measures 8 parse-xml-node-kinds.ps ℕ
 μ-parse-xml-node κs a = 3 * a .1 .1 .1 .0 + 1
 
-abbrev μ-parse-xml-node-children : Measures 7 parse-xml-node-children-kinds.ps ℕ
+abbrev μ-parse-xml-node-children : Measures 8 parse-xml-node-children-kinds.ps ℕ
 μ-parse-xml-node-children κs a = 3 * a .1 .1 .0 + 2
 
-abbrev parse-svg-use-element-at : ℕ → In 7 parse-svg-use-element-kinds.ps
+abbrev parse-svg-use-element-at : ℕ → In 8 parse-svg-use-element-kinds.ps
 parse-svg-use-element-at t =
     and
-    7
+    8
     parse-svg-use-element-kinds.ps
-    (is 7 parse-svg-use-element-kinds.ps μ-parse-svg-use-element t)
+    (is 8 parse-svg-use-element-kinds.ps μ-parse-svg-use-element t)
     parse-svg-use-element.Pre
 
-abbrev parse-svg-use-element-below : ℕ → In 7 parse-svg-use-element-kinds.ps
+abbrev parse-svg-use-element-below : ℕ → In 8 parse-svg-use-element-kinds.ps
 parse-svg-use-element-below t =
     and
-    7
+    8
     parse-svg-use-element-kinds.ps
-    (falls 7 parse-svg-use-element-kinds.ps _<_ μ-parse-svg-use-element t)
+    (falls 8 parse-svg-use-element-kinds.ps _<_ μ-parse-svg-use-element t)
     parse-svg-use-element.Pre
 
-abbrev parse-xml-node-at : ℕ → In 7 parse-xml-node-kinds.ps
+abbrev parse-xml-node-at : ℕ → In 8 parse-xml-node-kinds.ps
 parse-xml-node-at t =
     and
-    7
+    8
     parse-xml-node-kinds.ps
-    (is 7 parse-xml-node-kinds.ps μ-parse-xml-node t)
+    (is 8 parse-xml-node-kinds.ps μ-parse-xml-node t)
     parse-xml-node.Pre
 
-abbrev parse-xml-node-below : ℕ → In 7 parse-xml-node-kinds.ps
+abbrev parse-xml-node-below : ℕ → In 8 parse-xml-node-kinds.ps
 parse-xml-node-below t =
     and
-    7
+    8
     parse-xml-node-kinds.ps
-    (falls 7 parse-xml-node-kinds.ps _<_ μ-parse-xml-node t)
+    (falls 8 parse-xml-node-kinds.ps _<_ μ-parse-xml-node t)
     parse-xml-node.Pre
 
-abbrev parse-xml-node-children-at : ℕ → In 7 parse-xml-node-children-kinds.ps
+abbrev parse-xml-node-children-at : ℕ → In 8 parse-xml-node-children-kinds.ps
 parse-xml-node-children-at t =
     and
-    7
+    8
     parse-xml-node-children-kinds.ps
-    (is 7 parse-xml-node-children-kinds.ps μ-parse-xml-node-children t)
+    (is 8 parse-xml-node-children-kinds.ps μ-parse-xml-node-children t)
     parse-xml-node-children.Pre
 
-abbrev parse-xml-node-children-below : ℕ → In 7 parse-xml-node-children-kinds.ps
+abbrev parse-xml-node-children-below : ℕ → In 8 parse-xml-node-children-kinds.ps
 parse-xml-node-children-below t =
     and
-    7
+    8
     parse-xml-node-children-kinds.ps
-    (falls 7 parse-xml-node-children-kinds.ps _<_ μ-parse-xml-node-children t)
+    (falls 8 parse-xml-node-children-kinds.ps _<_ μ-parse-xml-node-children t)
     parse-xml-node-children.Pre
 
 parse-svg-use-element-aside-requires : (t : ℕ) → parse-svg-use-element-lts.Need-aside-requires (
@@ -190,7 +190,7 @@ parse-svg-use-element-copy-by-requires : (t : ℕ) → parse-svg-use-element-lts
   pass-over-reads.Learnt,
 ) (parse-svg-use-element-at t) parse-svg-use-element.Post
 parse-svg-use-element-copy-by-requires t c κs =
-    c .before .before .before .before .before .before .before .before .before .before .before .before .pre .1 .long
+    c .before .before .before .before .before .before .before .before .before .before .before .before .before .pre .1 .0 .long
 
 parse-svg-use-element-meet-requires : (t : ℕ) → parse-svg-use-element-lts.Need-meet-requires (
   aside-reads.Asked,
@@ -208,9 +208,11 @@ parse-svg-use-element-meet-requires : (t : ℕ) → parse-svg-use-element-lts.Ne
 ) (parse-svg-use-element-at t) parse-svg-use-element.Post
 parse-svg-use-element-meet-requires t c κs =
     let at-copy-by = c .before .before .before .before .before in
-    let pre = at-copy-by .before .before .before .before .before .before .before .before .before .before .before .before .before
-    .pre .1 in
-    (copy-under _ _ _ _ _ _ _ pre _ (at-copy-by .copy-by .ensures), (at-copy-by .copy-by .ensures .long, pre .wide))
+    let pre = at-copy-by .before .before .before .before .before .before .before .before .before .before .before .before .before .before
+    .pre .1 in (
+      copy-under _ _ _ _ _ _ _ (pre .0) _ (at-copy-by .copy-by .ensures),
+      ((at-copy-by .copy-by .ensures .long, pre .0 .wide), pre .1),
+    )
 
 parse-svg-use-element-parse-xml-node-requires :
     (t : ℕ) → parse-svg-use-element-lts.Need-parse-xml-node-requires (
@@ -231,11 +233,14 @@ parse-svg-use-element-parse-xml-node-requires t c κs =
     let at-meet = c .before .before .before .before .before .before .before .before .before .before .before in
     let at-copy-by = at-meet .before .before .before .before .before .before in
     let two-less-ensures = at-copy-by .before .before .before .two-less .ensures in
-    let pre = at-copy-by .before .before .before .before .before .before .before .before .before .before .before .before .before
+    let pre = at-copy-by .before .before .before .before .before .before .before .before .before .before .before .before .before .before
     .pre in (
-      omega (arith, pre .0, two-less-ensures, pre .1 .above),
-      copy-rest _ _ _ _ _ _ _ (pre .1) _ (at-copy-by .copy-by .ensures) _ two-less-ensures _ _ _ (at-meet .meet .result)
-          (at-meet .meet .ensures),
+      omega (arith, pre .0, two-less-ensures, pre .1 .0 .above),
+      (
+        copy-rest _ _ _ _ _ _ _ (pre .1 .0) _ (at-copy-by .copy-by .ensures) _ two-less-ensures _ _ _ (at-meet .meet .result)
+            (at-meet .meet .ensures),
+        pre .1 .1,
+      ),
     )
 
 parse-svg-use-element-same-length : (t : ℕ) → parse-svg-use-element-lts.Need-same-length (
@@ -306,7 +311,8 @@ parse-svg-use-element-returns t c =
     .before .before .before .before .before .before in
     let at-copy-by = at-meet .before .before .before .before .before .before in (
       copy-built _ _ _ _ _ _ _
-          (at-copy-by .before .before .before .before .before .before .before .before .before .before .before .before .before .pre .1) _
+          (at-copy-by .before .before .before .before .before .before .before .before .before .before .before .before .before
+          .before .pre .1 .0) _
           (at-copy-by .copy-by .ensures) _ (at-copy-by .before .before .before .two-less .ensures) _ _ _ (at-meet .meet .result)
           (at-meet .meet .ensures) _ _ _ _ (parse-xml-node-ensures .0) (parse-xml-node-ensures .1),
       λ z. absurd (c .if1 .taken z),
@@ -333,7 +339,7 @@ parse-svg-use-element-pass-over-requires t c κs =
     .before in
     let at-copy-by = at-meet .before .before .before .before .before .before in
     let at-aside = at-copy-by .before .before .before .before .before .before in
-    let pre = at-aside .before .before .before .before .before .before .before .pre .1 in (
+    let pre = at-aside .before .before .before .before .before .before .before .before .pre .1 .0 in (
       subst (Fit _) (sym (at-aside .aside .ensures)) (pre .aside .fit),
       copy-long _ _ _ _ _ _ _ pre _ (at-copy-by .copy-by .ensures) _ (at-copy-by .before .before .before .two-less .ensures) _ _ _
           (at-meet .meet .result) (at-meet .meet .ensures) _ _ _ _ (at-parse-xml-node .parse-xml-node .ensures .0)
@@ -426,7 +432,7 @@ parse-svg-use-element-returns-2 t c =
     let at-copy-by = at-meet .before .before .before .before .before .before in
     let two-less-ensures = at-copy-by .before .before .before .two-less .ensures in
     let at-aside = at-copy-by .before .before .before .before .before .before in
-    let pre = at-aside .before .before .before .before .before .before .before .pre .1 in (
+    let pre = at-aside .before .before .before .before .before .before .before .before .pre .1 .0 in (
       copy-done _ _ _ _ _ _ _ pre _ (at-copy-by .copy-by .ensures) _ two-less-ensures _ _ _ (at-meet .meet .result)
           (at-meet .meet .ensures) _ _ _ _ (at-parse-xml-node .parse-xml-node .ensures .0)
           (at-parse-xml-node .parse-xml-node .ensures .1) (c .before .before .before .before .if1 .left),
@@ -444,7 +450,7 @@ parse-xml-node-sub-parse-xml-node-children :
       parse-svg-use-element.Post,
     ) (parse-xml-node-at t) parse-xml-node.Post
 parse-xml-node-sub-parse-xml-node-children t c =
-    (rest-inside _ _ _ _ _ _ _ _ (c .before .before .before .before .before .before .before .before .pre .1)
+    (rest-inside _ _ _ _ _ _ _ _ (c .before .before .before .before .before .before .before .before .before .pre .1 .0)
     (c .before .before .if1 .taken)) .above
 
 parse-xml-node-parse-xml-node-children-requires :
@@ -455,9 +461,9 @@ parse-xml-node-parse-xml-node-children-requires :
       parse-svg-use-element.Post,
     ) (parse-xml-node-at t) parse-xml-node.Post
 parse-xml-node-parse-xml-node-children-requires t c κs =
-    let pre = c .before .before .before .before .before .before .before .before .before .before .before .pre in
-    let inside = rest-inside _ _ _ _ _ _ _ _ (pre .1) (c .before .before .before .before .before .if1 .taken) in
-    (omega (arith, pre .0, inside .above), (inside .under, (inside .long, inside .wide)))
+    let pre = c .before .before .before .before .before .before .before .before .before .before .before .before .pre in
+    let inside = rest-inside _ _ _ _ _ _ _ _ (pre .1 .0) (c .before .before .before .before .before .if1 .taken) in
+    (omega (arith, pre .0, inside .above), (inside .under, ((inside .long, inside .wide), pre .1 .1)))
 
 parse-xml-node-same-length : (t : ℕ) → parse-xml-node-lts.Need-same-length (
   parse-xml-node-children-below t,
@@ -491,7 +497,7 @@ parse-xml-node-returns : (t : ℕ) → parse-xml-node-lts.Need-returns (
 ) (parse-xml-node-at t) parse-xml-node.Post
 parse-xml-node-returns t c =
     let at-if1 = c .before .before .before .before .before .before .before .before .before .before .before .before in
-    rest-children _ _ _ _ _ _ _ _ (at-if1 .before .before .before .before .before .before .pre .1) _ _ _ _ (at-if1 .if1 .taken)
+    rest-children _ _ _ _ _ _ _ _ (at-if1 .before .before .before .before .before .before .before .pre .1 .0) _ _ _ _ (at-if1 .if1 .taken)
     (c .before .before .before .before .before .before .parse-xml-node-children .ensures)
 
 parse-xml-node-parse-svg-use-element-requires :
@@ -502,8 +508,8 @@ parse-xml-node-parse-svg-use-element-requires :
       parse-svg-use-element.Post,
     ) (parse-xml-node-at t) parse-xml-node.Post
 parse-xml-node-parse-svg-use-element-requires t c κs =
-    let pre = c .before .before .before .before .before .before .before .before .before .before .before .before .pre in
-    (omega (arith, pre .0), rest-copying _ _ _ _ _ _ _ _ (pre .1) (c .before .before .before .before .before .if2 .taken))
+    let pre = c .before .before .before .before .before .before .before .before .before .before .before .before .before .pre in
+    (omega (arith, pre .0), (rest-copying _ _ _ _ _ _ _ _ (pre .1 .0) (c .before .before .before .before .before .if2 .taken), pre .1 .1))
 
 parse-xml-node-same-length-4 : (t : ℕ) → parse-xml-node-lts.Need-same-length-4 (
   parse-xml-node-children-below t,
@@ -537,7 +543,7 @@ parse-xml-node-returns-2 : (t : ℕ) → parse-xml-node-lts.Need-returns-2 (
 ) (parse-xml-node-at t) parse-xml-node.Post
 parse-xml-node-returns-2 t c =
     let at-if2 = c .before .before .before .before .before .before .before .before .before .before .before .before in
-    rest-copied _ _ _ _ _ _ _ _ (at-if2 .before .before .before .before .before .before .before .pre .1) _ _ _ _
+    rest-copied _ _ _ _ _ _ _ _ (at-if2 .before .before .before .before .before .before .before .before .pre .1 .0) _ _ _ _
     (at-if2 .if2 .taken) (c .before .before .before .before .before .before .parse-svg-use-element .ensures)
 
 parse-xml-node-returns-3 : (t : ℕ) → parse-xml-node-lts.Need-returns-3 (
@@ -547,18 +553,19 @@ parse-xml-node-returns-3 : (t : ℕ) → parse-xml-node-lts.Need-returns-3 (
   parse-svg-use-element.Post,
 ) (parse-xml-node-at t) parse-xml-node.Post
 parse-xml-node-returns-3 t c =
-    rest-none _ _ _ _ _ _ _ _ (c .before .before .before .before .before .before .before .pre .1) (c .before .if1 .left)
+    rest-none _ _ _ _ _ _ _ _ (c .before .before .before .before .before .before .before .before .pre .1 .0) (c .before .if1 .left)
     (c .if2 .left)
 
 abbrev parse-xml-node-children-Inv-loop : parse-xml-node-children-lts.InvT-loop
-parse-xml-node-children-Inv-loop place₀ taken₀ left parent script characters nodes₀ attributes₀ text₀ place taken nodes attributes text =
+parse-xml-node-children-Inv-loop place₀ taken₀ left parent script characters nodes₀ attributes₀ text₀ slots place taken nodes
+    attributes text =
     Goes script characters left (originIn place₀) parent (placeIn place₀) (countsIn taken₀ .nodes)
     (levelBuilt script characters left (originIn place₀) parent (placeIn place₀) (treeOf nodes₀ attributes₀ text₀ (countsIn taken₀)))
     place taken (treeOf nodes attributes text (countsIn taken)) × (length nodes ≡ length nodes₀)
     × (length attributes ≡ length attributes₀) × (length text ≡ length text₀)
 
 abbrev parse-xml-node-children-μ-loop : parse-xml-node-children-lts.MeasureT-loop
-parse-xml-node-children-μ-loop place₀ taken₀ left parent script characters nodes₀ attributes₀ text₀ place taken nodes attributes text =
+parse-xml-node-children-μ-loop place₀ taken₀ left parent script characters nodes₀ attributes₀ text₀ slots place taken nodes attributes text =
     length script - placeIn place .at
 
 parse-xml-node-children-loop-holds : (t : ℕ) → parse-xml-node-children-lts.Need-loop-holds (
@@ -572,8 +579,8 @@ parse-xml-node-children-loop-holds : (t : ℕ) → parse-xml-node-children-lts.N
     parse-xml-node-children-Inv-loop
     parse-xml-node-children-μ-loop
 parse-xml-node-children-loop-holds t c = (
-  goes-none _ _ _ _ _ _ _ (c .before .before .before .before .before .pre .1 .0)
-      (c .before .before .before .before .before .pre .1 .1),
+  goes-none _ _ _ _ _ _ _ (c .before .before .before .before .before .before .pre .1 .0)
+      (c .before .before .before .before .before .before .pre .1 .1 .0),
   refl,
   refl,
   refl,
@@ -603,8 +610,9 @@ parse-xml-node-children-meet-requires : (t : ℕ) → parse-xml-node-children-lt
     parse-xml-node-children-Inv-loop
     parse-xml-node-children-μ-loop
 parse-xml-node-children-meet-requires t c κs =
-    let loop-inv = c .before .before .before .before .before .before .loop .inv .0 in
-    (loop-inv .under, (loop-inv .long, loop-inv .wide))
+    let at-loop = c .before .before .before .before .before .before in
+    let loop-inv = at-loop .loop .inv .0 in
+    (loop-inv .under, ((loop-inv .long, loop-inv .wide), at-loop .before .before .before .before .before .before .before .pre .1 .1 .1))
 
 parse-xml-node-children-same-length : (t : ℕ) → parse-xml-node-children-lts.Need-same-length (
   meet-reads.Asked,
@@ -674,9 +682,12 @@ parse-xml-node-children-parse-xml-node-requires :
 parse-xml-node-children-parse-xml-node-requires t c κs =
     let at-meet = c .before .before .before .before .before .before .before .before .before .before .before .before in
     let at-loop = at-meet .before .before .before .before .before .before .before in (
-      omega (arith, at-loop .before .before .before .before .before .before .pre .0),
-      first-rest _ _ _ _ _ _ _ _ _ _ _ (at-loop .loop .inv .0) _ _ _ _ (at-meet .meet .ensures)
-          (c .before .before .before .before .before .if1 .left),
+      omega (arith, at-loop .before .before .before .before .before .before .before .pre .0),
+      (
+        first-rest _ _ _ _ _ _ _ _ _ _ _ (at-loop .loop .inv .0) _ _ _ _ (at-meet .meet .ensures)
+            (c .before .before .before .before .before .if1 .left),
+        at-loop .before .before .before .before .before .before .before .pre .1 .1 .1,
+      ),
     )
 
 parse-xml-node-children-same-length-4 : (t : ℕ) → parse-xml-node-children-lts.Need-same-length-4 (
