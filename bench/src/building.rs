@@ -49,12 +49,13 @@ fn exact(d: &Drawing) -> Option<(Tables, usize)> {
 type Timed<'a> = &'a dyn Fn() -> Duration;
 
 /// The least time of each in microseconds. They take turns, so that what else the machine does falls on all of them; at least three
-/// rounds, and then as many as fit into a time.
+/// rounds where these take no more than five times a time, and then as many as fit into it.
 fn least<const N: usize>(calls: [Timed; N], most: Duration) -> [f64; N] {
     let start = Instant::now();
     let mut least = [f64::INFINITY; N];
     for round in 0..400 {
-        if round >= 3 && start.elapsed() > most {
+        let enough = if round < 3 { 5 * most } else { most };
+        if round > 0 && start.elapsed() > enough {
             break;
         }
         for k in 0..N {
@@ -178,6 +179,24 @@ pub fn links_table() {
     }
     for n in [1000, 2000, 4000] {
         row(&format!("{n} trefs to as many texts"), &drawings::trefs(n));
+    }
+}
+
+/// Drawings that are made to hurt, of a usual size or as large as can be.
+pub fn hurtful_table(full: bool) {
+    head(if full { "drawings made to hurt, as large as can be" } else { "drawings made to hurt" });
+    for (name, make, usual, most) in drawings::HURTFUL {
+        let n = if full { most } else { usual };
+        row(&format!("{n} {name}"), &make(n));
+    }
+}
+
+/// A line for each drawing of 16 KB or that is made to hurt, as host/examples/scripts.rs writes them: `compare files` reads such lines.
+pub fn write_lines() {
+    let hex = |bytes: &[u8]| bytes.iter().map(|b| format!("{b:02x}")).collect::<String>();
+    let hurtful = drawings::HURTFUL.map(|(name, make, usual, _)| (name, make(usual / 10)));
+    for (name, d) in drawings::large(Size(1 << 14)).into_iter().chain(hurtful) {
+        println!(r#"{{"name": "{name}", "script": "{}", "characters": "{}"}}"#, hex(&d.script), hex(&d.characters));
     }
 }
 
