@@ -396,14 +396,17 @@ fn behind(groups: usize, first: impl FnOnce(&mut Drawing)) -> Drawing {
 pub fn trefs(n: usize) -> Drawing {
     in_svg(|d| {
         (0..n).for_each(|i| named(d, TEXT, &format!("t{i}"), |d| d.text(b"12.5 kg")));
-        for i in 0..n {
-            d.open(TEXT, 1);
-            d.open(TREF, 1);
-            href(d, 2, &format!("t{i}"));
-            d.close();
-            d.close();
-        }
+        (0..n).for_each(|i| tref(d, &format!("t{i}")));
     })
+}
+
+/// A text that quotes an element.
+fn tref(d: &mut Drawing, id: &str) {
+    d.open(TEXT, 1);
+    d.open(TREF, 1);
+    href(d, 2, id);
+    d.close();
+    d.close();
 }
 
 /// So many texts below 1,900 nested tspans, every second one in a tspan of its own.
@@ -435,4 +438,110 @@ pub const HURTFUL: [Hurtful; 9] = [
     ("uses of a group of 50 links", copied_links, 400, 10_000),
     ("clip paths, to one and back to each", star, 200, 1000),
     ("texts in 1,900 nested tspans", nested_texts, 90_000, 140_000),
+];
+
+/// So many ids, and a group of uses of nothing, used as often as it has uses: 1,000 times behind 90,000 ids.
+fn searched_in_vain(n: usize) -> Drawing {
+    in_svg(|d| {
+        (0..n).for_each(|i| named(d, RECT, &format!("r{i}"), |_| ()));
+        named(d, G, "g", |d| (0..n / 90).for_each(|_| use_of(d, "none")));
+        (0..n / 90).for_each(|_| use_of(d, "g"));
+    })
+}
+
+/// A group of so many comments, and a group of uses of it that is used as often as it has uses: 700 times for 1,000,000 comments.
+fn copied_comments(n: usize) -> Drawing {
+    in_svg(|d| {
+        named(d, G, "g", |d| (0..n).for_each(|_| d.comment()));
+        named(d, G, "h", |d| (0..n / 1430).for_each(|_| use_of(d, "g")));
+        (0..n / 1430).for_each(|_| use_of(d, "h"));
+    })
+}
+
+/// So many patterns in one another, with 450 times as many things in them that are filled with another pattern, which has as many things.
+fn nested_patterns(n: usize) -> Drawing {
+    in_svg(|d| {
+        named(d, G, "g", |d| (0..450).for_each(|_| painted(d, "q")));
+        named(d, G, "h", |d| (0..450).for_each(|_| rect(d)));
+        named(d, PATTERN, "q", |d| (0..n).for_each(|_| use_of(d, "h")));
+        (0..n).for_each(|_| d.open(PATTERN, 1));
+        (0..n).for_each(|_| use_of(d, "g"));
+        (0..n).for_each(|_| d.close());
+    })
+}
+
+/// 900 groups in one another with so many attributes each, and in them so many copies of a rect with as many attributes as all of them, none
+/// of which finds what it inherits.
+fn inherited_in_vain(n: usize) -> Drawing {
+    in_svg(|d| {
+        for _ in 0..900 {
+            d.open(G, 1);
+            (0..n).for_each(|_| attributes(d, &[(X, "1")]));
+        }
+        named(d, RECT, "r", |d| (0..900 * n).for_each(|_| attributes(d, &[(Color, "inherit")])));
+        (0..n).for_each(|_| use_of(d, "r"));
+        (0..900).for_each(|_| d.close());
+    })
+}
+
+/// A text of so many comments, quoted by a text for every 40 of them.
+fn quoted_comments(n: usize) -> Drawing {
+    in_svg(|d| {
+        named(d, TEXT, "t", |d| (0..n).for_each(|_| d.comment()));
+        (0..n / 40).for_each(|_| tref(d, "t"));
+    })
+}
+
+/// A rect with so many filters, and a filter with a third as many images of it.
+fn many_filters(n: usize) -> Drawing {
+    in_svg(|d| {
+        named(d, RECT, "r", |d| {
+            link(d, Filter, 2, "none");
+            (0..n).for_each(|_| d.reading(4, 5, 4));
+        });
+        named(d, FILTER, "f", |d| {
+            for _ in 0..n / 3 {
+                d.open(FE_IMAGE, 1);
+                href(d, 0, "r");
+                d.close();
+            }
+        });
+    })
+}
+
+/// So many words of small letters that fall into one bucket of the repairs' chains of ids (crates/ids).
+fn of_one_bucket(n: usize) -> Vec<String> {
+    let word = |k: usize| (0..6).map(move |place| b'a' + (k / 26usize.pow(place) % 26) as u8);
+    let bucket = |k: &usize| word(*k).fold(0, |h, b| (h * 7735 + b as usize) % 2048) == 0;
+    (0..).filter(bucket).take(n).map(|k| word(k).map(char::from).collect()).collect()
+}
+
+/// Clip paths, in each of which something is clipped by the next one, whose ids fall into one bucket.
+fn one_bucket(n: usize) -> Drawing {
+    let ids = of_one_bucket(n + 1);
+    in_svg(|d| ids.windows(2).for_each(|id| named(d, CLIP_PATH, &id[0], |d| clipped(d, &id[1]))))
+}
+
+/// A pattern with a hundredth of so many things filled with another, in which that many copies, by turns of a first and of a last thing, are
+/// filled; between those 60 times as many comments.
+fn far_places(n: usize) -> Drawing {
+    in_svg(|d| {
+        named(d, RECT, "a", |d| link(d, Fill, 3, "none"));
+        named(d, PATTERN, "p", |d| (0..n / 100 + 1).for_each(|_| painted(d, "q")));
+        named(d, PATTERN, "q", |d| (0..n).for_each(|i| use_of(d, ["a", "b"][i % 2])));
+        (0..60 * n).for_each(|_| d.comment());
+        named(d, RECT, "b", |d| link(d, Fill, 3, "none"));
+    })
+}
+
+/// Drawings that take the longest: what they have so many of, how they are made, and how many there are in the largest that is not refused.
+pub const WORST: [(&str, fn(usize) -> Drawing, usize); 8] = [
+    ("ids before uses of nothing", searched_in_vain, 90_000),
+    ("comments, copied", copied_comments, 1_000_000),
+    ("patterns, nested, and links", nested_patterns, 1000),
+    ("attributes that inherit nothing", inherited_in_vain, 80),
+    ("comments, quoted", quoted_comments, 640_000),
+    ("filters of one thing", many_filters, 61_000),
+    ("ids of one bucket", one_bucket, 32_000),
+    ("links to both ends of a script", far_places, 12_800),
 ];

@@ -245,7 +245,7 @@ fn main() {
     if !missing.is_empty() {
         eprintln!("not linked: {}", missing.join(", "));
     }
-    let tables: [(&str, fn()); 7] = [
+    let tables: [(&str, fn()); 8] = [
         ("check", check_table),
         ("questions", questions_table),
         ("build", building::build_table),
@@ -253,6 +253,7 @@ fn main() {
         ("links", building::links_table),
         ("hurtful", || building::hurtful_table(false)),
         ("full", || building::hurtful_table(true)),
+        ("worst", building::worst_table),
     ];
     let wanted: Vec<String> = std::env::args().skip(1).collect();
     let run = move || {
