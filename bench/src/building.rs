@@ -200,6 +200,8 @@ pub fn worst_table() {
         "drawing", "script", "nodes", "build", "parse_tree", "ratio", "power", "most", "build of most"
     );
     for (name, make, most) in drawings::WORST {
+        let largest = make(most);
+        assert_eq!(host::check::check(&largest.script, &largest.characters), 0, "the largest drawing is in order");
         let (mut n, mut before) = (1, None);
         let (d, nodes, build, power) = loop {
             let d = make(n);

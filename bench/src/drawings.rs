@@ -440,7 +440,7 @@ pub const HURTFUL: [Hurtful; 9] = [
     ("texts in 1,900 nested tspans", nested_texts, 90_000, 140_000),
 ];
 
-/// So many ids, and a group of uses of nothing, used as often as it has uses: 1,000 times behind 90,000 ids.
+/// So many ids, and a group of uses of nothing, used as often as it has uses: 950 times behind 85,500 ids.
 fn searched_in_vain(n: usize) -> Drawing {
     in_svg(|d| {
         (0..n).for_each(|i| named(d, RECT, &format!("r{i}"), |_| ()));
@@ -536,7 +536,7 @@ fn far_places(n: usize) -> Drawing {
 
 /// Drawings that take the longest: what they have so many of, how they are made, and how many there are in the largest that is not refused.
 pub const WORST: [(&str, fn(usize) -> Drawing, usize); 8] = [
-    ("ids before uses of nothing", searched_in_vain, 90_000),
+    ("ids before uses of nothing", searched_in_vain, 85_500),
     ("comments, copied", copied_comments, 1_000_000),
     ("patterns, nested, and links", nested_patterns, 1000),
     ("attributes that inherit nothing", inherited_in_vain, 80),
