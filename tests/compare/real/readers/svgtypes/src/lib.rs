@@ -201,6 +201,9 @@ fn token(text: &str) -> Option<&str> {
     (!word.is_empty()).then_some(&text[..length])
 }
 
+/// The functions of a number.
+const AMOUNTS: [&str; 7] = ["brightness", "contrast", "grayscale", "invert", "opacity", "saturate", "sepia"];
+
 /// What stands behind the function that a text begins with.
 fn function(text: &str) -> Option<&str> {
     let name = longest(text, is_identifier);
@@ -215,12 +218,11 @@ fn function(text: &str) -> Option<&str> {
         ("drop-shadow", _) => is_shadow(&tokens),
         ("blur", [length]) => is_length(length),
         ("hue-rotate", [angle]) => debian::Angle::from_str(angle).is_ok(),
-        ("brightness" | "contrast" | "grayscale" | "invert" | "opacity" | "saturate" | "sepia", [amount]) => {
+        ("blur" | "hue-rotate", []) => true,
+        (name, [] | [_]) if AMOUNTS.contains(&name) => tokens.iter().all(|amount| {
             let number = amount.strip_suffix('%').unwrap_or(amount).parse::<f64>();
             number.map_or(false, |number| number.is_finite() && number >= 0.0)
-        }
-        ("blur" | "hue-rotate", []) => true,
-        ("brightness" | "contrast" | "grayscale" | "invert" | "opacity" | "saturate" | "sepia", []) => true,
+        }),
         _ => false,
     };
     fits.then(|| &behind[1..])
