@@ -49,12 +49,13 @@ fn exact(d: &Drawing) -> Option<(Tables, usize)> {
 type Timed<'a> = &'a dyn Fn() -> Duration;
 
 /// The least time of each in microseconds. They take turns, so that what else the machine does falls on all of them; at least three
-/// rounds, and then as many as fit into a time.
+/// rounds where these take no more than five times a time, and then as many as fit into it.
 fn least<const N: usize>(calls: [Timed; N], most: Duration) -> [f64; N] {
     let start = Instant::now();
     let mut least = [f64::INFINITY; N];
     for round in 0..400 {
-        if round >= 3 && start.elapsed() > most {
+        let enough = if round < 3 { 5 * most } else { most };
+        if round > 0 && start.elapsed() > enough {
             break;
         }
         for k in 0..N {
@@ -114,7 +115,7 @@ const RUST: bool = cfg!(feature = "rust");
 fn row(name: &str, d: &Drawing) {
     let ([build, check, rust, plain], nodes) = of(d, SOME).expect("a drawing to measure is built");
     println!(
-        "{:<40}{:>9}{:>8}{:>12}{:>11}{:>12}{:>12}{:>8}",
+        "{:<42}{:>8}{:>8}{:>14}{:>11}{:>14}{:>12}{:>9}",
         name,
         d.script.len(),
         nodes,
@@ -129,7 +130,7 @@ fn row(name: &str, d: &Drawing) {
 fn head(title: &str) {
     println!("{title}: microseconds for a call");
     println!(
-        "{:<40}{:>9}{:>8}{:>12}{:>11}{:>12}{:>12}{:>8}",
+        "{:<42}{:>8}{:>8}{:>14}{:>11}{:>14}{:>12}{:>9}",
         "drawing", "script", "nodes", "build", "check", "parse_tree", "plain check", "ratio"
     );
 }
@@ -178,6 +179,64 @@ pub fn links_table() {
     }
     for n in [1000, 2000, 4000] {
         row(&format!("{n} trefs to as many texts"), &drawings::trefs(n));
+    }
+}
+
+/// Drawings that are made to hurt, of a usual size or as large as can be.
+pub fn hurtful_table(full: bool) {
+    head(if full { "drawings made to hurt, as large as can be" } else { "drawings made to hurt" });
+    for (name, make, usual, most) in drawings::HURTFUL {
+        let n = if full { most } else { usual };
+        row(&format!("{n} {name}"), &make(n));
+    }
+}
+
+/// The drawings that take the longest, each grown until its build takes a second or it is as large as can be: how long, beside the Rust,
+/// by which power of its size the time grew last, and how long the largest one would take if it grew on like that.
+pub fn worst_table() {
+    println!("the longest builds, grown until one takes a second: seconds for a call");
+    println!(
+        "{:<42}{:>9}{:>9}{:>9}{:>12}{:>9}{:>7}{:>9}{:>15}",
+        "drawing", "script", "nodes", "build", "parse_tree", "ratio", "power", "most", "build of most"
+    );
+    for (name, make, most) in drawings::WORST {
+        let largest = make(most);
+        assert_eq!(host::check::check(&largest.script, &largest.characters), 0, "the largest drawing is in order");
+        let (mut n, mut before) = (1, None);
+        let (d, nodes, build, power) = loop {
+            let d = make(n);
+            let (mut tables, nodes) = exact(&d).expect("a drawing to measure is built");
+            let time = took(|| library::plain::build(&d.script, &d.characters, tables.lent())).as_secs_f64();
+            if time > 1.0 || n == most {
+                let (smaller, less) = before.unwrap_or((n, time));
+                break (d, nodes, time, (time / less).ln() / (n as f64 / smaller as f64).ln());
+            }
+            before = Some((n, time));
+            n = most.min(2 * n);
+        };
+        let rust = parsed(&d, |parse| parse().0.as_secs_f64());
+        println!(
+            "{:<42}{:>9}{:>9}{:>9}{:>12}{:>9}{:>7.1}{:>9}{:>15.0}",
+            format!("{n} {name}"),
+            d.script.len(),
+            nodes,
+            shown(build, library::BUILD),
+            shown(rust, RUST),
+            ratio(build, rust, library::BUILD && RUST),
+            power,
+            most,
+            build * (most as f64 / n as f64).powf(power)
+        );
+    }
+}
+
+/// A line for each drawing of 16 KB, that is made to hurt or takes the longest, as host/examples/scripts.rs writes them: `compare files` reads such lines.
+pub fn write_lines() {
+    let hex = |bytes: &[u8]| bytes.iter().map(|b| format!("{b:02x}")).collect::<String>();
+    let hurtful = drawings::HURTFUL.map(|(name, make, usual, _)| (name, make(usual / 10)));
+    let worst = drawings::WORST.map(|(name, make, most)| (name, make(most / 200 + 2)));
+    for (name, d) in drawings::large(Size(1 << 14)).into_iter().chain(hurtful).chain(worst) {
+        println!(r#"{{"name": "{name}", "script": "{}", "characters": "{}"}}"#, hex(&d.script), hex(&d.characters));
     }
 }
 

@@ -243,19 +243,25 @@ fn main() {
     ];
     let missing: Vec<&str> = parts.iter().filter(|p| !p.1).map(|p| p.0).collect();
     if !missing.is_empty() {
-        println!("not linked: {}", missing.join(", "));
+        eprintln!("not linked: {}", missing.join(", "));
     }
-    let tables: [(&str, fn()); 5] = [
+    let tables: [(&str, fn()); 8] = [
         ("check", check_table),
         ("questions", questions_table),
         ("build", building::build_table),
         ("exchange", building::exchange_table),
         ("links", building::links_table),
+        ("hurtful", || building::hurtful_table(false)),
+        ("full", || building::hurtful_table(true)),
+        ("worst", building::worst_table),
     ];
     let wanted: Vec<String> = std::env::args().skip(1).collect();
     let run = move || {
         if let Some(("files", files)) = wanted.split_first().map(|(w, f)| (w.as_str(), f)) {
             return files.iter().for_each(|f| building::files_table(f));
+        }
+        if wanted == ["lines"] {
+            return building::write_lines();
         }
         for (name, table) in tables {
             if wanted.is_empty() || wanted.iter().any(|w| w == name) {

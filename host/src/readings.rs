@@ -1,7 +1,8 @@
 //! What svgtypes reads a value as: the readings of document 01, section 2. Debian's svgtypes 0.5 has no types for an IRI, a FuncIRI, a
-//! list of filters and a font; they are read here, by its `Stream`, as the svgtypes of usvg 0.49.0 reads them.
+//! list of filters and a font; they are read here, by its `Stream`. In filters, fonts and the colours that Debian's does not know, CSS
+//! Syntax 3 says where a token ends, and Debian's svgtypes what a length, an angle or a colour is.
 use crate::names;
-use svgtypes::{Color, LengthUnit, Stream};
+use svgtypes::{Angle, Color, Length, LengthUnit, Stream};
 
 /// The kind of a reading: its code in the script.
 #[derive(Clone, Copy, Debug, PartialEq, Eq)]
@@ -112,9 +113,69 @@ fn paint(value: &str) -> Option<&str> {
     is_paint.then_some(link)
 }
 
+/// Whether a name of CSS may go on with this byte (Syntax 3, section 4.2). A backslash begins an escape, which nothing known here has.
+fn is_name(c: u8) -> bool {
+    c.is_ascii_alphanumeric() || matches!(c, b'-' | b'_' | b'\\') || !c.is_ascii()
+}
+
+/// The identifier that a text begins with (Syntax 3, sections 4.3.9 and 4.3.11); empty if none does.
+fn identifier(text: &str) -> &str {
+    let first = text.strip_prefix('-').unwrap_or(text).bytes().next();
+    let begins = first.map_or(false, |c| is_name(c) && !c.is_ascii_digit());
+    let end = text.bytes().position(|c| !is_name(c)).unwrap_or(text.len());
+    if begins {
+        &text[..end]
+    } else {
+        ""
+    }
+}
+
+/// One token: a number with its unit.
+struct Numeric<'a> {
+    token: &'a str,
+    unit: &'a str,
+}
+
+/// The number that stands here (Syntax 3, sections 4.3.3 and 4.3.12). Its unit is `%`, or the whole identifier behind the number.
+fn numeric<'a>(s: &mut Stream<'a>) -> Option<Numeric<'a>> {
+    let text = s.slice_tail();
+    let at = |k: usize| text.as_bytes().get(k).copied().unwrap_or(0);
+    let is_sign = |k: usize| matches!(at(k), b'+' | b'-');
+    let behind_digits = |from: usize| (from..).find(|k| !at(*k).is_ascii_digit()).unwrap_or(from);
+    let start = is_sign(0) as usize;
+    let mut end = behind_digits(start);
+    if at(end) == b'.' && at(end + 1).is_ascii_digit() {
+        end = behind_digits(end + 1);
+    }
+    if end == start {
+        return None;
+    }
+    let exponent = end + 1 + is_sign(end + 1) as usize;
+    if matches!(at(end), b'e' | b'E') && at(exponent).is_ascii_digit() {
+        end = behind_digits(exponent);
+    }
+    let unit = if at(end) == b'%' { "%" } else { identifier(&text[end..]) };
+    s.advance(end + unit.len());
+    Some(Numeric { token: &text[..end + unit.len()], unit })
+}
+
+/// A number that svgtypes takes for a length.
+fn length(s: &mut Stream) -> Option<Length> {
+    numeric(s)?.token.parse().ok()
+}
+
+/// Skips spaces and comments.
+fn skip_blank(s: &mut Stream) {
+    s.skip_spaces();
+    while s.starts_with(b"/*") {
+        let text = s.slice_tail();
+        s.advance(text[2..].find("*/").map_or(text.len(), |end| end + 4));
+        s.skip_spaces();
+    }
+}
+
 /// Whether this is a colour: one of Debian's svgtypes, or one of the forms that came later.
 fn is_color(value: &str) -> bool {
-    let value = value.trim();
     if value.parse::<Color>().is_ok() || value.eq_ignore_ascii_case("transparent") {
         return true;
     }
@@ -137,14 +198,11 @@ fn color_function(value: &str) -> Option<()> {
         if s.at_end() {
             return matches!(count, 3 | 4).then_some(());
         }
-        s.parse_number().ok()?;
-        if s.is_curr_byte_eq(b'%') {
-            s.advance(1);
-        } else {
-            let unit = s.consume_bytes(|_, c| c.is_ascii_alphabetic());
-            if !matches!(unit, "" | "deg" | "grad" | "rad" | "turn") {
-                return None;
-            }
+        let Numeric { token, unit } = numeric(&mut s)?;
+        let is_known = ["", "%", "deg", "grad", "rad", "turn"].iter().any(|known| known.eq_ignore_ascii_case(unit));
+        let number: f64 = token[..token.len() - unit.len()].parse().ok()?;
+        if !is_known || !number.is_finite() {
+            return None;
         }
         count += 1;
     }
@@ -162,14 +220,13 @@ fn filter_urls(value: &str) -> Vec<&str> {
 
 /// The next function of a list of filters, with the link if it is a `url()`. None at the end of the list, and where there is no function.
 fn filter_function<'a>(s: &mut Stream<'a>) -> Option<Option<&'a str>> {
-    s.skip_spaces();
+    skip_blank(s);
     if s.starts_with(b"url(") {
         return parse_func_iri(s).map(Some);
     }
     let name = ascii_ident(s);
-    s.skip_spaces();
     s.consume_byte(b'(').ok()?;
-    s.skip_spaces();
+    skip_blank(s);
     if name == "drop-shadow" {
         drop_shadow(s)?;
     } else if s.is_curr_byte_eq(b')') {
@@ -177,7 +234,7 @@ fn filter_function<'a>(s: &mut Stream<'a>) -> Option<Option<&'a str>> {
     } else {
         filter_amount(name, s)?;
     }
-    s.skip_spaces();
+    skip_blank(s);
     s.consume_byte(b')').ok()?;
     Some(None)
 }
@@ -191,49 +248,47 @@ fn known_function(name: &str) -> Option<()> {
 /// The amount of a function: a length without percent, an angle, or a number that is not negative, with percent or without.
 fn filter_amount(name: &str, s: &mut Stream) -> Option<()> {
     known_function(name)?;
-    match name {
-        "blur" => (s.parse_length().ok()?.unit != LengthUnit::Percent).then_some(()),
-        "hue-rotate" => s.parse_angle().ok().map(|_| ()),
+    let is_amount = match name {
+        "blur" => length(s)?.unit != LengthUnit::Percent,
+        "hue-rotate" => numeric(s)?.token.parse::<Angle>().is_ok(),
         _ => {
-            let amount = s.parse_number().ok()?;
-            if s.is_curr_byte_eq(b'%') {
-                s.advance(1);
-            }
-            (amount >= 0.0).then_some(())
+            let amount = length(s)?;
+            matches!(amount.unit, LengthUnit::None | LengthUnit::Percent) && amount.num >= 0.0
         }
-    }
+    };
+    is_amount.then_some(())
 }
 
 /// What stands within `drop-shadow()`: two or three lengths, and a colour before or behind them, or none.
 fn drop_shadow(s: &mut Stream) -> Option<()> {
+    let before = color_part(s);
+    skip_blank(s);
     let mut lengths = 0;
-    let mut has_color = false;
-    loop {
-        s.skip_spaces();
-        match s.get_curr_byte()? {
-            b')' => return matches!(lengths, 2 | 3).then_some(()),
-            b'0'..=b'9' | b'+' | b'-' | b'.' => {
-                if s.parse_length().ok()?.unit == LengthUnit::Percent {
-                    return None;
-                }
-                lengths += 1;
-            }
-            _ => {
-                let color = color_part(s);
-                if has_color || !(color == "currentColor" || is_color(color)) {
-                    return None;
-                }
-                has_color = true;
-            }
+    while let Some(Numeric { token, .. }) = numeric(s) {
+        if token.parse::<Length>().ok()?.unit == LengthUnit::Percent {
+            return None;
         }
+        lengths += 1;
+        skip_blank(s);
     }
+    let is_fitting = match (before, color_part(s)) {
+        ("", "") => true,
+        ("", color) | (color, "") => color == "currentColor" || is_color(color),
+        _ => false,
+    };
+    (is_fitting && matches!(lengths, 2 | 3)).then_some(())
 }
 
-/// What may be a colour: a word, or a function with all within its brackets.
+/// What may be a colour: a word, a `#` with what belongs to it, or a function up to its bracket. Empty if there is none of these.
 fn color_part<'a>(s: &mut Stream<'a>) -> &'a str {
     let start = s.pos();
-    s.skip_bytes(|_, c| !matches!(c, b' ' | b'\t' | b'\n' | b'\r' | b'(' | b')'));
-    if s.is_curr_byte_eq(b'(') {
+    if s.is_curr_byte_eq(b'#') {
+        s.advance(1);
+        s.skip_bytes(|_, c| is_name(c));
+        return s.slice_back(start);
+    }
+    s.advance(identifier(s.slice_tail()).len());
+    if s.pos() > start && s.is_curr_byte_eq(b'(') {
         s.skip_bytes(|_, c| c != b')');
         if !s.at_end() {
             s.advance(1);
@@ -250,11 +305,11 @@ fn ascii_ident<'a>(s: &mut Stream<'a>) -> &'a str {
 /// The parts of svgtypes' FontShorthand, if the value is one.
 fn font(value: &str) -> Option<Vec<(Kind, &str)>> {
     let mut s = Stream::from(value);
-    s.skip_spaces();
+    skip_blank(&mut s);
     let mut parts = [None; 6];
     for _ in 0..4 {
         let start = s.pos();
-        let word = ascii_ident(&mut s);
+        let word = numeric(&mut s).map_or_else(|| ascii_ident(&mut s), |number| number.token);
         match font_word(word) {
             Some(Some(kind)) => parts[kind as usize - Kind::FontStretch as usize] = Some((kind, word)),
             Some(None) => {}
@@ -264,16 +319,16 @@ fn font(value: &str) -> Option<Vec<(Kind, &str)>> {
                 break;
             }
         }
-        s.skip_spaces();
+        skip_blank(&mut s);
     }
     parts[4] = Some((Kind::FontSize, font_size(&mut s)?));
-    s.skip_spaces();
+    skip_blank(&mut s);
     if s.curr_byte().ok()? == b'/' {
         // The height of lines, which SVG does not use.
         s.advance(1);
-        s.skip_spaces();
-        s.parse_length().ok()?;
-        s.skip_spaces();
+        skip_blank(&mut s);
+        length(&mut s)?;
+        skip_blank(&mut s);
     }
     if s.at_end() {
         return None;
@@ -301,7 +356,7 @@ fn font_word(word: &str) -> Option<Option<Kind>> {
 fn font_size<'a>(s: &mut Stream<'a>) -> Option<&'a str> {
     let start = s.pos();
     if s.curr_byte().ok()?.is_ascii_digit() {
-        s.parse_length().ok()?;
+        length(s)?;
         return Some(s.slice_back(start));
     }
     let word = ascii_ident(s);
@@ -327,6 +382,8 @@ mod tests {
             ["url(#a)", " url(#a) none ", "url(#a) red", "url(#a)#fff8", "url(#a) rgba(1, 2, 3, .5)", "url(#a) hsl(120 50% 50%)"];
         assert_eq!(read.map(paint), [Some("a"); 6]);
         assert_eq!(["none", "red", "url(#a) unknown", "url(#a) rgb(1)", "url(#a) rgb (1, 2, 3)"].map(paint), [None; 5]);
+        // Debian's svgtypes reads on behind a unit; the forms that it does not know are read by tokens.
+        assert_eq!(["url(#a) rgb(1px2,3)", "url(#a) rgba(1px2,3,4)"].map(paint), [Some("a"), None]);
     }
 
     #[test]
@@ -336,6 +393,24 @@ mod tests {
         assert_eq!(filter_urls("url(#a) unknown(1) url(#b)"), ["a"]);
         assert_eq!(filter_urls("url(#a) blur(1%) url(#b)"), ["a"]);
         assert_eq!(filter_urls("none"), Vec::<&str>::new());
+    }
+
+    #[test]
+    fn a_unit_is_the_whole_identifier() {
+        let is_read = |inside: &str| filter_urls(&format!("drop-shadow({inside}) url(#a)")) == ["a"];
+        assert!(["2px+2px", "2px.5px", "2px/* a */2px", "1-2", "-1--2"].map(is_read) == [true, true, true, true, false]);
+        assert!(!["2px2px", "2px-2px", "2px--2px", "2px_ 2px", "2px\u{e9} 2px", "2 px 2px", "1. 2"]
+            .iter()
+            .any(|inside| is_read(inside)));
+        assert!(["1px 2px#fff", "red+1px 2px", "rgb(1, 2, 3)1px 2px", "1 2 hsl(3deg 4%5%)"].iter().all(|inside| is_read(inside)));
+        assert!(!["1px 2pxred", "red1px 2px", "1px red 2px", "red 1 2 red", "1 2 hsl(3deg4% 5%)"]
+            .iter()
+            .any(|inside| is_read(inside)));
+        let is_read = |function: &str| filter_urls(&format!("{function}/**/url(#a)")) == ["a"];
+        assert!(["blur(1e1px)", "blur( /* a */ 2px )", "hue-rotate(+.5rad)", "sepia(5%)", "sepia()"].iter().all(|f| is_read(f)));
+        assert!(!["blur(1.px)", "blur(2pxx)", "blur (2px)", "hue-rotate(1degrad)", "sepia(1e)", "sepia(1e999)"]
+            .iter()
+            .any(|f| is_read(f)));
     }
 
     #[test]
@@ -353,7 +428,9 @@ mod tests {
         ];
         assert_eq!(font(all), Some(parts));
         assert_eq!(font("normal x-large serif"), Some(vec![(FontSize, "x-large"), (FontFamily, "serif")]));
+        assert_eq!(font("100.5px/* a */serif"), Some(vec![(FontSize, "100.5px"), (FontFamily, "serif")]));
         assert_eq!(["inherit", "12px", "12px/2", "bold", "", "5 "].map(font), [None, None, None, None, None, None]);
+        assert_eq!(["12pxserif", "12px-serif", "12px/2serif", "12serif"].map(font), [None, None, None, None]);
     }
 
     #[test]

@@ -120,32 +120,37 @@ const WHOLE: [&str; 40] = [
 ];
 
 /// Values of fill, each with a link LINK that leads back to the pattern that it stands in. It is cut if the value is read as a link.
-const PAINTS: [&str; 30] = [
+const PAINTS: [&str; 34] = [
     "url(#LINK)", " url(#LINK) ", "url( #LINK )", "url('#LINK')", "url( ' #LINK ' )", "url(\"#LINK\")", "url('#LINK)",
     "url(#LINK')", "url(#LINK", "URL(#LINK)", "url (#LINK)", "url(LINK)", "url(a#LINK)", "#LINK", "url(#LINK) none",
     "url(#LINK)none", "url(#LINK) currentColor", "url(#LINK) red", "url(#LINK) Red", "url(#LINK) nothing", "url(#LINK) #123",
     "url(#LINK) #12345678", "url(#LINK) #12", "url(#LINK) rgb(1, 2, 3)", "url(#LINK) rgba(1 2 3 / 50%)",
     "url(#LINK) hsl(120deg, 5%, 5%)", "url(#LINK) rgb(1)", "url(#LINK) inherit", "url(#LINK) url(#LINK)",
-    "url(#LINK) transparent",
+    "url(#LINK) transparent", "url(#LINK) hsl(1 2%3%)", "url(#LINK) hsl(1deg2% 3% 4%)", "url(#LINK) hsl(1DEG 2% 3%)",
+    "url(#LINK)&#160;red",
 ];
 
 /// Values of filter, each on an element that a feImage within the filter LINK leads to.
-const FILTERS: [&str; 26] = [
+const FILTERS: [&str; 42] = [
     "url(#LINK)", "url(#a) url(#LINK)", "url('#LINK')", "blur() url(#LINK)", "blur(2px)url(#LINK)", "blur(2%) url(#LINK)",
     "sepia(1) url(#LINK)", "sepia(50%) url(#LINK)", "sepia(-1) url(#LINK)", "sepia(a) url(#LINK)",
     "hue-rotate(90deg) url(#LINK)", "hue-rotate(1turn2) url(#LINK)", "drop-shadow(1 2) url(#LINK)",
     "drop-shadow(1 2 3 red) url(#LINK)", "drop-shadow(red 1 2) url(#LINK)", "drop-shadow(rgb(1, 2, 3) 1 2) url(#LINK)",
     "drop-shadow(1) url(#LINK)", "drop-shadow(1 2 3 4) url(#LINK)", "drop-shadow() url(#LINK)", "nothing(1) url(#LINK)",
     "nothing() url(#LINK)", "none url(#LINK)", "url(LINK) url(#LINK)", "url(#LINK) nothing", "blur (1) url(#LINK)",
-    "BLUR(1) url(#LINK)",
+    "BLUR(1) url(#LINK)", "drop-shadow(2px2px) url(#LINK)", "drop-shadow(2px-2px) url(#LINK)", "drop-shadow(2px+2px) url(#LINK)",
+    "drop-shadow(2px.5px) url(#LINK)", "drop-shadow(2px/**/2px) url(#LINK)", "drop-shadow(1-2) url(#LINK)",
+    "drop-shadow(1px 2pxred) url(#LINK)", "drop-shadow(1px 2px#fff) url(#LINK)", "drop-shadow(red1px 2px) url(#LINK)",
+    "drop-shadow(red+1px 2px) url(#LINK)", "drop-shadow(rgb(1, 2, 3)1px 2px) url(#LINK)", "drop-shadow(1px red 2px) url(#LINK)",
+    "blur(1.px) url(#LINK)", "blur(2pxé) url(#LINK)", "/* a */blur(/* ) */2px)/**/url(#LINK)", "hue-rotate(1degrad) url(#LINK)",
 ];
 
 /// Values of font.
-const FONTS: [&str; 24] = [
+const FONTS: [&str; 31] = [
     "12px a", "12 a", "12pt a, b", "1.5em 'a b'", ".5em a", "12% a", "-1px a", "12px", "12px ", "a", "bold", "bold a",
     "bold 1px a", "normal 1px a", "italic oblique 1px a", "900 condensed small-caps italic 1px a",
     "bold bold bold bold bold 1px a", "100 1px a", "150 1px a", "x-large a", "X-large a", "larger a b c", "Bold 1px a",
-    "inherit",
+    "inherit", "12pxa", "12px'a'", "12%a", "12px/2a", "100.5px a", "100px a", "1px/**/a",
 ];
 
 /// Links of an element `use`, each to LINK.
@@ -218,11 +223,13 @@ fn svg(inside: &str) -> String {
 /// A function with some amounts.
 fn call(name: &str, random: &mut Random) -> String {
     let amount = |random: &mut Random| {
-        let (sign, unit) =
-            (random.one_of(&["", "", "", "-", "+"]), random.one_of(&["", "", "%", "px", "deg", "rad", "mm", "turn", "q"]));
-        format!("{sign}{}{unit}", random.one_of(&["0", "1", "2.5", ".5", "120", "1e1", "a", ""]))
+        let (sign, unit) = (
+            random.one_of(&["", "", "", "-", "+"]),
+            random.one_of(&["", "", "%", "px", "deg", "rad", "mm", "turn", "Deg", "e", "q"]),
+        );
+        format!("{sign}{}{unit}", random.one_of(&["0", "1", "2.5", ".5", "120", "1e1", "1.", "a", ""]))
     };
-    let by = random.one_of(&[" ", ", ", ",", " / "]);
+    let by = random.one_of(&[" ", ", ", ",", " / ", "", "/**/"]);
     let amounts: Vec<String> = (0..random.below(6)).map(|_| amount(random)).collect();
     format!("{name}{}{}{}", random.one_of(&["(", "(", "( ", " ("]), amounts.join(by), random.one_of(&[")", ")", " )", ""]))
 }
@@ -246,12 +253,13 @@ fn function(random: &mut Random) -> String {
     let name = random.one_of(&["blur", "sepia", "opacity", "hue-rotate", "contrast", "Blur", "nothing"]);
     match random.below(3) {
         0 => {
-            let lengths: Vec<&str> = (0..random.below(5)).map(|_| random.one_of(&["1", "2px", "-3", "4mm", "5%", "a"])).collect();
-            let (lengths, color) = (lengths.join(" "), if random.once_in(2) { color(random) } else { String::new() });
-            format!(
-                "drop-shadow({})",
-                if random.once_in(2) { format!("{lengths} {color}") } else { format!("{color} {lengths}") }
-            )
+            let length = |random: &mut Random| random.one_of(&["1", "2px", "-3", "4mm", "+5px", ".6", "7%", "a"]).to_string();
+            let mut parts: Vec<String> = (0..random.below(5)).map(|_| length(random)).collect();
+            if random.once_in(2) {
+                let place = [0, parts.len(), random.below(parts.len() + 1)][random.below(3)];
+                parts.insert(place, color(random));
+            }
+            format!("drop-shadow({})", parts.join(random.one_of(&[" ", " ", " ", "", "/* a */"])))
         }
         _ => call(name, random),
     }
@@ -259,25 +267,25 @@ fn function(random: &mut Random) -> String {
 
 /// One document of random values, put together from parts.
 pub fn values(random: &mut Random) -> String {
-    const PARTS: [[&str; 30]; 4] = [
+    const PARTS: [[&str; 32]; 4] = [
         [
             "url(", "url(", "#LINK", "#LINK", "#LINK", ")", ")", ")", "url(#LINK)", "url(#LINK)", "url(#LINK) ", "url('#LINK')",
             "'", "&quot;", " ", " ", "none", "red", "rgb(", "rgba(", "hsl(", "1", "2%", ",", " / ", "#12", "ab", "currentColor",
-            "120deg", ".5",
+            "120deg", ".5", "-3", "%",
         ],
         [
             "url(", "#LINK", ")", ")", "url(#LINK)", "url(#LINK)", " url(#LINK)", "url('#LINK')", "'", " ", " ", "none", "blur(",
             "blur(", "sepia(", "sepia()", "hue-rotate(", "drop-shadow(", "drop-shadow(", "opacity(1)", "1", "2px", " 3", "50%",
-            "deg", "red", "-", ".5", "rgb(1, 2, 3)", "contrast(2) ",
+            "deg", "red", "-", ".5", "rgb(1, 2, 3)", "contrast(2) ", "+", "/**/",
         ],
         [
             "12px", "12px ", "1.5em", ".5", "5%", "bold ", "bold", "italic ", "small-caps ", "condensed ", "normal ", "700 ",
             "450 ", "x-large ", "larger", " ", " ", "a", "b, c", "'d e'", "serif", "-", "1e", "em", "px ", "0", "9pt", ",",
-            "oblique ", "_",
+            "oblique ", "_", "100.5px", "/**/",
         ],
         [
             "#LINK", "#LINK", "#LINK", "#LINK", "#", "#", " ", " ", "&#9;", "&#10;", "LINK", "a", "&#160;", "'", "(", ")",
-            "url(", ".svg", "/", "%20", "é", "", "", "", "", "", "", "", "", "&#13;",
+            "url(", ".svg", "/", "%20", "é", "", "", "", "", "", "", "", "", "", "", "&#13;",
         ],
     ];
     let mut list = |kind: usize| -> Vec<String> {

@@ -1,6 +1,7 @@
 //! Debian's svgtypes 0.5 as the Rust calls svgtypes. A link (`IRI`), a link in `url()` without quotes, a colour, a number, a length and an
 //! angle are Debian's answers. What Debian's does not know is read here: quotes in `url()`, colours with an opacity or in `hsl()`, lists of
-//! filters, and fonts. The other types are named by mod.rs alone; reading a document asks for none of them.
+//! filters, and fonts; their tokens are those of CSS Syntax 3. The other types are named by mod.rs alone; reading a document asks for none
+//! of them.
 use debian::Stream;
 use std::str::FromStr;
 
@@ -11,6 +12,49 @@ const SPACES: [char; 4] = [' ', '\t', '\n', '\r'];
 
 fn is_blank(text: &str) -> bool {
     text.trim_start_matches(SPACES).is_empty()
+}
+
+/// The longest start of a text that is something; empty if none is.
+fn longest(text: &str, is_one: impl Fn(&str) -> bool) -> &str {
+    let starts = text.char_indices().map(|(k, c)| &text[..k + c.len_utf8()]);
+    starts.rev().find(|start| is_one(start)).unwrap_or("")
+}
+
+/// Digits, with a point before the last ones or without, a sign before them or not, and an exponent or none.
+fn is_number(text: &str) -> bool {
+    let are_digits = |text: &str| !text.is_empty() && text.chars().all(|c| c.is_ascii_digit());
+    let (mantissa, exponent) = text.split_once(['e', 'E']).unwrap_or((text, "0"));
+    let [mantissa, exponent] = [mantissa, exponent].map(|part| part.strip_prefix(['+', '-']).unwrap_or(part));
+    let (whole, fraction) = mantissa.split_once('.').unwrap_or(("", mantissa));
+    (whole.is_empty() || are_digits(whole)) && are_digits(fraction) && are_digits(exponent)
+}
+
+/// What a name may have: anything but ASCII's signs, of which `-`, `_` and the backslash of an escape are allowed.
+fn is_name(text: &str) -> bool {
+    text.chars().all(|c| !c.is_ascii() || c.is_ascii_alphanumeric() || "-_\\".contains(c))
+}
+
+/// A name that begins with no digit, nor with a `-` that is alone or before a digit.
+fn is_identifier(text: &str) -> bool {
+    let first = text.strip_prefix('-').unwrap_or(text).chars().next();
+    is_name(text) && first.map_or(false, |c| !c.is_ascii_digit())
+}
+
+/// The number and the unit that a text begins with, which are one token.
+fn number(text: &str) -> Option<(&str, &str)> {
+    let number = longest(text, is_number);
+    let behind = &text[number.len()..];
+    let unit = if behind.starts_with('%') { "%" } else { longest(behind, is_identifier) };
+    (!number.is_empty()).then_some((number, unit))
+}
+
+/// What stands behind spaces and comments.
+fn behind_blank(text: &str) -> &str {
+    let text = text.trim_start_matches(SPACES);
+    match text.strip_prefix("/*") {
+        Some(comment) => behind_blank(comment.split_once("*/").map_or("", |(_, behind)| behind)),
+        None => text,
+    }
 }
 
 /// A link: `#` and an id.
@@ -84,22 +128,25 @@ impl<'a> Paint<'a> {
 
 /// A colour of a form that Debian's svgtypes does not have: `transparent`, four or eight digits, or `rgb`, `rgba`, `hsl`, `hsla`.
 fn is_later_color(text: &str) -> bool {
-    let text = text.trim().to_ascii_lowercase();
+    let text = text.to_ascii_lowercase();
     if let Some(digits) = text.strip_prefix('#') {
         return [4, 8].contains(&digits.len()) && digits.chars().all(|c| c.is_ascii_hexdigit());
     }
-    let is_number = |part: &str| {
-        let ends = ["%", "deg", "grad", "rad", "turn", ""];
-        ends.iter().filter_map(|end| part.strip_suffix(end)).any(|number| number.parse::<f64>().map_or(false, f64::is_finite))
-    };
     match text.strip_suffix(')').and_then(|text| text.split_once('(')) {
-        Some((name, inside)) => {
-            let parts: Vec<&str> =
-                inside.split(|c| SPACES.contains(&c) || c == ',' || c == '/').filter(|p| !p.is_empty()).collect();
-            ["rgb", "rgba", "hsl", "hsla"].contains(&name) && [3, 4].contains(&parts.len()) && parts.into_iter().all(is_number)
-        }
+        Some((name, inside)) => ["rgb", "rgba", "hsl", "hsla"].contains(&name) && [Some(3), Some(4)].contains(&amounts(inside)),
         None => text == "transparent",
     }
+}
+
+/// How many numbers a colour has; None if there is anything else.
+fn amounts(inside: &str) -> Option<usize> {
+    let text = inside.trim_start_matches([' ', '\t', '\n', '\r', ',', '/']);
+    if text.is_empty() {
+        return Some(0);
+    }
+    let (amount, unit) = number(text)?;
+    let is_known = ["", "%", "deg", "grad", "rad", "turn"].contains(&unit) && amount.parse::<f64>().map_or(false, f64::is_finite);
+    amounts(&text[amount.len() + unit.len()..]).filter(|_| is_known).map(|count| count + 1)
 }
 
 fn is_color(text: &str) -> bool {
@@ -124,7 +171,7 @@ impl<'a> Iterator for FilterValueListParser<'a> {
     type Item = Result<FilterValue<'a>, Error>;
 
     fn next(&mut self) -> Option<Self::Item> {
-        let text = self.0.trim_start_matches(SPACES);
+        let text = behind_blank(self.0);
         if text.is_empty() {
             return None;
         }
@@ -138,28 +185,47 @@ impl<'a> Iterator for FilterValueListParser<'a> {
     }
 }
 
+/// The token that a text begins with, a function with all up to its bracket: a number, a word, a `#` with a name, or a function.
+fn token(text: &str) -> Option<&str> {
+    if let Some((number, unit)) = number(text) {
+        return Some(&text[..number.len() + unit.len()]);
+    }
+    if let Some(name) = text.strip_prefix('#') {
+        return Some(&text[..1 + longest(name, is_name).len()]);
+    }
+    let word = longest(text, is_identifier);
+    let length = match text[word.len()..].strip_prefix('(') {
+        Some(inside) => word.len() + inside.find(')')? + 2,
+        None => word.len(),
+    };
+    (!word.is_empty()).then_some(&text[..length])
+}
+
+/// The functions of a number.
+const AMOUNTS: [&str; 7] = ["brightness", "contrast", "grayscale", "invert", "opacity", "saturate", "sepia"];
+
 /// What stands behind the function that a text begins with.
 fn function(text: &str) -> Option<&str> {
-    let open = text.find('(')?;
-    let mut depth = 0;
-    let close = text[open..].find(|c| {
-        depth += (c == '(') as i32 - (c == ')') as i32;
-        c == ')' && depth == 0
-    });
-    let close = open + close?;
-    let (name, inside) = (text[..open].trim_end_matches(SPACES), text[open + 1..close].trim_matches(&SPACES[..]));
-    let fits = match name {
-        "drop-shadow" => is_shadow(inside),
-        "blur" => inside.is_empty() || is_length(inside),
-        "hue-rotate" => inside.is_empty() || debian::Angle::from_str(inside).is_ok(),
-        "brightness" | "contrast" | "grayscale" | "invert" | "opacity" | "saturate" | "sepia" => {
-            let number = inside.strip_suffix('%').unwrap_or(inside);
-            let amount = Stream::from(number).parse_number();
-            inside.is_empty() || amount.map_or(false, |n| n >= 0.0) && number.parse::<f64>().is_ok()
-        }
+    let name = longest(text, is_identifier);
+    let mut behind = behind_blank(text[name.len()..].strip_prefix('(')?);
+    let mut tokens = Vec::new();
+    while !behind.starts_with(')') {
+        let token = token(behind)?;
+        tokens.push(token);
+        behind = behind_blank(&behind[token.len()..]);
+    }
+    let fits = match (name, &tokens[..]) {
+        ("drop-shadow", _) => is_shadow(&tokens),
+        ("blur", [length]) => is_length(length),
+        ("hue-rotate", [angle]) => debian::Angle::from_str(angle).is_ok(),
+        ("blur" | "hue-rotate", []) => true,
+        (name, [] | [_]) if AMOUNTS.contains(&name) => tokens.iter().all(|amount| {
+            let number = amount.strip_suffix('%').unwrap_or(amount).parse::<f64>();
+            number.map_or(false, |number| number.is_finite() && number >= 0.0)
+        }),
         _ => false,
     };
-    fits.then_some(&text[close + 1..])
+    fits.then(|| &behind[1..])
 }
 
 /// A length that is no percentage.
@@ -168,15 +234,14 @@ fn is_length(text: &str) -> bool {
 }
 
 /// Two or three lengths, with a colour before or behind them or without one.
-fn is_shadow(inside: &str) -> bool {
-    let words: Vec<&str> = inside.split(SPACES).filter(|word| !word.is_empty()).collect();
-    (2..4).any(|count| {
-        let are_lengths = |words: &[&str]| words.len() == count && words.iter().all(|word| is_length(word));
-        let (first, last) = (words.len() >= count).then(|| (words.len() - count, count)).unwrap_or((0, 0));
-        let before = || are_lengths(&words[first..]) && first > 0 && is_color(&words[..first].join(" "));
-        let behind = || are_lengths(&words[..last]) && last < words.len() && is_color(&words[last..].join(" "));
-        are_lengths(&words) || before() || behind()
-    })
+fn is_shadow(tokens: &[&str]) -> bool {
+    let kind = |token: &str| match token {
+        length if is_length(length) => 'l',
+        color if is_color(color) => 'c',
+        _ => '?',
+    };
+    let kinds: String = tokens.iter().map(|token| kind(token)).collect();
+    ["ll", "lll", "cll", "clll", "llc", "lllc"].contains(&kinds.as_str())
 }
 
 /// A font: words, then a size, a height of lines or none, and families.
@@ -210,9 +275,9 @@ impl<'a> FontShorthand<'a> {
             font_size: "",
             font_family: "",
         };
-        let mut text = value.trim_start_matches(SPACES);
+        let mut text = behind_blank(value);
         for _ in 0..4 {
-            let word = word_of(text);
+            let word = number(text).map_or_else(|| word_of(text), |(number, unit)| &text[..number.len() + unit.len()]);
             match word {
                 "normal" => {}
                 "small-caps" => font.font_variant = Some(word),
@@ -221,16 +286,16 @@ impl<'a> FontShorthand<'a> {
                 _ if is_one_of(STRETCHES, word) => font.font_stretch = Some(word),
                 _ => break,
             }
-            text = text[word.len()..].trim_start_matches(SPACES);
+            text = behind_blank(&text[word.len()..]);
         }
         font.font_size = if text.starts_with(|c: char| c.is_ascii_digit()) { length(text).ok_or(Error)? } else { word_of(text) };
         if !text.starts_with(|c: char| c.is_ascii_digit()) && !is_one_of(SIZES, font.font_size) {
             return Err(Error);
         }
-        text = text[font.font_size.len()..].trim_start_matches(SPACES);
+        text = behind_blank(&text[font.font_size.len()..]);
         if let Some(height) = text.strip_prefix('/') {
-            let height = height.trim_start_matches(SPACES);
-            text = height[length(height).ok_or(Error)?.len()..].trim_start_matches(SPACES);
+            let height = behind_blank(height);
+            text = behind_blank(&height[length(height).ok_or(Error)?.len()..]);
         }
         font.font_family = text;
         if text.is_empty() {
@@ -243,9 +308,9 @@ impl<'a> FontShorthand<'a> {
 
 /// The length that a text begins with.
 fn length(text: &str) -> Option<&str> {
-    let mut stream = Stream::from(text);
-    stream.parse_length().ok()?;
-    Some(stream.slice_back(0))
+    let (number, unit) = number(text)?;
+    let length = &text[..number.len() + unit.len()];
+    debian::Length::from_str(length).ok().map(|_| length)
 }
 
 macro_rules! never_read {
@@ -349,10 +414,30 @@ mod tests {
     }
 
     #[test]
+    fn tokens() {
+        let is_read = |function: &&str| urls(&format!("{function} url(#a)")) == ["a"];
+        let good = [
+            "drop-shadow(2px+2px)", "drop-shadow(2px.5px)", "drop-shadow(2px/**/2px)", "drop-shadow(1-2)",
+            "drop-shadow(1px 2px#fff)", "drop-shadow(rgb(1,2,3)1px 2px)", "drop-shadow(red+1px 2px)", "blur(1e1px)",
+            "blur(/* a */2px)", "drop-shadow(1 2 hsl(3deg 4%5%))",
+        ];
+        assert!(good.iter().all(|function| is_read(function)));
+        let bad = [
+            "drop-shadow(2px2px)", "drop-shadow(2px-2px)", "drop-shadow(1px 2pxred)", "drop-shadow(1px red 2px)", "blur(1.px)",
+            "blur(2 px)", "blur(2px--)", "blur (2px)", "drop-shadow(1 2 hsl(3deg4 5% 6%))", "sepia(1e)", "hue-rotate(1degrad)",
+            "drop-shadow(1px 2pxé)",
+        ];
+        assert!(!bad.iter().any(|function| is_read(function)));
+    }
+
+    #[test]
     fn fonts() {
         let font = FontShorthand::from_str("  small-caps 700 12pt/ 2 A, 'B'").ok().unwrap();
         assert_eq!((font.font_variant, font.font_weight, font.font_style), (Some("small-caps"), Some("700"), None));
         assert_eq!((font.font_size, font.font_family), ("12pt", "A, 'B'"));
-        assert!(["12px", "inherit", "bold A", "12px/A"].iter().all(|value| FontShorthand::from_str(value).is_err()));
+        let font = FontShorthand::from_str("100.5px/* a */'B'").ok().unwrap();
+        assert_eq!((font.font_weight, font.font_size, font.font_family), (None, "100.5px", "'B'"));
+        let bad = ["12px", "inherit", "bold A", "12px/A", "12pxA", "12px/2A", "12px-A", "12A"];
+        assert!(bad.iter().all(|value| FontShorthand::from_str(value).is_err()));
     }
 }
