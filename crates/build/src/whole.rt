@@ -4,6 +4,7 @@ use crate::tables::clear;
 use crate::tables::first_is_svg;
 use crate::tables::refusal;
 use crate::tables::refuse;
+use memo::fill::any_link;
 use parse::node::parse_xml_node_children;
 use parse::state::counted;
 use repair::whole::repair;
@@ -88,8 +89,48 @@ fn fill_by(
     finish(script, characters, nodes, attributes, text, counts)
 }
 
-// What is still to do behind the root: the table of ids, and the rest by it.
-fn fill(
+// What is still to do behind the root, where no link is followed by an id: a table that tells nothing.
+fn fill_alone(
+    script: &[u8],
+    characters: &[u8],
+    nodes: &mut [u32],
+    attributes: &mut [u32],
+    text: &mut [u8],
+) -> Built
+    requires { ⌜ Rooted (now script) (now characters) (treeOf (now nodes) (now attributes) (now text) rootAlone) ⌝ }
+    ensures { λ r. ⌜ resultOf (now (characters .entry)) (now (nodes .exit)) (now (attributes .exit)) (now (text .exit)) r
+        ≡ answered (now (characters .entry)) (clearedAs (now (nodes .entry)) (now (attributes .entry)) (now (text .entry)))
+        (withRepairs (now (characters .entry)) (events (now (script .entry)) (now (characters .entry)))
+        (then (parsed (plain (now (characters .entry))) (events (now (script .entry)) (now (characters .entry)))
+        (treeOf (now (nodes .entry)) (now (attributes .entry)) (now (text .entry)) rootAlone)) tested)) ⌝ }
+{
+    let mut slots: [u16; 1] = [0; 1];
+    memo::fill::fill(script, characters, &mut slots);
+    fill_by(script, characters, &slots, nodes, attributes, text)
+}
+
+// What is still to do behind the root: the table of ids of a small drawing, and the rest by it.
+fn fill_small(
+    script: &[u8],
+    characters: &[u8],
+    nodes: &mut [u32],
+    attributes: &mut [u32],
+    text: &mut [u8],
+) -> Built
+    requires { ⌜ Rooted (now script) (now characters) (treeOf (now nodes) (now attributes) (now text) rootAlone) ⌝ }
+    ensures { λ r. ⌜ resultOf (now (characters .entry)) (now (nodes .exit)) (now (attributes .exit)) (now (text .exit)) r
+        ≡ answered (now (characters .entry)) (clearedAs (now (nodes .entry)) (now (attributes .entry)) (now (text .entry)))
+        (withRepairs (now (characters .entry)) (events (now (script .entry)) (now (characters .entry)))
+        (then (parsed (plain (now (characters .entry))) (events (now (script .entry)) (now (characters .entry)))
+        (treeOf (now (nodes .entry)) (now (attributes .entry)) (now (text .entry)) rootAlone)) tested)) ⌝ }
+{
+    let mut slots: [u16; 2048] = [0; 2048];
+    memo::fill::fill(script, characters, &mut slots);
+    fill_by(script, characters, &slots, nodes, attributes, text)
+}
+
+// The same of any drawing.
+fn fill_large(
     script: &[u8],
     characters: &[u8],
     nodes: &mut [u32],
@@ -104,8 +145,32 @@ fn fill(
         (treeOf (now (nodes .entry)) (now (attributes .entry)) (now (text .entry)) rootAlone)) tested)) ⌝ }
 {
     let mut slots: [u16; 32768] = [0; 32768];
-    memo::table::fill(script, characters, &mut slots);
+    memo::fill::fill(script, characters, &mut slots);
     fill_by(script, characters, &slots, nodes, attributes, text)
+}
+
+// What is still to do behind the root.
+fn fill(
+    script: &[u8],
+    characters: &[u8],
+    nodes: &mut [u32],
+    attributes: &mut [u32],
+    text: &mut [u8],
+) -> Built
+    requires { ⌜ Rooted (now script) (now characters) (treeOf (now nodes) (now attributes) (now text) rootAlone) ⌝ }
+    ensures { λ r. ⌜ resultOf (now (characters .entry)) (now (nodes .exit)) (now (attributes .exit)) (now (text .exit)) r
+        ≡ answered (now (characters .entry)) (clearedAs (now (nodes .entry)) (now (attributes .entry)) (now (text .entry)))
+        (withRepairs (now (characters .entry)) (events (now (script .entry)) (now (characters .entry)))
+        (then (parsed (plain (now (characters .entry))) (events (now (script .entry)) (now (characters .entry)))
+        (treeOf (now (nodes .entry)) (now (attributes .entry)) (now (text .entry)) rootAlone)) tested)) ⌝ }
+{
+    if !any_link(script, characters) {
+        return fill_alone(script, characters, nodes, attributes, text);
+    }
+    if script.len() < 16384 {
+        return fill_small(script, characters, nodes, attributes, text);
+    }
+    fill_large(script, characters, nodes, attributes, text)
 }
 
 // The build of a drawing that check takes.

@@ -3,7 +3,7 @@
 use element::Parsed;
 use element::parse::parse_svg_element;
 use label::whole::parse_svg_text_element;
-use memo::table::fill;
+use memo::fill::fill;
 use names::eid;
 use names::is_element;
 use script::check::check;

@@ -321,6 +321,9 @@ wanted-on s t u a b =
 pub nodes-inside : (s chars : List ℕ) (e : Opened) → Standing s e → SameNodes s chars (e .inside) (e .inside)
 nodes-inside s chars e w = record { fit = w .fit; later = omega arith; events = refl }
 
+pub set-long : (slots slots′ : List ℕ) → slots′ ≡ set slots (unit slots) 0 → length slots′ ≡ length slots
+set-long slots slots′ e = ap length e ∙ length-set slots (unit slots) 0
+
 pub at-left : (s chars slots : List ℕ) (next left : ℕ) (xs : List Event) → Filling s chars slots next left xs → left ≤ 0
     → Filling s chars slots next 0 xs
 at-left s chars slots next left xs h l = subst (λ n. Filling s chars slots next n xs) (let z : left ≡ 0 = omega (arith, l) in z) h

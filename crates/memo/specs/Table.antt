@@ -93,6 +93,13 @@ freeFor slots key = firstFree (slotIn slots) (nextSlot (unit slots) (stepOf (uni
 abbrev pub isLink : ℕ → Bool
 isLink name = pick (eqb name EId.Use) (λ u. true) (λ u. eqb name EId.Tref)
 
+unfoldable pub anyLink : List Event → Bool
+anyLink [] = false
+anyLink (begin e ∷ xs) = pick (isLink (e .code)) (λ u. true) (λ u. anyLink xs)
+anyLink (model.Event.text a ∷ xs) = anyLink xs
+anyLink (model.Event.other ∷ xs) = anyLink xs
+anyLink (close ∷ xs) = anyLink xs
+
 -- THE ANSWERS OF THE CODE
 
 abbrev pub seenAs : List ℕ → List ℕ → Look → Seen

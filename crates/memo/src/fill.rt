@@ -28,10 +28,11 @@ ghost use mathlib.Core.Path.{_≡_};
 ghost use Prim.Native.Nat.{ℕ, _<_, _≤_};
 ghost use lib.ListN.{length, replicate};
 ghost use Rattle.model.specs.Check.{mostBytes};
+ghost use Rattle.model.specs.Drawing.{events};
 ghost use Rattle.script.specs.Step.{Fit};
 ghost use Rattle.walk.specs.Nodes.{nodeAt, Standing};
 ghost use Rattle.memo.specs.Words.{unit, slotCount, Apart};
-ghost use Rattle.memo.specs.Table.{isLink, freeFor, Blank, Memo, IdEntered, Ready, Entered, Filling, Passed};
+ghost use Rattle.memo.specs.Table.{isLink, anyLink, freeFor, Blank, Memo, IdEntered, Ready, Entered, Filling, Passed};
 
 const HREF: u8 = aid::HREF as u8;
 
@@ -249,6 +250,36 @@ fn want_links(script: &[u8], characters: &[u8], slots: &mut [u16]) -> usize
             }
             Item::End => {
                 return count;
+            }
+        }
+    }
+}
+
+// Has the drawing a link that is followed by an id?
+pub fn any_link(script: &[u8], characters: &[u8]) -> bool
+    requires { ⌜ length (now script) ≤ mostBytes ⌝ }
+    ensures { λ r. ⌜ r ≡ anyLink (events (now (script .entry)) (now (characters .entry))) ⌝ }
+{
+    let mut c = Cursor::start();
+    loop {
+        match next_item(script, characters, c) {
+            Item::Begin(e) => {
+                if is_link(e.name) {
+                    return true;
+                }
+                c = e.inside;
+            }
+            Item::Text(_, _, n) => {
+                c = n;
+            }
+            Item::Other(n) => {
+                c = n;
+            }
+            Item::Close(n) => {
+                c = n;
+            }
+            Item::End => {
+                return false;
             }
         }
     }

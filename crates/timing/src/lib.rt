@@ -3,7 +3,7 @@ use links::link::use_target;
 use links::uses::NextUse;
 use links::uses::next_use;
 use memo::plain::FoundElement;
-use memo::table::fill;
+use memo::fill::fill;
 use places::seek::seek;
 use script::cursor::Cursor;
 

@@ -33,7 +33,7 @@ start-of-requires c κs = c .before .before .pre
 
 -- src/fill.rt:66:5
 loop-holds : tie.Need-loop-holds Inv-loop μ-loop
-loop-holds c = (free-first _ _ _ _ (c .before .step-of .ensures .0) (c .start-of .ensures .0), c .start-of .ensures .1)
+loop-holds c = (free-first (c .before .before .before .args .slots .now) _ _ _ (c .before .step-of .ensures .0) (c .start-of .ensures .0), c .start-of .ensures .1)
 
 -- src/fill.rt:67:12
 slot-at-requires : tie.Need-slot-at-requires Inv-loop μ-loop

@@ -1,8 +1,7 @@
 use native.Mathlib.Omega.{arith}
 use mathlib.Core.Path.{sym, refl, ap, _∙_}
-use lib.ListN.{length, length-set}
 use borrow.Author.Tests.{not-true, not-false}
-use Rattle.memo.proofs.Filling.{ready-near, passed-near, passed-closed, filling-closed, ready-new, passed-new, nodes-inside, at-left, spaced-still}
+use Rattle.memo.proofs.Filling.{ready-near, passed-near, passed-closed, filling-closed, ready-new, passed-new, nodes-inside, at-left, spaced-still, set-long}
 use borrow.Author.Needs.{needs}
 use Rattle.memo.proofs.fill.pass.Statement.{statement}
 use Rattle.memo.proofs.fill.pass.Tie as tie
@@ -92,7 +91,8 @@ same-length-3 c = search needs
 returns-3 : tie.Need-returns-3
 returns-3 c =
     record {
-      long = ap length (c .before .before .set-spacing .ensures) ∙ length-set _ _ _;
+      long = set-long (c .before .before .before .before .before .before .before .before .before .before .before .before .before .before .before .before
+          .args .slots .now) _ (c .before .before .set-spacing .ensures);
       nodes = nodes-inside _ _ (c .before .before .before .before .before .before .before .before .before .before .before .before
           .before .before .before .before .args .e)
           (c .before .before .before .before .before .before .before .before .before .before .before .before .before .before .before

@@ -3,8 +3,8 @@ use Prim.Native.Nat.{ℕ}
 use lib.ListN.{replicate, length-replicate}
 use Rattle.build.proofs.Building.{both-small}
 use borrow.Author.Needs.{needs}
-use Rattle.build.proofs.whole.fill.Statement.{statement}
-use Rattle.build.proofs.whole.fill.Tie as tie
+use Rattle.build.proofs.whole.fill_large.Statement.{statement}
+use Rattle.build.proofs.whole.fill_large.Tie as tie
 
 slice-aggregate-fill : tie.Need-slice-aggregate-fill
 slice-aggregate-fill c = search needs
@@ -33,8 +33,8 @@ same-length-3 c = search needs
 returns : tie.Need-returns
 returns c = search needs
 
-pub fill-spec : {M : Type 1} → statement M
-fill-spec =
+pub fill-large-spec : {M : Type 1} → statement M
+fill-large-spec =
     tie.close
     (tie.spec
     slice-aggregate-fill
