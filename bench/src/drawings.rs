@@ -430,7 +430,7 @@ type Hurtful = (&'static str, fn(usize) -> Drawing, usize, usize);
 
 pub const HURTFUL: [Hurtful; 9] = [
     ("uses of as many groups", uses, 6000, 14_700),
-    ("uses of as many rects with an id", hrefs, 6000, 32_000),
+    ("uses of as many rects with an id", hrefs, 6000, 24_000),
     ("trefs to as many texts", trefs, 6000, 25_500),
     ("ids before 16 groups, doubled", doubled_behind_ids, 100, 20_000),
     ("uses in a group used often", used_uses, 400, 2000),

@@ -308,3 +308,9 @@ module _ (s chars : List ℕ) (e : Opened) (p : Option model.Part) (f : p ≡ tr
 
     pub quotes-texts : t ≡ true → textsOf s chars (node.At l) ≡ quoted (events s chars) (elementOf s chars e)
     quotes-texts a = sym (rw (sym h ∙ a)) ∙ quotes
+
+-- No `use` leads back where there is none.
+pub back-none : (s chars : List ℕ) (c : Cursor) (k : ℕ) (r : NextUse) → r ≡ nextUse.End → UseIs s chars c k r → (all : List Event) (n m : ℕ)
+    → false ≡ leadsBack all n m (usesIn k (eventsAt s chars c))
+unfolding leadsBack
+back-none s chars c k r t i all n m = ap (leadsBack all n m) (use-told s chars c k r nextUse.End t i .0)

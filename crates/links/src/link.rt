@@ -153,7 +153,7 @@ pub fn leading_id(script: &[u8], characters: &[u8], slots: &[u16], e: Opened) ->
 }
 
 // Does a use inside the element l, to which the link of the use e leads, lead to e or to l? Links are compared with the ids of these two.
-pub fn leads_back(
+fn leads_back_by(
     script: &[u8],
     characters: &[u8],
     slots: &[u16],
@@ -192,6 +192,32 @@ pub fn leads_back(
                 return false;
             }
         }
+    }
+}
+
+// The same, where there may be no use inside l: then nothing is looked for.
+pub fn leads_back(
+    script: &[u8],
+    characters: &[u8],
+    slots: &[u16],
+    e: Opened,
+    l: Opened,
+    link: FoundPart,
+) -> bool
+    requires { ⌜ Standing (now script) e ⌝ }
+    requires { ⌜ Standing (now script) l ⌝ }
+    requires { ⌜ PartFit link ⌝ }
+    requires { ⌜ nodeAt (now script) (now characters) l
+        ≡ linkedBy (events (now script) (now characters)) (partOf (now characters) link) ⌝ }
+    requires { ⌜ Memo (now script) (now characters) (now slots) ⌝ }
+    ensures { λ r. ⌜ r ≡ leadsBack (events (now (script .entry)) (now (characters .entry)))
+        (elementOf (now (script .entry)) (now (characters .entry)) e .number)
+        (elementOf (now (script .entry)) (now (characters .entry)) l .number)
+        (usesIn 0 (eventsAt (now (script .entry)) (now (characters .entry)) (l .inside))) ⌝ }
+{
+    match next_use(script, characters, l.inside, 0) {
+        NextUse::At(_, _) => leads_back_by(script, characters, slots, e, l, link),
+        NextUse::End => false,
     }
 }
 

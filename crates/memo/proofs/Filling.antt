@@ -50,28 +50,28 @@ follows-less s chars slots slots′ m left e n p q v z f id h =
 -- AN ELEMENT PASSED, NEAR A MARK
 
 module _ (s chars slots : List ℕ) (next left : ℕ) (e : Opened) (h : Filling s chars slots next left (nodeAt s chars e)) (z : 0 < left)
-    where
-  last-set : next - 1 < next
-  last-set = omega (arith, h .some z)
+  where
+    last-set : next - 1 < next
+    last-set = omega (arith, h .some z)
 
-  pub ready-near : Standing s e → Ready s chars slots next (next - 1) e
-  ready-near st = record {
-    stands = st;
-    known = h .known;
-    set = λ p. last-set;
-    seeing = λ p. seeing-next s chars slots (next - 1) left e z (h .follows z);
-  }
+    pub ready-near : Standing s e → Ready s chars slots next (next - 1) e
+    ready-near st = record {
+      stands = st;
+      known = h .known;
+      set = λ p. last-set;
+      seeing = λ p. seeing-next s chars slots (next - 1) left e z (h .follows z);
+    }
 
-  pub passed-near : (slots′ : List ℕ) (n : Cursor) → Entered s chars slots next e slots′ n
-      → Filling s chars slots′ next (left - 1) (eventsAt s chars n)
-  passed-near slots′ n w = record {
-    long = omega (arith, h .long, w .kept .long);
-    few = h .few;
-    some = λ l. h .some z;
-    known = w .known;
-    follows = λ l. follows-less s chars slots slots′ (next - 1) left e n (w .kept .spaced)
-        (w .kept .marks (next - 1) (h .known .marks (next - 1) last-set .low)) (w .nodes .events) z (h .follows z);
-  }
+    pub passed-near : (slots′ : List ℕ) (n : Cursor) → Entered s chars slots next e slots′ n
+        → Filling s chars slots′ next (left - 1) (eventsAt s chars n)
+    passed-near slots′ n w = record {
+      long = omega (arith, h .long, w .kept .long);
+      few = h .few;
+      some = λ l. h .some z;
+      known = w .known;
+      follows = λ l. follows-less s chars slots slots′ (next - 1) left e n (w .kept .spaced)
+          (w .kept .marks (next - 1) (h .known .marks (next - 1) last-set .low)) (w .nodes .events) z (h .follows z);
+    }
 
 -- A TABLE THAT TELLS NOTHING MORE
 

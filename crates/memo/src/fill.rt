@@ -210,6 +210,21 @@ fn want_link(script: &[u8], characters: &[u8], slots: &mut [u16], inside: Cursor
     }
 }
 
+// The key of an element's own id is wanted.
+fn want_own(script: &[u8], characters: &[u8], slots: &mut [u16], e: Opened)
+    requires { ⌜ Standing (now script) e ⌝ }
+    requires { ⌜ 16 ≤ length (now slots) ⌝ }
+    ensures { λ _. ⌜ Apart (now (slots .entry)) 0 (unit (now (slots .entry))) (now (slots .exit)) ⌝ }
+{
+    match first_id(script, characters, e) {
+        FoundValue::At(v) => {
+            let start = v.own.chars;
+            want(slots, key_of(part_at(characters, start, v.len)));
+        }
+        FoundValue::Nothing(_) => {}
+    }
+}
+
 // Do elements with that name have links that are followed by ids?
 fn is_link(name: u8) -> bool
     ensures { λ r. ⌜ r ≡ isLink name ⌝ }
@@ -220,7 +235,7 @@ fn is_link(name: u8) -> bool
     name as u32 == eid::TREF
 }
 
-// The keys of all links are wanted. How many elements there are.
+// The keys of all links are wanted, and those of the ids that the linking elements have. How many elements there are.
 fn want_links(script: &[u8], characters: &[u8], slots: &mut [u16]) -> usize
     requires { ⌜ length (now script) ≤ mostBytes ⌝ }
     requires { ⌜ 16 ≤ length (now slots) ⌝ }
@@ -237,6 +252,7 @@ fn want_links(script: &[u8], characters: &[u8], slots: &mut [u16]) -> usize
                 if is_link(e.name) {
                     want_link(script, characters, slots, c, 0);
                     want_link(script, characters, slots, c, 2);
+                    want_own(script, characters, slots, e);
                 }
             }
             Item::Text(_, _, n) => {

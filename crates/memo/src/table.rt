@@ -80,14 +80,7 @@ fn within(script: &[u8], characters: &[u8], from: Cursor, most: usize, id: &[u8]
 }
 
 // What stands in slot i, for the search of an id with that key.
-fn look_at(
-    script: &[u8],
-    characters: &[u8],
-    slots: &[u16],
-    i: usize,
-    id: &[u8],
-    key: usize,
-) -> Look
+fn look_at(script: &[u8], characters: &[u8], slots: &[u16], i: usize, id: &[u8], key: usize) -> Look
     requires { ⌜ Held (now script) (now slots) ⌝ }
     requires { ⌜ 16 ≤ length (now slots) ⌝ }
     requires { ⌜ i < slotCount (now slots) ⌝ }

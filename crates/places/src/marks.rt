@@ -2,7 +2,9 @@
 use crate::seek::seek;
 use script::cursor::Cursor;
 ghost use mathlib.Core.Path.{_≡_};
-ghost use Prim.Native.Nat.{_<_};
+ghost use Prim.Native.Nat.{_<_, _≤_};
+ghost use lib.ListN.{length};
+ghost use Rattle.model.specs.Check.{mostBytes};
 ghost use Rattle.script.specs.Step.{Fit, placeOf};
 ghost use Rattle.places.specs.Marks.{markIn, markSet, Marked};
 
@@ -87,12 +89,22 @@ pub fn seek_near(
     seek(script, characters, number, from)
 }
 
-// All marks of a script, in one walk.
+// How many commands lie between two marks, so that they reach to the last.
+fn stride_of(script: &[u8], characters: &[u8]) -> usize
+    requires { ⌜ length (now script) ≤ mostBytes ⌝ }
+    ensures { λ r. ⌜ (0 < r) × (r ≤ 4097) ⌝ }
+{
+    let c = Cursor::start();
+    let last = seek(script, characters, script.len(), c);
+    last.number / 256 + 1
+}
+
+// All marks of a script, in one walk behind the one that counts its commands.
 pub fn set_marks(script: &[u8], characters: &[u8], marks: &mut [usize; 1025])
     requires { ⌜ Marked (now script) (now marks) ⌝ }
     ensures { λ _. ⌜ Marked (now (script .entry)) (now (marks .exit)) ⌝ }
 {
-    let stride = script.len() / 1024 + 16;
+    let stride = stride_of(script, characters);
     marks[1024] = stride;
     let mut c = Cursor::start();
     let mut number = 0;

@@ -2,8 +2,8 @@
 use links::link::use_target;
 use links::uses::NextUse;
 use links::uses::next_use;
-use memo::plain::FoundElement;
 use memo::fill::fill;
+use memo::plain::FoundElement;
 use places::seek::seek;
 use script::cursor::Cursor;
 

@@ -16,7 +16,7 @@ use Rattle.memo.proofs.plain.has_id.Reads as has-id-reads
 use Rattle.walk.proofs.node.next_item.Reads as next-item-reads
 
 abbrev Inv-loop : tie.InvT-loop
-Inv-loop script characters most id c₀ left₀ c left = 
+Inv-loop script characters most id c₀ left₀ c left =
     Seeking script characters id (within left₀ id (eventsAt script characters c₀)) c left
 
 abbrev μ-loop : tie.MeasureT-loop
