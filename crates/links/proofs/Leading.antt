@@ -21,24 +21,7 @@ use Rattle.walk.specs.Nodes.{elementOf, nodeAt, Standing}
 use Rattle.links.specs.Links.{sameParts, leadingId}
 use Rattle.walk.proofs.Walks.{stepped}
 use Rattle.memo.proofs.Ids.{id-hit, id-miss}
-
--- STRINGS
-
-same-eq : (a b : List ℕ) → sameBytes a b ≡ true → a ≡ b
-unfolding sameBytes
-same-eq [] [] h = refl
-same-eq [] (y ∷ b) h = absurd (false≢true h)
-same-eq (x ∷ a) [] h = absurd (false≢true h)
-same-eq (x ∷ a) (y ∷ b) h = go (eqb x y) refl h (same-eq a b)
-  where
-    go : (t : Bool) → eqb x y ≡ t → pick t (λ u. sameBytes a b) (λ u. false) ≡ true → (sameBytes a b ≡ true → a ≡ b) → x ∷ a ≡ y ∷ b
-    go true e k ih = let p : x ≡ y = eqb-true x y e in let q : a ≡ b = ih k in cc
-    go false e k ih = absurd (false≢true k)
-
-same-itself : (a : List ℕ) → sameBytes a a ≡ true
-unfolding sameBytes
-same-itself [] = refl
-same-itself (x ∷ a) = rw (eq-eqb x x refl) (same-itself a)
+use Rattle.memo.proofs.Knowing.{same-eq, same-itself}
 
 -- THE ID OF AN ELEMENT
 

@@ -1,7 +1,7 @@
 -- The filling of the table, from element to element. Assumes nothing.
 use mathlib.Core.Path.{_≡_, refl, sym, ap, _∙_, subst}
 use mathlib.Core.List.{List, [], _∷_}
-use mathlib.Core.Bool.{Bool, true, false}
+use mathlib.Core.Bool.{Bool, true, false, false≢true}
 use Prim.Native.Nat.{ℕ, zero, suc, _+_, _-_, _*_, _<_, _≤_}
 use native.Mathlib.Decide.{ℕ-discrete}
 use native.Mathlib.Omega.{arith}
@@ -15,7 +15,8 @@ use Rattle.script.specs.declared.cursor.Cursor.{Cursor}
 use Rattle.script.specs.Step.{Fit, atStart, commandsAt}
 use Rattle.script.proofs.Commands.{placed-first}
 use Rattle.walk.specs.declared.node.Opened.{Opened}
-use Rattle.walk.specs.declared.node.Item.{Item}
+use Rattle.walk.specs.declared.value.FoundValue.{FoundValue}
+use Rattle.walk.specs.declared.value.FoundValue.the-variants as found
 use Rattle.walk.specs.Values.{eventsAt, SameNodes}
 use Rattle.walk.specs.Nodes.{elementOf, nodeAt, eventsOf, Standing, Further}
 use Rattle.walk.proofs.Walks.{stepped}
@@ -24,10 +25,11 @@ use Rattle.memo.specs.Words.{isOpen, keyOf, Apart, RoomFor, MarkPut}
 use Rattle.memo.specs.Table.{within, Outcome, sees, probedFrom, probed}
 use Rattle.memo.specs.Table as table
 use Rattle.memo.specs.Table.{Placed, Ahead, Told, Known, Memo, Seeing, Ready, Kept, Entered, Follows, Filling, Blank}
+use Rattle.memo.proofs.Ids.{IdIs, has-none}
 use Rattle.memo.proofs.Parts.{unit-some, unit-low, same-unit, same-mark, same-slot, same-spacing, same-open, apart-set, apart-join}
 use Rattle.memo.proofs.Within.{Some, within-hit, within-less}
 use Rattle.memo.proofs.Probing.{OnThis, OnFound, found-holds, probing-same}
-use Rattle.memo.proofs.Knowing.{open-closed, probed-shut, probed-open, known-closed, seen-empty, known-on, same-seen, same-placed}
+use Rattle.memo.proofs.Knowing.{open-closed, probed-shut, probed-open, known-closed, seen-empty, known-on, known-past, same-seen, same-placed}
 
 -- THE LAST MARK
 
@@ -72,6 +74,25 @@ module _ (s chars slots : List ℕ) (next left : ℕ) (e : Opened) (h : Filling 
       follows = λ l. follows-less s chars slots slots′ (next - 1) left e n (w .kept .spaced)
           (w .kept .marks (next - 1) (h .known .marks (next - 1) last-set .low)) (w .nodes .events) z (h .follows z);
     }
+
+-- AN ELEMENT WITHOUT AN ID
+
+pub passed-bare : (s chars slots : List ℕ) (next left : ℕ) (e : Opened) → Filling s chars slots next left (nodeAt s chars e) → (r : FoundValue)
+    → IdIs s chars e r → (n : Cursor) → r ≡ found.Nothing n → Filling s chars slots next (left - 1) (eventsAt s chars n)
+passed-bare s chars slots next left e h r i n t = record {
+  long = h .long;
+  few = h .few;
+  some = λ l. h .some (omega (arith, l));
+  known = subst (Known s chars slots next) (sym (same .events)) (known-past s chars slots next e (h .known) (λ x q f. no x q));
+  follows = λ l. let z : 0 < left = omega (arith, l) in
+      follows-less s chars slots slots (next - 1) left e n refl refl (same .events) z (h .follows z);
+}
+  where
+    same : SameNodes s chars (e .inside) n
+    same = has-none s chars [] e r i n t .nodes
+
+    no : (x : List ℕ) → hasId x (elementOf s chars e) ≡ true → ⊥
+    no x q = false≢true (sym (has-none s chars x e r i n t .has-not) ∙ q)
 
 -- A TABLE THAT TELLS NOTHING MORE
 
@@ -341,3 +362,11 @@ start-fit s c l e = subst (Fit s) (sym e) (placed-first s atStart refl l)
 pub filling-at : (s chars slots : List ℕ) (next left : ℕ) (xs ys : List Event) → xs ≡ ys → Filling s chars slots next left ys
     → Filling s chars slots next left xs
 filling-at s chars slots next left xs ys e h = subst (Filling s chars slots next left) (sym e) h
+
+pub bare-nodes : (s chars : List ℕ) (e : Opened) (r : FoundValue) → IdIs s chars e r → (n : Cursor) → r ≡ found.Nothing n
+    → SameNodes s chars (e .inside) n
+bare-nodes s chars e r i n t = has-none s chars [] e r i n t .nodes
+
+pub at-less : (s chars slots : List ℕ) (next left n : ℕ) (xs : List Event) → n ≡ left → Filling s chars slots next left xs
+    → Filling s chars slots next n xs
+at-less s chars slots next left n xs e h = subst (λ m. Filling s chars slots next m xs) (sym e) h

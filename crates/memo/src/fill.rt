@@ -25,7 +25,7 @@ use walk::value::attribute_in;
 use walk::value::part_at;
 use walk::value::reading_of;
 ghost use mathlib.Core.Path.{_≡_};
-ghost use Prim.Native.Nat.{ℕ, _<_, _≤_};
+ghost use Prim.Native.Nat.{ℕ, _-_, _<_, _≤_};
 ghost use lib.ListN.{length, replicate};
 ghost use Rattle.model.specs.Check.{mostBytes};
 ghost use Rattle.model.specs.Drawing.{events};
@@ -108,9 +108,9 @@ fn enter(script: &[u8], characters: &[u8], slots: &mut [u16], e: Opened, m: usiz
     }
 }
 
-// The element e is passed, before which the filling is that far. Where no mark is near, one is set at it; where that cannot be, the table
-// tells nothing any more.
-fn pass(
+// The element e, which has an id, is passed, before which the filling is that far. Where no mark is near, one is set at it; where that
+// cannot be, the table tells nothing any more.
+fn pass_named(
     script: &[u8],
     characters: &[u8],
     slots: &mut [u16],
@@ -154,6 +154,42 @@ fn pass(
         place: place,
         next: next + 1,
         left: most - 1,
+    }
+}
+
+// One less, and no less than none.
+fn less(n: usize) -> usize
+    ensures { λ r. ⌜ r ≡ n - 1 ⌝ }
+{
+    if n == 0 {
+        return 0;
+    }
+    n - 1
+}
+
+// The element e is passed. Marks are set at elements with an id alone.
+fn pass(
+    script: &[u8],
+    characters: &[u8],
+    slots: &mut [u16],
+    e: Opened,
+    next: usize,
+    left: usize,
+) -> Progress
+    requires { ⌜ Standing (now script) e ⌝ }
+    requires { ⌜ Filling (now script) (now characters) (now slots) next left (nodeAt (now script) (now characters) e) ⌝ }
+    ensures { λ r. ⌜ Passed (now (script .entry)) (now (characters .entry)) (now (slots .entry)) e (now (slots .exit)) r ⌝ }
+{
+    match first_id(script, characters, e) {
+        FoundValue::At(_) => pass_named(script, characters, slots, e, next, left),
+        FoundValue::Nothing(n) => {
+            let fewer = less(left);
+            Progress {
+                place: n,
+                next: next,
+                left: fewer,
+            }
+        }
     }
 }
 
@@ -235,7 +271,20 @@ fn is_link(name: u8) -> bool
     name as u32 == eid::TREF
 }
 
-// The keys of all links are wanted, and those of the ids that the linking elements have. How many elements there are.
+// The later of two counts of elements: that of the element e if it has an id.
+fn if_named(script: &[u8], characters: &[u8], e: Opened, count: usize, last: usize) -> usize
+    requires { ⌜ Standing (now script) e ⌝ }
+    requires { ⌜ last ≤ count ⌝ }
+    ensures { λ r. ⌜ r ≤ count ⌝ }
+{
+    match first_id(script, characters, e) {
+        FoundValue::At(_) => count,
+        FoundValue::Nothing(_) => last,
+    }
+}
+
+// The keys of all links are wanted, and those of the ids that the linking elements have. How many elements there are up to the last one
+// with an id.
 fn want_links(script: &[u8], characters: &[u8], slots: &mut [u16]) -> usize
     requires { ⌜ length (now script) ≤ mostBytes ⌝ }
     requires { ⌜ 16 ≤ length (now slots) ⌝ }
@@ -244,10 +293,12 @@ fn want_links(script: &[u8], characters: &[u8], slots: &mut [u16]) -> usize
 {
     let mut c = Cursor::start();
     let mut count: usize = 0;
+    let mut last: usize = 0;
     loop {
         match next_item(script, characters, c) {
             Item::Begin(e) => {
                 count += 1;
+                last = if_named(script, characters, e, count, last);
                 c = e.inside;
                 if is_link(e.name) {
                     want_link(script, characters, slots, c, 0);
@@ -265,7 +316,7 @@ fn want_links(script: &[u8], characters: &[u8], slots: &mut [u16]) -> usize
                 c = n;
             }
             Item::End => {
-                return count;
+                return last;
             }
         }
     }

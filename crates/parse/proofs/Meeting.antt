@@ -5,18 +5,18 @@ use mathlib.Core.Bool.{Bool, true, not}
 use mathlib.Core.List.{List, _∷_}
 use native.Mathlib.Omega.{arith}
 use borrow.Author.Tests.{ne-eqb}
-use Rattle.model.specs.Drawing.{Event, begin, events, eventsFrom, elementAt, attributesAt, declarationsAt, useTarget}
+use Rattle.model.specs.Drawing.{Event, begin, events, useTarget}
 use Rattle.model.specs.Tables.{Tree, Out, refused}
 use Rattle.model.specs.Parse.{copy, node, plain}
 use Rattle.script.specs.declared.cursor.Cursor.{Cursor}
-use Rattle.script.specs.Step.{Fit, commandsAt}
+use Rattle.script.specs.Step.{Fit}
 use Rattle.walk.specs.declared.node.Opened.{Opened}
 use Rattle.walk.specs.Nodes.{elementOf, nodeAt, leave, Standing}
 use Rattle.walk.specs.Values.{eventsAt}
-use Rattle.walk.proofs.Walks.{stepped}
 use Rattle.memo.specs.declared.plain.FoundElement.{FoundElement}
 use Rattle.memo.specs.declared.plain.FoundElement.the-variants as found
 use Rattle.memo.specs.Plain.{nodeOf, NodeFit}
+use Rattle.memo.proofs.Filling.{own-nodes}
 use Rattle.tree.specs.declared.Counts.{Counts}
 use Rattle.tree.specs.Lent.{treeOf}
 use Rattle.label.specs.Whole.{Beginning}
@@ -52,19 +52,6 @@ module _ (script chars : List ℕ) (e : Opened) (children : Cursor) (s : List �
     behind = b;
     stood = h;
   }
-
--- The nodes from an element's own place on begin with it.
-pub own-nodes : (script chars : List ℕ) (e : Opened) → Standing script e → nodeAt script chars e ≡ eventsAt script chars (e .own)
-unfolding eventsFrom elementAt
-own-nodes script chars e w =
-    stepped (eventsFrom chars) (w .here)
-    (λ m. begin (record {
-      number = e .own .number + 1;
-      code = e .name;
-      namespace = e .space;
-      attributes = attributesAt chars m (commandsAt script (e .inside));
-      declarations = declarationsAt chars m (commandsAt script (e .inside));
-    }) ∷ eventsFrom chars m (commandsAt script (e .inside))) refl
 
 copied-one : (n : ℕ) → true ≡ isCopied (n + 1)
 copied-one n = ap not (sym (ne-eqb (n + 1) 0 (λ z. omega (arith, z))))
