@@ -84,10 +84,10 @@ module _ (s ms : List ℕ) (m : Marked s ms) where
 pub record Marking (s ms : List ℕ) (c : Cursor) (number k : ℕ) : Type 0 where
   pub marked : Marked s ms
   pub fit : Fit s c
-  pub low : number ≤ 4097 * k
+  pub low : number ≤ 4112 * k
 
 pub marking-more : (s ms : List ℕ) (c : Cursor) (number k : ℕ) → Marking s ms c number k → k < 256 → (n : Cursor) → Fit s n
-    → (ms′ : List ℕ) → ms′ ≡ markSet ms k n → (stride : ℕ) → stride ≤ 4097 → Marking s ms′ n (number + stride) (k + 1)
+    → (ms′ : List ℕ) → ms′ ≡ markSet ms k n → (stride : ℕ) → stride ≤ 4112 → Marking s ms′ n (number + stride) (k + 1)
 marking-more s ms c number k w l n f ms′ e stride h = record {
   marked = subst (Marked s) (sym e) (marked-more s ms (w .marked) k l n f);
   fit = f;

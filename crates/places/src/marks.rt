@@ -92,11 +92,11 @@ pub fn seek_near(
 // How many commands lie between two marks, so that they reach to the last.
 fn stride_of(script: &[u8], characters: &[u8]) -> usize
     requires { ⌜ length (now script) ≤ mostBytes ⌝ }
-    ensures { λ r. ⌜ (0 < r) × (r ≤ 4097) ⌝ }
+    ensures { λ r. ⌜ (0 < r) × (r ≤ 4112) ⌝ }
 {
     let c = Cursor::start();
     let last = seek(script, characters, script.len(), c);
-    last.number / 256 + 1
+    last.number / 256 + 16
 }
 
 // All marks of a script, in one walk behind the one that counts its commands.
