@@ -1,0 +1,1 @@
+// Where the links of nodes lead (document 01, section 5), found once for each pass and kept behind the importance of their entries.
