@@ -127,27 +127,15 @@ module _ (chars : List ℕ) (t : Tree) (i : ℕ) where
   last-absent h id n =
       sym (ne-eqb (lastWithId chars t id n) (i + 1) (λ z. false≢true (sym (has-none h id) ∙ found-has chars t id n i z)))
 
-  -- The search for a later one, from the last node down: n nodes are left.
-  module _ (n count : ℕ) (same : lastWithId chars t (elementId chars t i) n ≡ lastWithId chars t (elementId chars t i) count) where
-    pub last-other : i + 1 < n → hasIdBytes chars t (elementId chars t i) (n - 1) ≡ true
-        → false ≡ eqb (lastWithId chars t (elementId chars t i) count) (i + 1)
-    last-other l h =
-        let f : lastWithId chars t (elementId chars t i) n ≡ n - 1 + 1 =
-        last-step chars t (elementId chars t i) n (omega arith) ∙ rw h refl in
-        sym (ne-eqb (lastWithId chars t (elementId chars t i) count) (i + 1) (λ z. omega (arith, f, same, z)))
+-- The search from the last node down: n nodes are left.
+module _ (chars : List ℕ) (t : Tree) (id : List ℕ) (n count : ℕ) (same : lastWithId chars t id n ≡ lastWithId chars t id count) where
+  pub seek-found : 0 < n → hasIdBytes chars t id (n - 1) ≡ true → n ≡ lastWithId chars t id count
+  seek-found l h =
+      let f : lastWithId chars t id n ≡ n - 1 + 1 = last-step chars t id n l ∙ rw h refl in
+      omega (arith, f, same)
 
-    pub last-on : i + 1 < n → hasIdBytes chars t (elementId chars t i) (n - 1) ≡ false
-        → lastWithId chars t (elementId chars t i) (n - 1) ≡ lastWithId chars t (elementId chars t i) count
-    last-on l h = sym (last-step chars t (elementId chars t i) n (omega arith) ∙ rw h refl) ∙ same
-
-    pub last-found : i + 1 ≤ n → n ≤ i + 1 → (attributeId t i AId.Id ≡ 0 → ⊥)
-        → true ≡ eqb (lastWithId chars t (elementId chars t i) count) (i + 1)
-    last-found l u h =
-        let e : n - 1 ≡ i = omega arith in
-        let o : hasIdBytes chars t (elementId chars t i) (n - 1) ≡ true = rw e (has-own h) in
-        let f : lastWithId chars t (elementId chars t i) n ≡ n - 1 + 1 =
-        last-step chars t (elementId chars t i) n (omega arith) ∙ rw o refl in
-        sym (eq-eqb (lastWithId chars t (elementId chars t i) count) (i + 1) (omega (arith, f, same)))
+  pub seek-on : 0 < n → hasIdBytes chars t id (n - 1) ≡ false → lastWithId chars t id (n - 1) ≡ lastWithId chars t id count
+  seek-on l h = sym (last-step chars t id n l ∙ rw h refl) ∙ same
 
 -- The entry of an attribute that is there.
 pub known-entry : (size : ℕ) (t : Tree) (i j : ℕ) → KnownIn size t i → HeldBy t i j → (j ≡ 0 → ⊥)
@@ -162,12 +150,22 @@ known-entry size t i j r h z =
 pub known-readable : (size : ℕ) (t : Tree) (i : ℕ) → KnownIn size t i → ReadableIn size t i
 known-readable size t i r = record { readable = r .readable; values = λ e j l. r .entries e j l .inside }
 
--- The id is a part of the characters: what it finds is compared with the element.
-pub led-by-part : (chars : List ℕ) (t : Tree) (i j count : ℕ) → j ≡ attributeId t i AId.Id → (j ≡ 0 → ⊥)
-    → (n : ℕ) → n ≡ entryWord t (j - 1) 4 → (n ≡ 0 → ⊥) → (s : ℕ) → s ≡ entryWord t (j - 1) 2 → (l : ℕ) → l ≡ entryWord t (j - 1) 3
-    → (p : List ℕ) → p ≡ slice s (s + l) chars → (w : ℕ) → w ≡ lastWithId chars t p count
-    → eqb w (i + 1) ≡ eqb (lastWithId chars t (elementId chars t i) count) (i + 1)
-led-by-part chars t i j count e z n c y s a l d p q w f =
-    ap (λ (x : ℕ). eqb x (i + 1))
-    (f ∙ ap (λ (id : List ℕ). lastWithId chars t id count)
-    (read-part chars t (j - 1) n c s a y l d p q ∙ sym (own-id chars t i j e z)))
+-- The search for an element's id, where that is a part of the characters, a fixed value, or not there.
+module _ (chars : List ℕ) (t : Tree) (i j count : ℕ) (e : j ≡ attributeId t i AId.Id) where
+  pub last-part : (j ≡ 0 → ⊥)
+      → (n : ℕ) → n ≡ entryWord t (j - 1) 4 → (n ≡ 0 → ⊥) → (s : ℕ) → s ≡ entryWord t (j - 1) 2 → (l : ℕ) → l ≡ entryWord t (j - 1) 3
+      → (p : List ℕ) → p ≡ slice s (s + l) chars → (w : ℕ) → w ≡ lastWithId chars t p count
+      → w ≡ lastWithId chars t (elementId chars t i) count
+  last-part z n c y s a l d p q w f =
+      f ∙ ap (λ (id : List ℕ). lastWithId chars t id count)
+      (read-part chars t (j - 1) n c s a y l d p q ∙ sym (own-id chars t i j e z))
+
+  pub last-entry : (j ≡ 0 → ⊥) → (w : ℕ) → w ≡ lastWithId chars t (valueAtEntry chars t j) count
+      → w ≡ lastWithId chars t (elementId chars t i) count
+  last-entry z w f = f ∙ ap (λ (id : List ℕ). lastWithId chars t id count) (sym (own-id chars t i j e z))
+
+  pub last-none : j ≡ 0 → (p : List ℕ) → p ≡ slice 0 0 chars → (w : ℕ) → w ≡ lastWithId chars t p count
+      → w ≡ lastWithId chars t (elementId chars t i) count
+  unfolding elementId
+  last-none z p q w f =
+      f ∙ ap (λ (id : List ℕ). lastWithId chars t id count) (q ∙ rw (eq-eqb (attributeId t i AId.Id) 0 (sym e ∙ z)) refl)

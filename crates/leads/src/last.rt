@@ -8,7 +8,7 @@ use tree::word;
 use tree::word::entry_word;
 use walk::value::part_at;
 ghost use mathlib.Core.Path.{_≡_};
-ghost use Prim.Native.Nat.{ℕ, _+_, _<_};
+ghost use Prim.Native.Nat.{ℕ, _+_, _<_, _≤_};
 ghost use lib.Dec.{eqb};
 ghost use lib.ListN.{length};
 ghost use Rattle.model.specs.Base.{sameBytes};
@@ -57,28 +57,56 @@ fn has_same_id(nodes: &[u32], attributes: &[u32], characters: &[u8], m: u32, j: 
     same_value(attributes, characters, k - 1, j)
 }
 
-// Is element i the last of the first `count` nodes with its id? Each node behind it is compared.
-fn is_last(nodes: &[u32], attributes: &[u32], characters: &[u8], count: u32, i: u32) -> bool
+// The last of the first `count` nodes whose id is the value of entry j, as its index plus 1; 0 for none. Each is compared.
+fn last_same(nodes: &[u32], attributes: &[u32], characters: &[u8], count: u32, j: u32) -> u32
     requires { ⌜ ((k : ℕ) → k < count → KnownIn (length (now characters)) (readOf (now nodes) (now attributes)) k) ⌝ }
-    requires { ⌜ i < count ⌝ }
-    ensures { λ r. ⌜ r ≡ eqb (lastWithId (now (characters .entry)) (readOf (now (nodes .entry)) (now (attributes .entry)))
-        (elementId (now (characters .entry)) (readOf (now (nodes .entry)) (now (attributes .entry))) i) count) (i + 1) ⌝ }
+    requires { ⌜ Known (length (now characters)) (entriesOf (now attributes)) j ⌝ }
+    ensures same { λ r. ⌜ r ≡ lastWithId (now (characters .entry)) (readOf (now (nodes .entry)) (now (attributes .entry)))
+        (valueOf (now (characters .entry)) (entryAt (entriesOf (now (attributes .entry))) j)) count ⌝ }
+    ensures low { λ r. ⌜ r ≤ count ⌝ }
 {
-    let j = attribute_id(nodes, attributes, i, aid::ID);
-    if j == 0 {
-        return false;
-    }
     let mut n = count;
-    while n > i + 1 {
-        if has_same_id(nodes, attributes, characters, n - 1, j - 1) {
-            return false;
+    while n > 0 {
+        if has_same_id(nodes, attributes, characters, n - 1, j) {
+            return n;
         }
         n -= 1;
     }
-    true
+    0
 }
 
-// The same by the chains of ids. An id that is a fixed value stands in none.
+// The last of the first `count` nodes with the id of element i, as its index plus 1; 0 for none. An element without an id asks for the
+// empty one. By the chains of ids; an id that is a fixed value stands in none.
+pub fn last_of(
+    nodes: &[u32],
+    attributes: &[u32],
+    characters: &[u8],
+    heads: &[u32; 2049],
+    count: u32,
+    i: u32,
+) -> u32
+    requires { ⌜ ((k : ℕ) → k < count → KnownIn (length (now characters)) (readOf (now nodes) (now attributes)) k) ⌝ }
+    requires { ⌜ Indexed (now characters) (readOf (now nodes) (now attributes)) (now heads) count ⌝ }
+    requires { ⌜ i < count ⌝ }
+    ensures same { λ r. ⌜ r ≡ lastWithId (now (characters .entry)) (readOf (now (nodes .entry)) (now (attributes .entry)))
+        (elementId (now (characters .entry)) (readOf (now (nodes .entry)) (now (attributes .entry))) i) count ⌝ }
+    ensures low { λ r. ⌜ r ≤ count ⌝ }
+{
+    let j = attribute_id(nodes, attributes, i, aid::ID);
+    if j == 0 {
+        let none = part_at(characters, 0, 0);
+        return find_id(nodes, attributes, characters, heads, none, count);
+    }
+    if entry_word(attributes, j - 1, word::COMMAND) == 0 {
+        return last_same(nodes, attributes, characters, count, j - 1);
+    }
+    let start = entry_word(attributes, j - 1, word::START);
+    let size = entry_word(attributes, j - 1, word::SIZE);
+    let id = part_at(characters, start as usize, size);
+    find_id(nodes, attributes, characters, heads, id, count)
+}
+
+// Is element i the last of the first `count` nodes with its id? One without an id is not.
 pub fn is_led(
     nodes: &[u32],
     attributes: &[u32],
@@ -93,15 +121,8 @@ pub fn is_led(
     ensures { λ r. ⌜ r ≡ eqb (lastWithId (now (characters .entry)) (readOf (now (nodes .entry)) (now (attributes .entry)))
         (elementId (now (characters .entry)) (readOf (now (nodes .entry)) (now (attributes .entry))) i) count) (i + 1) ⌝ }
 {
-    let j = attribute_id(nodes, attributes, i, aid::ID);
-    if j == 0 {
+    if attribute_id(nodes, attributes, i, aid::ID) == 0 {
         return false;
     }
-    if entry_word(attributes, j - 1, word::COMMAND) == 0 {
-        return is_last(nodes, attributes, characters, count, i);
-    }
-    let start = entry_word(attributes, j - 1, word::START);
-    let size = entry_word(attributes, j - 1, word::SIZE);
-    let id = part_at(characters, start as usize, size);
-    find_id(nodes, attributes, characters, heads, id, count) == i + 1
+    last_of(nodes, attributes, characters, heads, count, i) == i + 1
 }
