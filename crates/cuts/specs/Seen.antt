@@ -1,30 +1,28 @@
 -- The tables as the repairs see them, and what a step at one element leaves in them.
 use mathlib.Core.Path.{_≡_}
-use Prim.Native.Nat.{ℕ, _+_, _≤_}
+use Prim.Native.Nat.{ℕ, _+_, _-_, _*_, _/_, _<_, _≤_}
+use mathlib.Core.Bool.{Bool, false}
 use mathlib.Core.List.{List, []}
 use lib.Dec.{eqb, leb}
-use lib.ListN.{length, replicate}
-use Rattle.model.specs.Base.{pick, or, Pair}
-use Rattle.model.specs.AId
+use lib.ListN.{length, getD}
+use Rattle.model.specs.Base.{pick, Pair}
 use Rattle.model.specs.Drawing.{Value}
-use Rattle.model.specs.Tables.{Tree, attributeId, elementById}
-use Rattle.model.specs.Repair.{elementId, cutName, cutAt, applyCut, applied}
+use Rattle.model.specs.Tables.{Tree, word, parentOf, elementById}
+use Rattle.model.specs.Repair.{elementId, cutAt, applyCut, applied}
 use Rattle.model.specs.Theorems.Kept.{Tidy}
 use Rattle.model.specs.Theorems.GoingOn.{leadsTo, cutsAlong, goingOn}
 use Rattle.script.specs.declared.cursor.Cursor.{Cursor}
+use Rattle.script.specs.Step.{atStart}
 use Rattle.tree.specs.declared.Counts.{Counts}
 use Rattle.tree.specs.Lent.{treeOf, readOf}
 use Rattle.ids.specs.Chains.{Indexed}
-use Rattle.leads.specs.declared.lead.Aim.{Aim}
-use Rattle.leads.specs.Links.{Drawn}
+use Rattle.leads.specs.Links.{Drawn, valuesOf}
+use Rattle.targets.specs.Targets.{seenOf, Targeted}
+use Rattle.cuts.specs.declared.Aim.{Aim}
 
 -- What a function sees that is lent the nodes and their count.
 abbrev pub counted : List ℕ → ℕ → Tree
 counted ns n = treeOf ns [] [] (record { nodes = n; attributes = 0; text = 0 })
-
--- The tables, with as many zeros as there are bytes of text: the repairs read no text.
-abbrev pub seenOf : List ℕ → List ℕ → Counts → Tree
-seenOf ns es c = treeOf ns es (replicate (c .text) 0) c
 
 -- What the repairs ask: a drawing that check takes, marks of its script, a cursor in it, tables that are tidy beside its characters, and
 -- heads of the chains of their ids.
@@ -33,14 +31,29 @@ pub record Mendable (script chars marks heads ns es : List ℕ) (c : Counts) (hi
   pub tidy : Tidy (length chars) (seenOf ns es c)
   pub indexed : Indexed chars (readOf ns es) heads (c .nodes)
 
--- An element that one of the passes 1 to 5 aims at. A pattern is led to by its id, any other element by links that find it.
+-- What pass k asks, one of the passes 1 to 5: that, and marks of its links in the tables, if the word behind the heads says so.
+pub record Cuttable (script chars marks heads ns es : List ℕ) (c : Counts) (k : ℕ) : Type 0 where
+  pub mendable : Mendable script chars marks heads ns es c atStart
+  pub targeted : (getD heads 2048 0 ≡ 0 → ⊥) → Targeted chars (valuesOf script chars) k (seenOf ns es c)
+
+-- AIMS
+
+-- The mark of the links that lead to element i in pass k, 0 where none can. A pattern is led to by its id, as are all others with that id;
+-- any other element only if it is the last one with its id.
+unfoldable pub keyOf : List ℕ → ℕ → Tree → ℕ → ℕ
+keyOf chars k t i =
+    let w : ℕ = elementById chars t (elementId chars t i) in
+    pick (leb k 2) (λ u. pick (eqb w 0) (λ v. 1) (λ v. w + 1)) (λ u. pick (eqb w (i + 1)) (λ v. i + 2) (λ v. 0))
+
+-- An element that one of the passes 1 to 5 aims at, and to which links can lead.
 pub record Aimed (chars : List ℕ) (t : Tree) (aim : Aim) : Type 0 where
   pub first : 1 ≤ aim .pass
   pub last : aim .pass ≤ 5
-  pub name : aim .name ≡ cutName (aim .pass)
-  pub kind : aim .kind ≡ pick (leb (aim .pass) 2) (λ u. 3) (λ u. 2)
-  pub id : aim .id ≡ attributeId t (aim .element) AId.Id
-  pub led : aim .led ≡ or (leb (aim .pass) 2) (eqb (elementById chars t (elementId chars t (aim .element))) (aim .element + 1))
+  pub inside : aim .element < t .nodeCount
+  pub key : aim .key ≡ keyOf chars (aim .pass) t (aim .element)
+  pub some : aim .key ≡ 0 → ⊥
+
+-- CUTS
 
 -- The tree with node m's value cut, where it leads to element i.
 abbrev pub cutBack : List ℕ → List Value → ℕ → ℕ → Tree → ℕ → Tree
@@ -53,3 +66,30 @@ cutNodes chars values k t ms = applied t (cutsAlong chars values k t ms)
 -- The tree behind the cuts of pairs, each of an element and a node below it.
 abbrev pub cutPairs : List ℕ → List Value → ℕ → Tree → List Pair → Tree
 cutPairs chars values k t ps = applied t (goingOn chars values k t ps)
+
+-- NODES THAT ARE LOOKED THROUGH
+
+-- Node x is node i, or stands below it.
+pub record Below (t : Tree) (i x : ℕ) : Type 0 where
+  pub low : i ≤ x
+  pub high : x < t .nodeCount
+  pub between : (y : ℕ) → i < y → y ≤ x → i < parentOf t y
+
+-- Neither node w nor a node below it leads to the element i in pass k.
+abbrev pub Still : List ℕ → List Value → ℕ → Tree → ℕ → ℕ → Type 0
+Still chars values k t i w = (x : ℕ) → Below t w x → leadsTo chars values k t i x ≡ false
+
+-- Of every 256 nodes at most one is remembered, as its index plus 1: it is still.
+pub record Quiet (chars : List ℕ) (values : List Value) (k : ℕ) (t : Tree) (i : ℕ) (ws : List ℕ) : Type 0 where
+  pub still : (b q : ℕ) → 256 * b < t .nodeCount → b < 4096 → getD ws b 0 ≡ q + 1 → Still chars values k t i q
+
+-- The remembered one of node w's block is w, or w stands below it.
+pub record Covered (ns ws : List ℕ) (w : ℕ) : Type 0 where
+  pub block : w / 256 < 4096
+  pub some : getD ws (w / 256) 0 ≡ 0 → ⊥
+  pub low : getD ws (w / 256) 0 ≤ w + 1
+  pub between : (y : ℕ) → getD ws (w / 256) 0 ≤ y → y ≤ w → getD ws (w / 256) 0 ≤ word ns y 1
+
+-- Any other node than w that is remembered was remembered before.
+abbrev pub Hushed : List ℕ → ℕ → List ℕ → Type 0
+Hushed ws w ws′ = (b q : ℕ) → getD ws′ b 0 ≡ q + 1 → (q ≡ w → ⊥) → getD ws b 0 ≡ q + 1

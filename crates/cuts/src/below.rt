@@ -8,13 +8,14 @@ ghost use lib.ListN.{length};
 ghost use Rattle.model.specs.Tables.{attributeId};
 ghost use Rattle.model.specs.Repair.{upFrom, descendants};
 ghost use Rattle.tree.specs.Lent.{readOf, Readable};
-ghost use Rattle.cuts.specs.Seen.{counted};
+ghost use Rattle.cuts.specs.Seen.{counted, Below};
 
 // `descendants` of node i: from i up to the node that is answered, the first behind i whose parent comes before i.
 pub fn behind_below(nodes: &[u32], count: u32, i: u32) -> u32
     requires { ⌜ (i < count) × (8 * count ≤ length (now nodes)) ⌝ }
     ensures same { λ r. ⌜ descendants (counted (now (nodes .entry)) count) i ≡ upFrom i (r - i) ⌝ }
     ensures within { λ r. ⌜ (i < r) × (r ≤ count) ⌝ }
+    ensures all { λ r. ⌜ ((x : ℕ) → Below (counted (now (nodes .entry)) count) i x → x < r) ⌝ }
 {
     let mut j = i + 1;
     while j < count {
