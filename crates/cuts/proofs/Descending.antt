@@ -3,12 +3,13 @@ use mathlib.Core.Path.{_≡_, refl, sym, ap, _∙_}
 use mathlib.Core.List.{List, [], _∷_, _++_, append-assoc, append-nil}
 use Prim.Native.Nat.{ℕ, zero, suc, _+_, _-_, _<_, _≤_}
 use native.Mathlib.Omega.{arith}
-use native.Mathlib.Decide.{ℕ-discrete}
+use native.Mathlib.Decide.{ℕ-discrete, decLt}
 use borrow.Author.Tests.{le-leb, lt-leb}
 use lib.Dec.{leb}
 use Rattle.model.specs.Base.{pick}
 use Rattle.model.specs.Tables.{Tree, word, parentOf, attributeId}
 use Rattle.model.specs.Repair.{upFrom, belowFrom, descendants}
+use Rattle.cuts.specs.Seen.{Below}
 
 -- One more node at the end.
 pub up-more : (n i : ℕ) → upFrom i (suc n) ≡ upFrom i n ++ ((i + n) ∷ [])
@@ -76,6 +77,17 @@ module _ (t : Tree) (i j : ℕ) (p : Passed t i j) where
   unfolding belowFrom
   passed-all h =
       p .same ∙ ap (λ (l : List ℕ). upFrom i (j - i) ++ belowFrom t i l) (up-none j (t .nodeCount) h) ∙ append-nil (upFrom i (j - i))
+
+-- No node from there on stands below i.
+pub below-stop : (t : Tree) (i j : ℕ) → i < j → parentOf t j ≤ i → (x : ℕ) → Below t i x → x < j
+below-stop t i j l w x b = go (decLt x j)
+  where
+    go : Dec (x < j) → x < j
+    go (yes d) = d
+    go (no d) = absurd (omega (arith, b .between j l (omega arith)))
+
+pub below-all : (t : Tree) (i j : ℕ) → t .nodeCount ≤ j → (x : ℕ) → Below t i x → x < j
+below-all t i j l x b = omega (arith, b .high)
 
 -- Only the nodes and their count are read.
 below-alike : (t u : Tree) → t .nodes ≡ u .nodes → (i : ℕ) (js : List ℕ) → belowFrom t i js ≡ belowFrom u i js

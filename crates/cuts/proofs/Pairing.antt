@@ -2,56 +2,34 @@
 use mathlib.Core.Path.{_≡_, refl, sym, ap, _∙_, subst}
 use mathlib.Core.Bool.{Bool, true, false}
 use mathlib.Core.List.{List, [], _∷_}
-use mathlib.Core.Option.{Option, none, some}
-use Prim.Native.Nat.{ℕ, zero, suc, _+_, _-_, _<_, _≤_}
+use Prim.Native.Nat.{ℕ, zero, suc, _+_, _-_, _*_, _<_, _≤_}
 use native.Mathlib.Omega.{arith}
-use borrow.Author.Tests.{eq-eqb, ne-eqb}
+use borrow.Author.Tests.{eq-eqb, ne-eqb, le-leb, lt-leb}
 use lib.Dec.{eqb, leb}
-use lib.ListN.{length}
-use Rattle.model.specs.Base.{pick, given, Pair}
+use lib.ListN.{length, getD}
+use Rattle.model.specs.Base.{pick, Pair}
 use Rattle.model.specs.AId
-use Rattle.model.specs.Drawing.{Part, Value, events, readingOf, readingsOf}
-use Rattle.model.specs.Tables.{Tree, attributeId, attributeOf, lastWithId, elementById}
-use Rattle.model.specs.Repair.{upFrom, descendants, linkKind, readingsOfAttribute, linkOf, nodeAttribute}
+use Rattle.model.specs.Drawing.{Value, events, readingOf, readingsOf}
+use Rattle.model.specs.Tables.{Tree, attributeId, attributeOf}
+use Rattle.model.specs.Repair.{upFrom, descendants, readingsOfAttribute, nodeAttribute}
 use Rattle.model.specs.Repair.{Cut, cutName, cutAt, applyCut, applied}
 use Rattle.model.specs.Theorems.Inside.{all-inside}
 use Rattle.model.specs.Theorems.Images.{values-bare}
 use Rattle.model.specs.Theorems.Kept.{Tidy}
 use Rattle.model.specs.Theorems.GoingOn.{passing, leadsTo, targetOf, nodesAt, cutsAlong, withEach, goingOn}
-use Rattle.script.specs.declared.cursor.Cursor.{Cursor}
-use Rattle.script.specs.Step.{Fit}
 use Rattle.tree.specs.declared.Counts.{Counts}
 use Rattle.tree.specs.Lent.{readOf}
-use Rattle.tree.proofs.Alike.{id-same, last-same}
-use Rattle.leads.specs.declared.lead.Aim.{Aim}
-use Rattle.leads.specs.Links.{valuesOf, idAt, ledBy}
-use Rattle.cuts.specs.Seen.{counted, seenOf, Mendable, Aimed, cutBack, cutNodes, cutPairs}
-use Rattle.cuts.proofs.Writing.{applied-more, mend-on, long-on}
-use Rattle.cuts.proofs.Turning.{by-func, no-id, link-seen, leads-compared, leads-entry, cut-tidy, cut-aimed}
+use Rattle.tree.proofs.Alike.{id-same}
+use Rattle.leads.specs.Links.{valuesOf}
+use Rattle.targets.specs.Targets.{seenOf, markOf}
+use Rattle.targets.proofs.Passes.{no-id}
+use Rattle.targets.proofs.Marks.{mark-target, mark-low}
+use Rattle.cuts.specs.declared.Aim.{Aim}
+use Rattle.cuts.specs.Seen.{counted, Cuttable, keyOf, Aimed, Quiet, Covered, cutBack, cutNodes, cutPairs}
+use Rattle.cuts.proofs.Writing.{applied-more, cuttable-on, long-on}
+use Rattle.cuts.proofs.Turning.{never-led, leads-entry, cut-tidy, cut-aimed}
 use Rattle.cuts.proofs.Descending.{up-step, up-none, descendants-alike}
-
--- Where the link of a node leads.
-target-compared : (chars : List ℕ) (values : List Value) (t : Tree) (aim : Aim) → Aimed chars t aim → (m : ℕ)
-    → targetOf chars values (aim .pass) t m
-    ≡ given (linkOf chars values (aim .kind) t (aim .name) m) (λ v. elementById chars t (v .bytes)) (λ u. 0)
-unfolding targetOf nodeAttribute
-target-compared chars values t aim w m =
-    go (leb (aim .pass) 2)
-    ∙ sym (ap (λ (n : ℕ). given (linkOf chars values n t (aim .name) m) (λ v. elementById chars t (v .bytes)) (λ u. 0)) (w .kind)
-    ∙ ap (λ (a : ℕ). given (linkOf chars values (pick (leb (aim .pass) 2) (λ u. 3) (λ u. 2)) t a m) (λ v. elementById chars t (v .bytes))
-    (λ u. 0)) (w .name))
-  where
-    a : ℕ
-    a = cutName (aim .pass)
-
-    go : (b : Bool)
-        → pick b (λ u. given (linkOf chars values 3 t a m) (λ v. elementById chars t (v .bytes)) (λ x. 0))
-        (λ u. given (linkOf chars values (linkKind a) t a m) (λ v. elementById chars t (v .bytes)) (λ x. 0))
-        ≡ given (linkOf chars values (pick b (λ u. 3) (λ u. 2)) t a m) (λ v. elementById chars t (v .bytes)) (λ u. 0)
-    go true = refl
-    go false =
-        ap (λ (n : ℕ). given (linkOf chars values n t a m) (λ v. elementById chars t (v .bytes)) (λ x. 0))
-        (by-func (aim .pass) (w .first) (w .last))
+use Rattle.cuts.proofs.Quieting.{quiet-first, covered-still, still-none, nodes-quiet}
 
 module _ (script chars ns es : List ℕ) (c : Counts) (aim : Aim) (w : Aimed chars (seenOf ns es c) aim) (m : ℕ) where
   abbrev values : List Value
@@ -60,25 +38,18 @@ module _ (script chars ns es : List ℕ) (c : Counts) (aim : Aim) (w : Aimed cha
   abbrev t : Tree
   t = seenOf ns es c
 
-  -- The link as it was read.
-  abbrev link : Option Part
-  link = linkOf chars values (aim .kind) (readOf ns es) (aim .name) m
+  -- Where its link leads, by its mark.
+  pub target-nowhere : (n : ℕ) → n ≡ markOf chars values (aim .pass) t m → n < 2 → targetOf chars values (aim .pass) t m ≡ 0
+  target-nowhere n e l = mark-target chars values (aim .pass) (w .first) (w .last) t m ∙ rw (← e, lt-leb 2 n l) refl
 
-  by-link : targetOf chars values (aim .pass) t m ≡ given link (λ v. elementById chars t (v .bytes)) (λ u. 0)
-  by-link =
-      target-compared chars values t aim w m
-      ∙ sym (ap (λ (o : Option Part). given o (λ v. elementById chars t (v .bytes)) (λ u. 0))
-      (link-seen chars values t (aim .kind) (aim .name) m))
+  pub target-on : (n : ℕ) → n ≡ markOf chars values (aim .pass) t m → 2 ≤ n → n - 2 + 1 ≡ targetOf chars values (aim .pass) t m
+  target-on n e l =
+      let z : n - 2 + 1 ≡ n - 1 = omega arith in
+      z ∙ sym (mark-target chars values (aim .pass) (w .first) (w .last) t m ∙ rw (← e, le-leb 2 n l) refl)
 
-  pub target-nowhere : none ≡ link → targetOf chars values (aim .pass) t m ≡ 0
-  target-nowhere e = by-link ∙ sym (ap (λ (o : Option Part). given o (λ v. elementById chars t (v .bytes)) (λ u. 0)) e)
-
-  pub target-on : (v : Part) → some v ≡ link → (p : List ℕ) → p ≡ v .bytes → (n : ℕ)
-      → n ≡ lastWithId chars (readOf ns es) p (c .nodes) → n ≡ targetOf chars values (aim .pass) t m
-  unfolding elementById
-  target-on v e p q n h =
-      h ∙ last-same t chars p (c .nodes) ∙ ap (λ (b : List ℕ). elementById chars t b) q
-      ∙ ap (λ (o : Option Part). given o (λ x. elementById chars t (x .bytes)) (λ u. 0)) e ∙ sym by-link
+  -- It leads to a node of the tree.
+  pub target-inside : (n : ℕ) → n ≡ markOf chars values (aim .pass) t m → 2 ≤ n → n - 2 < c .nodes
+  target-inside n e l = omega (arith, mark-low chars values (aim .pass) t m, e)
 
   -- What the pair leaves.
   pub pair-back : leadsTo chars values (aim .pass) t (aim .element) m ≡ true
@@ -175,59 +146,65 @@ unfolding passing
 none-passing f h [] = refl
 none-passing f h (x ∷ xs) = rw (h x) (none-passing f h xs)
 
-unled-nodes : (chars : List ℕ) (values : List Value) (t : Tree) (aim : Aim) → Aimed chars t aim → aim .led ≡ false → (j : ℕ)
-    → nodesAt chars values (aim .pass) t (aim .element) j ≡ []
+unled-nodes : (chars : List ℕ) (values : List Value) (k : ℕ) → 1 ≤ k → k ≤ 5 → (t : Tree) (i : ℕ) → keyOf chars k t i ≡ 0 → (j : ℕ)
+    → nodesAt chars values k t i j ≡ []
 unfolding nodesAt
-unled-nodes chars values t aim w h j = rw (never j) (go (eqb (targetOf chars values (aim .pass) t j) 0))
+unled-nodes chars values k f l t i h j = rw (never j) (go (eqb (targetOf chars values k t j) 0))
   where
-    f : ℕ → Bool
-    f = leadsTo chars values (aim .pass) t (aim .element)
+    never : (m : ℕ) → leadsTo chars values k t i m ≡ false
+    never = never-led chars values k f l t i h
 
-    never : (m : ℕ) → f m ≡ false
-    never m =
-        leads-compared chars values t aim w m
-        ∙ ap (λ (b : Bool). ledBy b (idAt chars t (aim .id)) (linkOf chars values (aim .kind) t (aim .name) m)) h
-
-    go : (b : Bool) → pick b (λ u. []) (λ u. passing f (descendants t (targetOf chars values (aim .pass) t j - 1))) ≡ []
+    go : (b : Bool) → pick b (λ u. []) (λ u. passing (leadsTo chars values k t i) (descendants t (targetOf chars values k t j - 1))) ≡ []
     go true = refl
-    go false = none-passing f never (descendants t (targetOf chars values (aim .pass) t j - 1))
+    go false = none-passing (leadsTo chars values k t i) never (descendants t (targetOf chars values k t j - 1))
 
 -- THE LOOP
 
--- In the middle of the nodes from `first` up to the node `end`: j is next, and what is still to do leaves what all of it leaves.
-pub record Pairs (script chars marks heads ns : List ℕ) (c : Counts) (aim : Aim) (first end : ℕ) (es₀ es : List ℕ) (j : ℕ) (hint : Cursor)
-    : Type 0 where
-  pub mendable : Mendable script chars marks heads ns es c hint
+-- In the middle of the nodes from `first` up to the node `end`: j is next, the nodes that are remembered are still, and what is still to do
+-- leaves what all of it leaves.
+pub record Pairs (script chars marks heads ns : List ℕ) (c : Counts) (aim : Aim) (first end : ℕ) (es₀ es ws : List ℕ) (j : ℕ) : Type 0 where
+  pub cuttable : Cuttable script chars marks heads ns es c (aim .pass)
   pub aimed : Aimed chars (seenOf ns es c) aim
   pub inside : end ≤ c .nodes
   pub long : length es ≡ length es₀
+  pub quiet : Quiet chars (valuesOf script chars) (aim .pass) (seenOf ns es c) (aim .element) ws
   pub same : cutPairs chars (valuesOf script chars) (aim .pass) (seenOf ns es c) (withEach (aim .element) (upFrom j (end - j)) [])
       ≡ cutPairs chars (valuesOf script chars) (aim .pass) (seenOf ns es₀ c) (withEach (aim .element) (upFrom first (end - first)) [])
 
-pub pairs-start : (script chars marks heads ns : List ℕ) (c : Counts) (aim : Aim) (first end : ℕ) (es : List ℕ) (hint : Cursor)
-    → Mendable script chars marks heads ns es c hint → Aimed chars (seenOf ns es c) aim → end ≤ c .nodes
-    → Pairs script chars marks heads ns c aim first end es es first hint
-pairs-start script chars marks heads ns c aim first end es hint g a h = record { mendable = g; aimed = a; inside = h; long = refl; same = refl }
+pub pairs-start : (script chars marks heads ns : List ℕ) (c : Counts) (aim : Aim) (first end : ℕ) (es ws : List ℕ)
+    → Cuttable script chars marks heads ns es c (aim .pass) → Aimed chars (seenOf ns es c) aim → end ≤ c .nodes
+    → ((b : ℕ) → 256 * b < c .nodes → b < 4096 → getD ws b 0 ≡ 0)
+    → Pairs script chars marks heads ns c aim first end es es ws first
+pairs-start script chars marks heads ns c aim first end es ws g a h z = record {
+  cuttable = g;
+  aimed = a;
+  inside = h;
+  long = refl;
+  quiet = quiet-first _ _ _ _ _ ws z;
+  same = refl;
+}
 
-module _ (script chars marks heads ns : List ℕ) (c : Counts) (aim : Aim) (first end : ℕ) (es₀ es : List ℕ) (j : ℕ) (hint : Cursor)
-    (q : Pairs script chars marks heads ns c aim first end es₀ es j hint) where
-  pub pairs-turn : j < end → (es′ : List ℕ) (n : Cursor)
+module _ (script chars marks heads ns : List ℕ) (c : Counts) (aim : Aim) (first end : ℕ) (es₀ es ws : List ℕ) (j : ℕ)
+    (q : Pairs script chars marks heads ns c aim first end es₀ es ws j) where
+  pub pairs-turn : j < end → (es′ ws′ : List ℕ)
       → seenOf ns es′ c ≡ cutNodes chars (valuesOf script chars) (aim .pass) (seenOf ns es c)
       (nodesAt chars (valuesOf script chars) (aim .pass) (seenOf ns es c) (aim .element) j)
-      → Fit script n → Pairs script chars marks heads ns c aim first end es₀ es′ (j + 1) n
-  pairs-turn l es′ n e f =
+      → Quiet chars (valuesOf script chars) (aim .pass) (seenOf ns es′ c) (aim .element) ws′
+      → Pairs script chars marks heads ns c aim first end es₀ es′ ws′ (j + 1)
+  pairs-turn l es′ ws′ e still =
       let t : Tree = seenOf ns es c in
       let vs : List Value = valuesOf script chars in
-      let bare = values-bare (length chars) (events script chars) (all-inside script chars (q .mendable .drawn .checked)) in
-      let other = no-id (aim .pass) (q .aimed .last) in
+      let bare = values-bare (length chars) (events script chars) (all-inside script chars (q .cuttable .mendable .drawn .checked)) in
+      let other = no-id (aim .pass) in
       let ms : List ℕ = nodesAt chars vs (aim .pass) t (aim .element) j in
       let cs : List Cut = cutsAlong chars vs (aim .pass) t ms in
       record {
-        mendable = mend-on script chars marks heads ns es c cs es′ e hint (q .mendable) n f;
+        cuttable = cuttable-on script chars marks heads ns es c cs es′ e (aim .pass) (q .aimed .first) (q .aimed .last) (q .cuttable);
         aimed = subst (λ (u : Tree). Aimed chars u aim) (sym e)
-            (nodes-aimed (length chars) chars vs bare (aim .pass) other aim ms t (q .mendable .tidy) (q .aimed));
+            (nodes-aimed (length chars) chars vs bare (aim .pass) other aim ms t (q .cuttable .mendable .tidy) (q .aimed));
         inside = q .inside;
         long = long-on script chars marks heads ns es c cs es′ e ∙ q .long;
+        quiet = still;
         same =
             ap (λ (u : Tree). cutPairs chars vs (aim .pass) u (withEach (aim .element) (upFrom (j + 1) (end - (j + 1))) [])) e
             ∙ sym (pair-first chars vs (aim .pass) (aim .element) t j (upFrom (j + 1) (end - (j + 1))) [])
@@ -271,14 +248,34 @@ module _ (script chars ns es : List ℕ) (c : Counts) (k i end first n : ℕ) (d
       ∙ from-first
 
   -- No link leads to it.
-  pub element-unled : (aim : Aim) → (aim .pass ≡ k) × (aim .element ≡ i) → Aimed chars own aim → aim .led ≡ false
+  pub element-unled : 1 ≤ k → k ≤ 5 → keyOf chars k own i ≡ 0
       → own ≡ cutPairs chars (valuesOf script chars) k own (withEach i (descendants own i) [])
-  element-unled aim told w f =
-      all-quiet chars (valuesOf script chars) (aim .pass) (aim .element) own
-      (unled-nodes chars (valuesOf script chars) own aim w f) (descendants own i)
-      ∙ rw (told .0, told .1) refl
+  element-unled f l z =
+      all-quiet chars (valuesOf script chars) k i own (unled-nodes chars (valuesOf script chars) k f l own i z) (descendants own i)
 
-  pub element-pairs : (p x : ℕ) → (p ≡ k) × (x ≡ i) → (u : Tree)
-      → u ≡ cutPairs chars (valuesOf script chars) p own (withEach x (upFrom first (end - first)) [])
+  pub element-pairs : (u : Tree) → u ≡ cutPairs chars (valuesOf script chars) k own (withEach i (upFrom first (end - first)) [])
       → u ≡ cutPairs chars (valuesOf script chars) k own (withEach i (descendants own i) [])
-  element-pairs p x told u q = q ∙ rw (told .0, told .1) from-first
+  element-pairs u q = q ∙ from-first
+
+-- WHAT A TARGET AND A PAIR LEAVE
+
+module _ (script chars marks heads ns es : List ℕ) (c : Counts) (aim : Aim) (g : Cuttable script chars marks heads ns es c (aim .pass))
+    (ws : List ℕ) (q : Quiet chars (valuesOf script chars) (aim .pass) (seenOf ns es c) (aim .element) ws) where
+  -- A node that is covered: nothing is cut.
+  pub covered-kept : (w : ℕ) → w < c .nodes → Covered ns ws w
+      → seenOf ns es c ≡ cutNodes chars (valuesOf script chars) (aim .pass) (seenOf ns es c)
+      (passing (leadsTo chars (valuesOf script chars) (aim .pass) (seenOf ns es c) (aim .element)) (descendants (seenOf ns es c) w))
+  unfolding cutsAlong applied
+  covered-kept w l h =
+      let e = still-none (seenOf ns es c) (leadsTo chars (valuesOf script chars) (aim .pass) (seenOf ns es c) (aim .element)) w l
+      (covered-still chars (valuesOf script chars) (aim .pass) (seenOf ns es c) (aim .element) ws q w l h) in
+      rw e refl
+
+  -- What is remembered is still behind cuts.
+  pub quiet-on : (ms es′ : List ℕ) → seenOf ns es′ c ≡ cutNodes chars (valuesOf script chars) (aim .pass) (seenOf ns es c) ms
+      → Quiet chars (valuesOf script chars) (aim .pass) (seenOf ns es′ c) (aim .element) ws
+  quiet-on ms es′ e =
+      let bare = values-bare (length chars) (events script chars) (all-inside script chars (g .mendable .drawn .checked)) in
+      subst (λ (u : Tree). Quiet chars (valuesOf script chars) (aim .pass) u (aim .element) ws) (sym e)
+      (nodes-quiet (length chars) chars (valuesOf script chars) bare (aim .pass) (aim .element) (no-id (aim .pass)) ms (seenOf ns es c)
+      (g .mendable .tidy) ws q)

@@ -6,10 +6,10 @@ use mathlib.Core.Option.{Option, none, some}
 use Prim.Native.Nat.{ℕ, zero, suc, _+_, _-_, _<_, _≤_}
 use native.Mathlib.Omega.{arith}
 use native.Mathlib.Decide.{ℕ-discrete}
-use borrow.Author.Tests.{eqb-true, eq-eqb, ne-eqb}
+use borrow.Author.Tests.{eqb-true, eq-eqb, ne-eqb, leb-true, leb-false}
 use lib.Dec.{eqb, leb}
 use lib.ListN.{length}
-use Rattle.model.specs.Base.{pick, and, or, given, sameBytes}
+use Rattle.model.specs.Base.{pick, given}
 use Rattle.model.specs.AId
 use Rattle.model.specs.Drawing.{Part, Value, events, readingOf, readingsOf}
 use Rattle.model.specs.Tables.{Tree, entryWord, entryAt, attributeId, attributeOf, elementById, setNone}
@@ -19,20 +19,18 @@ use Rattle.model.specs.Theorems.Inside.{all-inside}
 use Rattle.model.specs.Theorems.Images.{values-bare}
 use Rattle.model.specs.Theorems.Whole.{cuts-tidy}
 use Rattle.model.specs.Theorems.Kept.{Tidy, attribute-any}
-use Rattle.model.specs.Theorems.Cuts as cuts
 use Rattle.model.specs.Theorems.Cuts.{by-id-kept, element-id-kept}
 use Rattle.model.specs.Theorems.GoingOn.{passing, Without, leadsTo, cutsAlong, cut-is, leads-without}
-use Rattle.script.specs.declared.cursor.Cursor.{Cursor}
-use Rattle.script.specs.Step.{Fit}
 use Rattle.tree.specs.declared.Counts.{Counts}
 use Rattle.tree.specs.Lent.{readOf, entriesOf}
-use Rattle.tree.proofs.Bools.{and-false}
 use Rattle.tree.proofs.Alike.{id-same, attribute-same}
-use Rattle.leads.specs.declared.lead.Aim.{Aim}
-use Rattle.leads.specs.declared.lead.Lead.{Lead}
-use Rattle.leads.specs.Links.{valuesOf, Stands, idAt, ledBy, isBack, LeadFit}
-use Rattle.cuts.specs.Seen.{counted, seenOf, Mendable, Aimed, cutBack, cutNodes}
-use Rattle.cuts.proofs.Writing.{mend-on, long-on}
+use Rattle.leads.specs.Links.{valuesOf, Stands}
+use Rattle.targets.specs.Targets.{seenOf, markOf}
+use Rattle.targets.proofs.Passes.{no-id}
+use Rattle.targets.proofs.Marks.{mark-leads-link, mark-leads-paint}
+use Rattle.cuts.specs.declared.Aim.{Aim}
+use Rattle.cuts.specs.Seen.{counted, Cuttable, keyOf, Aimed, cutBack, cutNodes}
+use Rattle.cuts.proofs.Writing.{cuttable-on, long-on}
 use Rattle.leads.proofs.Lasting.{compared}
 use Rattle.cuts.proofs.Descending.{up-step, up-none, descendants-alike}
 
@@ -53,69 +51,65 @@ id-stands size t g i j e z =
     let l : j - 1 < t .attributeCount = omega (arith, e, h, z) in
     (omega (arith, l, g .kept .fits .entries), g .kept .entries (j - 1) l .inside)
 
--- No pass leads by an href.
-pub by-func : (k : ℕ) → 1 ≤ k → k ≤ 5 → linkKind (cutName k) ≡ 2
-unfolding cutName
-by-func zero f l = absurd (omega arith)
-by-func (suc zero) f l = refl
-by-func (suc (suc zero)) f l = refl
-by-func (suc (suc (suc zero))) f l = refl
-by-func (suc (suc (suc (suc zero)))) f l = refl
-by-func (suc (suc (suc (suc (suc zero))))) f l = refl
-by-func (suc (suc (suc (suc (suc (suc k)))))) f l = absurd (omega arith)
-
--- No pass cuts an id.
-pub no-id : (k : ℕ) → k ≤ 5 → cutName k ≡ AId.Id → ⊥
-unfolding cutName
-no-id zero l e = omega arith
-no-id (suc zero) l e = omega arith
-no-id (suc (suc zero)) l e = omega arith
-no-id (suc (suc (suc zero))) l e = omega arith
-no-id (suc (suc (suc (suc zero)))) l e = omega arith
-no-id (suc (suc (suc (suc (suc zero))))) l e = omega arith
-no-id (suc (suc (suc (suc (suc (suc k)))))) l e = omega arith
-
--- Whether node m leads to the element is told by comparison.
-pub leads-compared : (chars : List ℕ) (values : List Value) (t : Tree) (aim : Aim) → Aimed chars t aim → (m : ℕ)
-    → leadsTo chars values (aim .pass) t (aim .element) m
-    ≡ ledBy (aim .led) (idAt chars t (aim .id)) (linkOf chars values (aim .kind) t (aim .name) m)
-unfolding leadsTo paintsWith nodeAttribute elementId
-leads-compared chars values t aim w m =
-    go (leb (aim .pass) 2) refl
-    ∙ sym (ap (λ (b : Bool). ledBy b (idAt chars t (aim .id)) (linkOf chars values (aim .kind) t (aim .name) m)) (w .led)
-    ∙ ap (λ (j : ℕ). ledBy led (idAt chars t j) (linkOf chars values (aim .kind) t (aim .name) m)) (w .id)
-    ∙ ap (λ (n : ℕ). ledBy led id (linkOf chars values n t (aim .name) m)) (w .kind)
-    ∙ ap (λ (a : ℕ). ledBy led id (linkOf chars values kind t a m)) (w .name))
+-- Whether node m leads to the element is told by its mark.
+pub leads-marked : (chars : List ℕ) (values : List Value) (t : Tree) (aim : Aim) → Aimed chars t aim → (m : ℕ)
+    → leadsTo chars values (aim .pass) t (aim .element) m ≡ eqb (markOf chars values (aim .pass) t m) (aim .key)
+unfolding keyOf
+leads-marked chars values t aim w m = go (leb (aim .pass) 2) refl (λ z. w .some (w .key ∙ z))
   where
+    k : ℕ
+    k = aim .pass
+
     i : ℕ
     i = aim .element
 
-    a : ℕ
-    a = cutName (aim .pass)
+    n : ℕ
+    n = elementById chars t (elementId chars t i)
 
-    id : List ℕ
-    id = elementId chars t i
+    by-key : (x : ℕ) → keyOf chars k t i ≡ x → leadsTo chars values k t i m ≡ eqb (markOf chars values k t m) x
+        → leadsTo chars values k t i m ≡ eqb (markOf chars values k t m) (aim .key)
+    by-key x e q = q ∙ ap (eqb (markOf chars values k t m)) (sym (w .key ∙ e))
 
-    kind : ℕ
-    kind = pick (leb (aim .pass) 2) (λ u. 3) (λ u. 2)
+    other : (b : Bool) → (pick b (λ v. i + 2) (λ v. 0) ≡ 0 → ⊥) → pick b (λ v. i + 2) (λ v. 0) ≡ i + 2
+    other true z = refl
+    other false z = absurd (z refl)
 
-    led : Bool
-    led = or (leb (aim .pass) 2) (eqb (elementById chars t id) (i + 1))
+    go : (b : Bool) → leb k 2 ≡ b → (keyOf chars k t i ≡ 0 → ⊥)
+        → leadsTo chars values k t i m ≡ eqb (markOf chars values k t m) (aim .key)
+    go true e z =
+        by-key _ (rw e refl) (mark-leads-paint chars values k (w .first) (leb-true k 2 e) t i m (w .inside))
+    go false e z =
+        by-key (i + 2) (rw e (other (eqb n (i + 1)) (rw e at z)))
+        (mark-leads-link chars values k (omega (arith, leb-false k 2 e)) (w .last) t i m)
 
-    found : (o : Option Part) → eqb (given o (λ v. elementById chars t (v .bytes)) (λ u. 0)) (i + 1)
-        ≡ ledBy (eqb (elementById chars t id) (i + 1)) id o
-    found none = ne-eqb 0 (i + 1) (λ z. omega arith) ∙ and-false (eqb (elementById chars t id) (i + 1))
-    found (some v) = compared chars t i (v .bytes)
+-- An element to which no link can lead.
+pub never-led : (chars : List ℕ) (values : List Value) (k : ℕ) → 1 ≤ k → k ≤ 5 → (t : Tree) (i : ℕ) → keyOf chars k t i ≡ 0 → (m : ℕ)
+    → leadsTo chars values k t i m ≡ false
+unfolding keyOf leadsTo nodeAttribute
+never-led chars values k f l t i z m = go (leb k 2) z
+  where
+    n : ℕ
+    n = elementById chars t (elementId chars t i)
 
-    go : (b : Bool) → leb (aim .pass) 2 ≡ b
-        → pick b (λ u. given (linkOf chars values 3 t a m) (λ v. sameBytes (v .bytes) id) (λ u. false))
-        (λ u. eqb (given (linkOf chars values (linkKind a) t a m) (λ v. elementById chars t (v .bytes)) (λ u. 0)) (i + 1))
-        ≡ ledBy (or b (eqb (elementById chars t id) (i + 1))) id (linkOf chars values (pick b (λ u. 3) (λ u. 2)) t a m)
-    go true e = refl
-    go false e =
-        ap (λ (n : ℕ). eqb (given (linkOf chars values n t a m) (λ v. elementById chars t (v .bytes)) (λ u. 0)) (i + 1))
-        (by-func (aim .pass) (w .first) (w .last))
-        ∙ found (linkOf chars values 2 t a m)
+    some : (b : Bool) → pick b (λ v. 1) (λ v. n + 1) ≡ 0 → ⊥
+    some true e = omega arith
+    some false e = omega arith
+
+    at : (o : Option Part) → eqb n (i + 1) ≡ false → eqb (given o (λ v. elementById chars t (v .bytes)) (λ u. 0)) (i + 1) ≡ false
+    at none e = ne-eqb 0 (i + 1) (λ q. omega arith)
+    at (some v) e = compared chars t i (v .bytes) ∙ rw e refl
+
+    unled : (b : Bool) → eqb n (i + 1) ≡ b → pick b (λ v. i + 2) (λ v. 0) ≡ 0
+        → eqb (given (linkOf chars values (linkKind (cutName k)) t (cutName k) m) (λ v. elementById chars t (v .bytes)) (λ u. 0)) (i + 1) ≡ false
+    unled true e q = absurd (omega (arith, q))
+    unled false e q = at _ e
+
+    go : (b : Bool) → pick b (λ u. pick (eqb n 0) (λ v. 1) (λ v. n + 1)) (λ u. pick (eqb n (i + 1)) (λ v. i + 2) (λ v. 0)) ≡ 0
+        → pick b (λ u. paintsWith chars values t (cutName k) (elementId chars t i) m)
+        (λ u. eqb (given (linkOf chars values (linkKind (cutName k)) t (cutName k) m) (λ v. elementById chars t (v .bytes)) (λ u. 0)) (i + 1))
+        ≡ false
+    go true e = absurd (some (eqb n 0) e)
+    go false e = unled (eqb n (i + 1)) refl e
 
 -- WHAT IS CUT
 
@@ -143,16 +137,10 @@ module _ (script chars ns es : List ℕ) (c : Counts) (aim : Aim) (w : Aimed cha
   abbrev values : List Value
   values = valuesOf script chars
 
-  -- Whether it leads back is what was told.
-  pub back-told : (r x : Lead) → r ≡ x
-      → isBack r ≡ ledBy (aim .led) (idAt chars (entriesOf es) (aim .id)) (linkOf chars values (aim .kind) (readOf ns es) (aim .name) m)
-      → leadsTo chars values (aim .pass) (seenOf ns es c) (aim .element) m ≡ isBack x
-  unfolding entryAt
-  back-told r x e h =
-      leads-compared chars values (seenOf ns es c) aim w m
-      ∙ sym (ap (λ (o : Option Part). ledBy (aim .led) (idAt chars (seenOf ns es c) (aim .id)) o)
-      (link-seen chars values (seenOf ns es c) (aim .kind) (aim .name) m))
-      ∙ sym h ∙ ap isBack e
+  -- Whether it leads back is what its mark says.
+  pub back-told : (n : ℕ) → n ≡ markOf chars values (aim .pass) (seenOf ns es c) m
+      → leadsTo chars values (aim .pass) (seenOf ns es c) (aim .element) m ≡ eqb n (aim .key)
+  back-told n e = leads-marked chars values (seenOf ns es c) aim w m ∙ ap (λ (x : ℕ). eqb x (aim .key)) (sym e)
 
   pub back-cut : leadsTo chars values (aim .pass) (seenOf ns es c) (aim .element) m ≡ true
       → (es′ : List ℕ) → es′ ≡ applyCut (readOf ns es) (cutAt (readOf ns es) (aim .pass) m) .attributes
@@ -162,10 +150,6 @@ module _ (script chars ns es : List ℕ) (c : Counts) (aim : Aim) (w : Aimed cha
   pub back-kept : leadsTo chars values (aim .pass) (seenOf ns es c) (aim .element) m ≡ false
       → seenOf ns es c ≡ cutBack chars values (aim .pass) (aim .element) (seenOf ns es c) m
   back-kept e = rw e refl
-
--- What was told of a link, by its case.
-pub lead-fit : (s chars : List ℕ) (o : Option Part) (r x : Lead) → r ≡ x → LeadFit s chars o r → LeadFit s chars o x
-lead-fit s chars o r x e f = subst (LeadFit s chars o) e f
 
 module _ (chars : List ℕ) (values : List Value) (k : ℕ) where
   -- A node without the attribute leads nowhere.
@@ -184,7 +168,7 @@ above-same f g m w zero x h = refl
 above-same f g m w (suc n) x h = rw (w .others x (λ e. omega arith), above-same f g m w n (x + 1) (omega arith)) refl
 
 -- A cut where there is nothing to cut.
-uncut : (t : Tree) (k m : ℕ) → attributeId t m (cutName k) ≡ 0 → applyCut t (cutAt t k m) ≡ t
+pub uncut : (t : Tree) (k m : ℕ) → attributeId t m (cutName k) ≡ 0 → applyCut t (cutAt t k m) ≡ t
 unfolding applyCut cutAt
 uncut t k m z = rw (eq-eqb (attributeId t m (cutName k)) 0 z) refl
 
@@ -202,19 +186,41 @@ module _ (size : ℕ) (chars : List ℕ) (values : List Value) (bare : readingsO
       go (no h) = subst (λ (u : Tree). Aimed chars u aim) (sym (cut-is size chars values bare k other t g m h)) (record {
         first = w .first;
         last = w .last;
-        name = w .name;
-        kind = w .kind;
-        id = w .id ∙ sym (cuts.id-same (attributeId t m (cutName k) - 1) t (aim .element) AId.Id);
-        led = w .led
-            ∙ ap (λ (id : List ℕ). or (leb (aim .pass) 2) (eqb (elementById chars t id) (aim .element + 1)))
-            (sym (element-id-kept size chars values bare t g m (cutName k) h other (aim .element)))
-            ∙ ap (λ (n : ℕ). or (leb (aim .pass) 2) (eqb n (aim .element + 1)))
-            (sym (by-id-kept size chars values bare t g m (cutName k) h other
-            (elementId chars (setNone (attributeId t m (cutName k) - 1) t) (aim .element))));
+        inside = w .inside;
+        key = w .key ∙ sym (keyed (attributeId t m (cutName k) - 1) h);
+        some = w .some;
       })
+        where
+          keyed : (n : ℕ) → (attributeId t m (cutName k) ≡ 0 → ⊥)
+              → keyOf chars (aim .pass) (setNone (attributeId t m (cutName k) - 1) t) (aim .element)
+              ≡ keyOf chars (aim .pass) t (aim .element)
+          unfolding keyOf
+          keyed n h =
+              let u : Tree = setNone (attributeId t m (cutName k) - 1) t in
+              ap (λ (x : ℕ). pick (leb (aim .pass) 2) (λ u. pick (eqb x 0) (λ v. 1) (λ v. x + 1))
+              (λ u. pick (eqb x (aim .element + 1)) (λ v. aim .element + 2) (λ v. 0)))
+              (by-id-kept size chars values bare t g m (cutName k) h other (elementId chars u (aim .element))
+              ∙ ap (elementById chars t) (element-id-kept size chars values bare t g m (cutName k) h other (aim .element)))
 
 module _ (size : ℕ) (chars : List ℕ) (values : List Value) (bare : readingsOf 0 values ≡ []) (k i : ℕ) (other : cutName k ≡ AId.Id → ⊥)
     (t : Tree) (g : Tidy size t) (m : ℕ) where
+  -- What did not lead to the element does not behind a cut.
+  pub cut-leads : (x : ℕ) → leadsTo chars values k t i x ≡ false
+      → leadsTo chars values k (applyCut t (cutAt t k m)) i x ≡ false
+  cut-leads x e = go (ℕ-discrete (attributeId t m (cutName k)) 0) (ℕ-discrete x m)
+    where
+      go : Dec (attributeId t m (cutName k) ≡ 0) → Dec (x ≡ m) → leadsTo chars values k (applyCut t (cutAt t k m)) i x ≡ false
+      go (yes z) d = rw (uncut t k m z) e
+      go (no h) (yes d) =
+          rw (cut-is size chars values bare k other t g m h, d) (leads-without size chars values bare k other t g m h i .gone)
+      go (no h) (no d) =
+          rw (cut-is size chars values bare k other t g m h) (leads-without size chars values bare k other t g m h i .others x d ∙ e)
+
+  -- The node that is cut leads nowhere.
+  pub cut-gone : (attributeId t m (cutName k) ≡ 0 → ⊥)
+      → leadsTo chars values k (applyCut t (cutAt t k m)) i m ≡ false
+  cut-gone h = rw (cut-is size chars values bare k other t g m h) (leads-without size chars values bare k other t g m h i .gone)
+
   -- The tree behind m.
   abbrev next : Tree
   next = cutBack chars values k i t m
@@ -233,6 +239,17 @@ module _ (size : ℕ) (chars : List ℕ) (values : List Value) (bare : readingsO
       go : (b : Bool) → Aimed chars (pick b (λ u. applyCut t (cutAt t k m)) (λ u. t)) aim
       go true = cut-aimed size chars values bare k other t g m aim w
       go false = w
+
+  -- Behind m, m leads nowhere, and what did not lead back before does not.
+  pub back-still : (x : ℕ) → ((x ≡ m → ⊥) → leadsTo chars values k t i x ≡ false) → leadsTo chars values k next i x ≡ false
+  back-still x h = go (leadsTo chars values k t i m) refl (ℕ-discrete x m)
+    where
+      go : (b : Bool) → leadsTo chars values k t i m ≡ b → Dec (x ≡ m)
+          → leadsTo chars values k (pick b (λ u. applyCut t (cutAt t k m)) (λ u. t)) i x ≡ false
+      go true e (yes d) = rw d (cut-gone (leads-entry chars values k t i m e))
+      go true e (no d) = cut-leads x (h d)
+      go false e (yes d) = rw d e
+      go false e (no d) = h d
 
   -- The cuts of m and of the nodes behind it are those of the nodes behind it, in the tree behind m.
   pub back-turn : (n : ℕ) → cutNodes chars values k t (passing (leadsTo chars values k t i) (m ∷ upFrom (m + 1) n))
@@ -260,50 +277,55 @@ module _ (size : ℕ) (chars : List ℕ) (values : List Value) (bare : readingsO
 
 -- THE LOOP
 
--- In the middle of the nodes from w up to the node `end`: m is next, and what is still to do leaves what all of it leaves.
-pub record Cutting (script chars marks heads ns : List ℕ) (c : Counts) (aim : Aim) (w end : ℕ) (es₀ es : List ℕ) (m : ℕ) (hint : Cursor) : Type 0 where
-  pub mendable : Mendable script chars marks heads ns es c hint
+-- In the middle of the nodes from w up to the node `end`: m is next, those before it do not lead back, and what is still to do leaves what
+-- all of it leaves.
+pub record Cutting (script chars marks heads ns : List ℕ) (c : Counts) (aim : Aim) (w end : ℕ) (es₀ es : List ℕ) (m : ℕ) : Type 0 where
+  pub cuttable : Cuttable script chars marks heads ns es c (aim .pass)
   pub aimed : Aimed chars (seenOf ns es c) aim
   pub high : m ≤ end
   pub inside : end ≤ c .nodes
   pub long : length es ≡ length es₀
+  pub still : (x : ℕ) → w ≤ x → x < m → leadsTo chars (valuesOf script chars) (aim .pass) (seenOf ns es c) (aim .element) x ≡ false
   pub same : cutNodes chars (valuesOf script chars) (aim .pass) (seenOf ns es c)
       (passing (leadsTo chars (valuesOf script chars) (aim .pass) (seenOf ns es c) (aim .element)) (upFrom m (end - m)))
       ≡ cutNodes chars (valuesOf script chars) (aim .pass) (seenOf ns es₀ c)
       (passing (leadsTo chars (valuesOf script chars) (aim .pass) (seenOf ns es₀ c) (aim .element)) (upFrom w (end - w)))
 
-pub cutting-first : (script chars marks heads ns : List ℕ) (c : Counts) (aim : Aim) (w end : ℕ) (es : List ℕ) (hint : Cursor)
-    → Mendable script chars marks heads ns es c hint → Aimed chars (seenOf ns es c) aim → w < end → end ≤ c .nodes
-    → Cutting script chars marks heads ns c aim w end es es w hint
-cutting-first script chars marks heads ns c aim w end es hint g a l h = record {
-  mendable = g;
+pub cutting-first : (script chars marks heads ns : List ℕ) (c : Counts) (aim : Aim) (w end : ℕ) (es : List ℕ)
+    → Cuttable script chars marks heads ns es c (aim .pass) → Aimed chars (seenOf ns es c) aim → w < end → end ≤ c .nodes
+    → Cutting script chars marks heads ns c aim w end es es w
+cutting-first script chars marks heads ns c aim w end es g a l h = record {
+  cuttable = g;
   aimed = a;
   high = omega arith;
   inside = h;
   long = refl;
+  still = λ x p q. absurd (omega arith);
   same = refl;
 }
 
-module _ (script chars marks heads ns : List ℕ) (c : Counts) (aim : Aim) (w end : ℕ) (es₀ es : List ℕ) (m : ℕ) (hint : Cursor)
-    (q : Cutting script chars marks heads ns c aim w end es₀ es m hint) where
-  pub cutting-turn : m < end → (es′ : List ℕ) (n : Cursor)
-      → seenOf ns es′ c ≡ cutBack chars (valuesOf script chars) (aim .pass) (aim .element) (seenOf ns es c) m → Fit script n
-      → Cutting script chars marks heads ns c aim w end es₀ es′ (m + 1) n
-  cutting-turn l es′ n e f =
+module _ (script chars marks heads ns : List ℕ) (c : Counts) (aim : Aim) (w end : ℕ) (es₀ es : List ℕ) (m : ℕ)
+    (q : Cutting script chars marks heads ns c aim w end es₀ es m) where
+  pub cutting-turn : m < end → (es′ : List ℕ)
+      → seenOf ns es′ c ≡ cutBack chars (valuesOf script chars) (aim .pass) (aim .element) (seenOf ns es c) m
+      → Cutting script chars marks heads ns c aim w end es₀ es′ (m + 1)
+  cutting-turn l es′ e =
       let t : Tree = seenOf ns es c in
       let vs : List Value = valuesOf script chars in
-      let bare = values-bare (length chars) (events script chars) (all-inside script chars (q .mendable .drawn .checked)) in
-      let other = no-id (aim .pass) (q .aimed .last) in
-      let g = q .mendable .tidy in
+      let bare = values-bare (length chars) (events script chars) (all-inside script chars (q .cuttable .mendable .drawn .checked)) in
+      let other = no-id (aim .pass) in
+      let g = q .cuttable .mendable .tidy in
       let cs : List Cut = pick (leadsTo chars vs (aim .pass) t (aim .element) m) (λ u. cutAt t (aim .pass) m ∷ []) (λ u. []) in
       let d : seenOf ns es′ c ≡ applied t cs = e ∙ back-cuts (length chars) chars vs bare (aim .pass) (aim .element) other t g m in
       record {
-        mendable = mend-on script chars marks heads ns es c cs es′ d hint (q .mendable) n f;
+        cuttable = cuttable-on script chars marks heads ns es c cs es′ d (aim .pass) (q .aimed .first) (q .aimed .last) (q .cuttable);
         aimed = subst (λ (u : Tree). Aimed chars u aim) (sym e)
             (back-aimed (length chars) chars vs bare (aim .pass) (aim .element) other t g m aim (q .aimed));
         high = omega arith;
         inside = q .inside;
         long = long-on script chars marks heads ns es c cs es′ d ∙ q .long;
+        still = λ x a b. ap (λ (u : Tree). leadsTo chars vs (aim .pass) u (aim .element) x) e
+            ∙ back-still (length chars) chars vs bare (aim .pass) (aim .element) other t g m x (before x a b (ℕ-discrete x m));
         same =
             ap (λ (u : Tree). cutNodes chars vs (aim .pass) u
             (passing (leadsTo chars vs (aim .pass) u (aim .element)) (upFrom (m + 1) (end - (m + 1))))) e
@@ -312,6 +334,11 @@ module _ (script chars marks heads ns : List ℕ) (c : Counts) (aim : Aim) (w en
             (sym (up-step m end l))
             ∙ q .same;
       }
+    where
+      before : (x : ℕ) → w ≤ x → x < m + 1 → Dec (x ≡ m)
+          → (x ≡ m → ⊥) → leadsTo chars (valuesOf script chars) (aim .pass) (seenOf ns es c) (aim .element) x ≡ false
+      before x a b (yes d) n = absurd (n d)
+      before x a b (no d) n = q .still x a (omega arith)
 
   pub cutting-done : end ≤ m
       → seenOf ns es c ≡ cutNodes chars (valuesOf script chars) (aim .pass) (seenOf ns es₀ c)

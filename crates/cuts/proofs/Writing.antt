@@ -2,7 +2,7 @@
 use mathlib.Core.Path.{_≡_, refl, sym, ap, _∙_, subst}
 use mathlib.Core.Bool.{Bool, true, false}
 use mathlib.Core.List.{List, [], _∷_, _++_}
-use Prim.Native.Nat.{ℕ, zero, suc, _+_, _-_, _*_, _≤_}
+use Prim.Native.Nat.{ℕ, _+_, _-_, _*_, _≤_}
 use native.Mathlib.Decide.{ℕ-discrete}
 use native.Mathlib.Omega.{arith}
 use borrow.Author.Tests.{eq-eqb, ne-eqb}
@@ -11,7 +11,7 @@ use lib.ListN.{length}
 use lib.Seq.{length-sets}
 use Rattle.model.specs.Base.{pick}
 use Rattle.model.specs.AId
-use Rattle.model.specs.Drawing.{readingsOf}
+use Rattle.model.specs.Drawing.{events, readingsOf}
 use Rattle.model.specs.Tables.{Tree, entryWord, entryAt, valueAtEntry, attributeId, setNone}
 use Rattle.model.specs.Repair.{elementId, Cut, cutName, cutEntry, cutAt, applyCut, applied}
 use Rattle.model.specs.Theorems.Kept.{Tidy}
@@ -19,6 +19,8 @@ use Rattle.model.specs.Theorems.Agree.{sets-out}
 use Rattle.model.specs.Theorems.Cuts as cuts
 use Rattle.model.specs.Theorems.Cuts.{element-id-kept}
 use Rattle.model.specs.Theorems.Whole.{cuts-tidy}
+use Rattle.model.specs.Theorems.Inside.{all-inside}
+use Rattle.model.specs.Theorems.Images.{values-bare}
 use Rattle.script.specs.declared.cursor.Cursor.{Cursor}
 use Rattle.script.specs.Step.{Fit}
 use Rattle.tree.specs.declared.Counts.{Counts}
@@ -26,19 +28,11 @@ use Rattle.tree.specs.Lent.{readOf, entriesOf}
 use Rattle.tree.proofs.Alike.{id-same}
 use Rattle.ids.specs.Chains.{Indexed}
 use Rattle.ids.proofs.Chaining.{chained-same}
-use Rattle.cuts.specs.Seen.{seenOf, Mendable}
-
--- The last two passes cut the same attribute.
-pub last-name : (k : ℕ) → 1 ≤ k → k ≤ 6 → (k ≡ 1 → ⊥) → (k ≡ 2 → ⊥) → (k ≡ 3 → ⊥) → (k ≡ 4 → ⊥) → AId.Filter ≡ cutName k
-unfolding cutName
-last-name zero f l a b c d = absurd (omega arith)
-last-name (suc zero) f l a b c d = absurd (a refl)
-last-name (suc (suc zero)) f l a b c d = absurd (b refl)
-last-name (suc (suc (suc zero))) f l a b c d = absurd (c refl)
-last-name (suc (suc (suc (suc zero)))) f l a b c d = absurd (d refl)
-last-name (suc (suc (suc (suc (suc zero))))) f l a b c d = refl
-last-name (suc (suc (suc (suc (suc (suc zero)))))) f l a b c d = refl
-last-name (suc (suc (suc (suc (suc (suc (suc k))))))) f l a b c d = absurd (omega arith)
+use Rattle.leads.specs.Links.{valuesOf}
+use Rattle.targets.specs.Targets.{seenOf, Targeted}
+use Rattle.targets.proofs.Passes.{no-id}
+use Rattle.targets.proofs.Marks.{targeted-applied}
+use Rattle.cuts.specs.Seen.{Mendable, Cuttable}
 
 module _ (t : Tree) (k i j : ℕ) (e : j ≡ attributeId t i (cutName k)) where
   -- The node has no such attribute.
@@ -74,17 +68,6 @@ applied-long (c ∷ cs) t = applied-long cs (applyCut t c) ∙ go (eqb (cutEntry
 
 -- NO CUT TOUCHES AN ID
 
-no-id-cut : (k : ℕ) → cutName k ≡ AId.Id → ⊥
-unfolding cutName
-no-id-cut zero e = omega arith
-no-id-cut (suc zero) e = omega arith
-no-id-cut (suc (suc zero)) e = omega arith
-no-id-cut (suc (suc (suc zero))) e = omega arith
-no-id-cut (suc (suc (suc (suc zero)))) e = omega arith
-no-id-cut (suc (suc (suc (suc (suc zero))))) e = omega arith
-no-id-cut (suc (suc (suc (suc (suc (suc zero)))))) e = omega arith
-no-id-cut (suc (suc (suc (suc (suc (suc (suc k))))))) e = omega arith
-
 -- The ids of two trees are the same, and so is what stands behind importance.
 pub record KeptIds (chars : List ℕ) (t u : Tree) : Type 0 where
   pub ids : (i : ℕ) → attributeId u i AId.Id ≡ attributeId t i AId.Id
@@ -110,7 +93,7 @@ module _ (size : ℕ) (chars : List ℕ) where
       go (no z) =
           subst (λ (b : Bool). KeptIds chars t (pick b (λ u. t) (λ u. setNone (j - 1) t))) (sym (ne-eqb j 0 z)) (record {
             ids = λ i. cuts.id-same (j - 1) t i AId.Id;
-            values = λ i. element-id-kept size chars [] no-values t g (x .node) (cutName (x .pass)) z (no-id-cut (x .pass)) i;
+            values = λ i. element-id-kept size chars [] no-values t g (x .node) (cutName (x .pass)) z (no-id (x .pass)) i;
             words = λ q. sets-out (1 ∷ 0 ∷ 0 ∷ []) (t .attributes) (5 * (j - 1) + 2) (5 * q + 1) (λ a b. omega arith);
           })
 
@@ -162,3 +145,12 @@ module _ (script chars marks heads ns es : List ℕ) (c : Counts) (cs : List Cut
 
   pub long-on : length es′ ≡ length es
   long-on = ap (λ (u : Tree). length (u .attributes)) e ∙ applied-long cs (seenOf ns es c)
+
+  pub cuttable-on : (k : ℕ) → 1 ≤ k → k ≤ 5 → Cuttable script chars marks heads ns es c k → Cuttable script chars marks heads ns es′ c k
+  cuttable-on k f l g = record {
+    mendable = mend-on _ (g .mendable) _ (g .mendable .drawn .fit);
+    targeted = λ z. subst (Targeted chars (valuesOf script chars) k) (sym e)
+        (targeted-applied (length chars) chars (valuesOf script chars)
+        (values-bare (length chars) (events script chars) (all-inside script chars (g .mendable .drawn .checked))) k f l (seenOf ns es c)
+        (g .mendable .tidy) (g .targeted z) cs);
+  }
