@@ -14,7 +14,7 @@ ghost use Rattle.tree.specs.Lent.{treeOf, readOf, ReadableIn};
 ghost use Rattle.ids.specs.Chains.{nextSet, Turned, Like, Indexed};
 
 // Entry j has, behind its importance, the node whose index plus 1 is n.
-fn set_next(attributes: &mut [u32], j: u32, n: u32)
+pub fn set_next(attributes: &mut [u32], j: u32, n: u32)
     requires { ⌜ 5 * j + 4 < length (now attributes) ⌝ }
     requires { ⌜ n < 2147483648 ⌝ }
     ensures { λ _. ⌜ now (attributes .exit) ≡ nextSet (now (attributes .entry)) j n ⌝ }

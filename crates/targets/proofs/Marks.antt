@@ -111,8 +111,8 @@ pub targeted-applied : (size : ℕ) (chars : List ℕ) (values : List Value) →
 unfolding applied
 targeted-applied size chars values bare k f l t g w [] = w
 targeted-applied size chars values bare k f l t g w (x ∷ cs) =
-    targeted-applied size chars values bare k f l (applyCut t x) (cuts-tidy size t (x ∷ []) g) (targeted-cut size chars values bare k t g w x)
-    cs
+    targeted-applied size chars values bare k f l (applyCut t x) (cuts-tidy size t (x ∷ []) g)
+    (targeted-cut size chars values bare k t g w x) cs
 
 -- WHERE MARKS LEAD
 
@@ -130,15 +130,15 @@ module _ (chars : List ℕ) (t : Tree) (id : List ℕ) where
   abbrev w : ℕ
   w = elementById chars t id
 
-  for-some : (w ≡ 0 → ⊥) → markFor chars t id ≡ w + 1
+  pub for-some : (w ≡ 0 → ⊥) → markFor chars t id ≡ w + 1
   unfolding markFor
   for-some z = rw (ne-eqb w 0 z) refl
 
-  for-empty : w ≡ 0 → length id ≡ 0 → markFor chars t id ≡ 1
+  pub for-empty : w ≡ 0 → length id ≡ 0 → markFor chars t id ≡ 1
   unfolding markFor
   for-empty z e = rw (eq-eqb w 0 z, eq-eqb (length id) 0 e) refl
 
-  for-none : w ≡ 0 → (length id ≡ 0 → ⊥) → markFor chars t id ≡ 0
+  pub for-none : w ≡ 0 → (length id ≡ 0 → ⊥) → markFor chars t id ≡ 0
   unfolding markFor
   for-none z e = rw (eq-eqb w 0 z, ne-eqb (length id) 0 e) refl
 
@@ -195,7 +195,8 @@ module _ (chars : List ℕ) (t : Tree) (i : ℕ) where
       go (no e) = absurd (last-some chars t own (t .nodeCount) i l (has-own chars t i e) z)
 
 -- Two ids that lead to the same element are the same.
-led-same : (chars : List ℕ) (t : Tree) (a b : List ℕ) → (elementById chars t a ≡ 0 → ⊥) → elementById chars t a ≡ elementById chars t b → a ≡ b
+led-same : (chars : List ℕ) (t : Tree) (a b : List ℕ) → (elementById chars t a ≡ 0 → ⊥)
+    → elementById chars t a ≡ elementById chars t b → a ≡ b
 led-same chars t a b z e = is a refl ∙ sym (is b (sym e))
   where
     j : ℕ
@@ -234,7 +235,8 @@ module _ (chars : List ℕ) (t : Tree) (i : ℕ) (l : i < t .nodeCount) (id : Li
       go false e (yes z) =
           let n : s ≡ [] = unled chars t i l z in
           let k : keyOf chars t i ≡ 1 = rw (eq-eqb _ 0 z) refl in
-          e ∙ sym (ne-eqb _ _ (λ x. false≢true (sym e ∙ ap (λ (y : List ℕ). sameBytes y s) (none-there id (empty (x ∙ k)) ∙ sym n) ∙ same-itself s)))
+          e ∙ sym (ne-eqb _ _ (λ x. false≢true
+          (sym e ∙ ap (λ (y : List ℕ). sameBytes y s) (none-there id (empty (x ∙ k)) ∙ sym n) ∙ same-itself s)))
         where
           empty : markFor chars t id ≡ 1 → length id ≡ 0
           empty x = at (ℕ-discrete (elementById chars t id) 0) (ℕ-discrete (length id) 0)
@@ -310,5 +312,6 @@ module _ (chars : List ℕ) (values : List Value) (k : ℕ) where
       go : (o : Option Part) → given o (λ v. sameBytes (v .bytes) (elementId chars t i)) (λ u. false)
           ≡ eqb (given o (λ v. markFor chars t (v .bytes)) (λ u. 0)) (keyOf chars t i)
       go none =
-          let n = key (elementById chars t (elementId chars t i)) (ℕ-discrete _ 0) in sym (ne-eqb 0 (keyOf chars t i) (λ z. omega (arith, n, z)))
+          let n = key (elementById chars t (elementId chars t i)) (ℕ-discrete _ 0) in
+          sym (ne-eqb 0 (keyOf chars t i) (λ z. omega (arith, n, z)))
       go (some v) = for-paint chars t i h (v .bytes)
