@@ -1,10 +1,10 @@
 -- What a pass aims at. Assumes nothing.
 use mathlib.Core.Path.{_≡_, refl, ap, _∙_}
-use mathlib.Core.Bool.{Bool}
+use mathlib.Core.Bool.{Bool, true, false}
 use mathlib.Core.List.{List}
 use Prim.Native.Nat.{ℕ, _+_, _<_, _≤_}
 use native.Mathlib.Omega.{arith}
-use borrow.Author.Tests.{le-leb, lt-leb}
+use borrow.Author.Tests.{eq-eqb, ne-eqb, le-leb, lt-leb}
 use lib.Dec.{eqb}
 use Rattle.model.specs.Base.{pick}
 use Rattle.model.specs.Tables.{Tree, entryAt, lastWithId, elementById}
@@ -33,15 +33,24 @@ last-seen chars t i = last-same t chars _ (t .nodeCount) ∙ ap (λ (id : List �
 
 -- The mark of the links that lead to an element, by what was found.
 module _ (chars : List ℕ) (t : Tree) (k i : ℕ) where
-  pub key-led : 2 < k → (b : Bool)
-      → b ≡ eqb (lastWithId chars (readOf (t .nodes) (t .attributes)) (elementId chars (readOf (t .nodes) (t .attributes)) i)
-      (t .nodeCount)) (i + 1)
-      → pick b (λ u. i + 2) (λ u. 0) ≡ keyOf chars k t i
-  unfolding keyOf
-  key-led h b e = rw (lt-leb k 2 h, ← last-seen chars t i, ← e) refl
+  -- The last element with its id, as the tables have it.
+  abbrev found : ℕ
+  found = lastWithId chars (readOf (t .nodes) (t .attributes)) (elementId chars (readOf (t .nodes) (t .attributes)) i) (t .nodeCount)
 
-  pub key-paint : k ≤ 2 → (w : ℕ)
-      → w ≡ lastWithId chars (readOf (t .nodes) (t .attributes)) (elementId chars (readOf (t .nodes) (t .attributes)) i) (t .nodeCount)
-      → pick (eqb w 0) (λ u. 1) (λ u. w + 1) ≡ keyOf chars k t i
-  unfolding keyOf
-  key-paint h w e = rw (le-leb k 2 h, ← last-seen chars t i, ← e) refl
+  module _ (h : 2 < k) (b : Bool) (e : b ≡ eqb found (i + 1)) where
+    pub key-here : b ≡ true → (n : ℕ) → n ≡ i → n + 2 ≡ keyOf chars k t i
+    unfolding keyOf
+    key-here z n d = rw (lt-leb k 2 h, ← last-seen chars t i, ← e, z, d) refl
+
+    pub key-not : b ≡ false → 0 ≡ keyOf chars k t i
+    unfolding keyOf
+    key-not z = rw (lt-leb k 2 h, ← last-seen chars t i, ← e, z) refl
+
+  module _ (h : k ≤ 2) (w : ℕ) (e : w ≡ found) where
+    pub key-empty : w ≡ 0 → 1 ≡ keyOf chars k t i
+    unfolding keyOf
+    key-empty z = rw (le-leb k 2 h, ← last-seen chars t i, ← e, eq-eqb w 0 z) refl
+
+    pub key-some : (w ≡ 0 → ⊥) → (n : ℕ) → n ≡ w → n + 1 ≡ keyOf chars k t i
+    unfolding keyOf
+    key-some z n d = rw (le-leb k 2 h, ← last-seen chars t i, ← e, ne-eqb w 0 z, d) refl

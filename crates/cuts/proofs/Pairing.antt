@@ -2,16 +2,17 @@
 use mathlib.Core.Path.{_≡_, refl, sym, ap, _∙_, subst}
 use mathlib.Core.Bool.{Bool, true, false}
 use mathlib.Core.List.{List, [], _∷_}
+use mathlib.Core.Option.{Option, none, some}
 use Prim.Native.Nat.{ℕ, zero, suc, _+_, _-_, _*_, _<_, _≤_}
 use native.Mathlib.Omega.{arith}
 use borrow.Author.Tests.{eq-eqb, ne-eqb, le-leb, lt-leb}
 use lib.Dec.{eqb, leb}
 use lib.ListN.{length, getD}
-use Rattle.model.specs.Base.{pick, Pair}
+use Rattle.model.specs.Base.{pick, given, Pair}
 use Rattle.model.specs.AId
-use Rattle.model.specs.Drawing.{Value, events, readingOf, readingsOf}
-use Rattle.model.specs.Tables.{Tree, attributeId, attributeOf}
-use Rattle.model.specs.Repair.{upFrom, descendants, readingsOfAttribute, nodeAttribute}
+use Rattle.model.specs.Drawing.{Part, Value, events, readingOf, readingsOf}
+use Rattle.model.specs.Tables.{Tree, attributeId, attributeOf, hasIdBytes, lastWithId, elementById}
+use Rattle.model.specs.Repair.{upFrom, descendants, readingsOfAttribute, linkOf, nodeAttribute}
 use Rattle.model.specs.Repair.{Cut, cutName, cutAt, applyCut, applied}
 use Rattle.model.specs.Theorems.Inside.{all-inside}
 use Rattle.model.specs.Theorems.Images.{values-bare}
@@ -21,15 +22,39 @@ use Rattle.tree.specs.declared.Counts.{Counts}
 use Rattle.tree.specs.Lent.{readOf}
 use Rattle.tree.proofs.Alike.{id-same}
 use Rattle.leads.specs.Links.{valuesOf}
-use Rattle.targets.specs.Targets.{seenOf, markOf}
+use Rattle.targets.specs.Targets.{seenOf, passKind, markFor, markOf}
 use Rattle.targets.proofs.Passes.{no-id}
-use Rattle.targets.proofs.Marks.{mark-target, mark-low}
+use Rattle.targets.proofs.Marks.{mark-target}
 use Rattle.cuts.specs.declared.Aim.{Aim}
 use Rattle.cuts.specs.Seen.{counted, Cuttable, keyOf, Aimed, Quiet, Covered, cutBack, cutNodes, cutPairs}
 use Rattle.cuts.proofs.Writing.{applied-more, cuttable-on, long-on}
 use Rattle.cuts.proofs.Turning.{never-led, leads-entry, cut-tidy, cut-aimed}
 use Rattle.cuts.proofs.Descending.{up-step, up-none, descendants-alike}
 use Rattle.cuts.proofs.Quieting.{quiet-first, covered-still, still-none, nodes-quiet}
+
+-- No mark is larger than the count of nodes, and 1.
+last-most : (chars : List ℕ) (t : Tree) (id : List ℕ) (n : ℕ) → lastWithId chars t id n ≤ n
+unfolding lastWithId
+last-most chars t id zero = omega arith
+last-most chars t id (suc n) = go (hasIdBytes chars t id n) (last-most chars t id n)
+  where
+    go : (b : Bool) → lastWithId chars t id n ≤ n → pick b (λ u. n + 1) (λ u. lastWithId chars t id n) ≤ suc n
+    go true h = omega arith
+    go false h = omega arith
+
+mark-low : (chars : List ℕ) (values : List Value) (k : ℕ) (t : Tree) (m : ℕ) → markOf chars values k t m ≤ t .nodeCount + 1
+unfolding markOf markFor elementById
+mark-low chars values k t m = go (linkOf chars values (passKind k) t (cutName k) m)
+  where
+    at : (w : ℕ) → w ≤ t .nodeCount → (a b : Bool) → pick a (λ u. pick b (λ v. 1) (λ v. 0)) (λ u. w + 1) ≤ t .nodeCount + 1
+    at w l true true = omega arith
+    at w l true false = omega arith
+    at w l false b = omega arith
+
+    go : (o : Option Part) → given o (λ v. markFor chars t (v .bytes)) (λ u. 0) ≤ t .nodeCount + 1
+    go none = omega arith
+    go (some v) =
+        at _ (last-most chars t (v .bytes) (t .nodeCount)) (eqb (lastWithId chars t (v .bytes) (t .nodeCount)) 0) (eqb (length (v .bytes)) 0)
 
 module _ (script chars ns es : List ℕ) (c : Counts) (aim : Aim) (w : Aimed chars (seenOf ns es c) aim) (m : ℕ) where
   abbrev values : List Value
@@ -63,12 +88,11 @@ module _ (script chars ns es : List ℕ) (c : Counts) (aim : Aim) (w : Aimed cha
   unfolding nodesAt cutsAlong applied
   pair-nowhere e z = rw (e, z) refl
 
-  pub pair-below : leadsTo chars values (aim .pass) t (aim .element) m ≡ false
-      → (n : ℕ) → n ≡ targetOf chars values (aim .pass) t m → (n ≡ 0 → ⊥)
-      → cutNodes chars values (aim .pass) t (passing (leadsTo chars values (aim .pass) t (aim .element)) (descendants t (n - 1)))
+  pub pair-below : leadsTo chars values (aim .pass) t (aim .element) m ≡ false → (n : ℕ) → n + 1 ≡ targetOf chars values (aim .pass) t m
+      → cutNodes chars values (aim .pass) t (passing (leadsTo chars values (aim .pass) t (aim .element)) (descendants t n))
       ≡ cutNodes chars values (aim .pass) t (nodesAt chars values (aim .pass) t (aim .element) m)
   unfolding nodesAt
-  pair-below e n q z = rw (e, ← q, ne-eqb n 0 z) refl
+  pair-below e n q = let z : n + 1 - 1 ≡ n = omega arith in rw (e, ← q, ne-eqb (n + 1) 0 (λ o. omega arith), z) refl
 
 -- ONE PAIR AFTER ANOTHER
 

@@ -29,7 +29,7 @@ use Rattle.targets.specs.Targets.{seenOf, markOf}
 use Rattle.targets.proofs.Passes.{no-id}
 use Rattle.targets.proofs.Marks.{mark-leads-link, mark-leads-paint}
 use Rattle.cuts.specs.declared.Aim.{Aim}
-use Rattle.cuts.specs.Seen.{counted, Cuttable, keyOf, Aimed, cutBack, cutNodes}
+use Rattle.cuts.specs.Seen.{counted, Cuttable, keyOf, Aimed, cutBack, cutNodes, Below, Still}
 use Rattle.cuts.proofs.Writing.{cuttable-on, long-on}
 use Rattle.leads.proofs.Lasting.{compared}
 use Rattle.cuts.proofs.Descending.{up-step, up-none, descendants-alike}
@@ -91,9 +91,9 @@ never-led chars values k f l t i z m = go (leb k 2) z
     n : ℕ
     n = elementById chars t (elementId chars t i)
 
-    some : (b : Bool) → pick b (λ v. 1) (λ v. n + 1) ≡ 0 → ⊥
-    some true e = omega arith
-    some false e = omega arith
+    any : (b : Bool) → pick b (λ v. 1) (λ v. n + 1) ≡ 0 → ⊥
+    any true e = omega arith
+    any false e = omega arith
 
     at : (o : Option Part) → eqb n (i + 1) ≡ false → eqb (given o (λ v. elementById chars t (v .bytes)) (λ u. 0)) (i + 1) ≡ false
     at none e = ne-eqb 0 (i + 1) (λ q. omega arith)
@@ -102,13 +102,13 @@ never-led chars values k f l t i z m = go (leb k 2) z
     unled : (b : Bool) → eqb n (i + 1) ≡ b → pick b (λ v. i + 2) (λ v. 0) ≡ 0
         → eqb (given (linkOf chars values (linkKind (cutName k)) t (cutName k) m) (λ v. elementById chars t (v .bytes)) (λ u. 0)) (i + 1) ≡ false
     unled true e q = absurd (omega (arith, q))
-    unled false e q = at _ e
+    unled false e q = at (linkOf chars values (linkKind (cutName k)) t (cutName k) m) e
 
     go : (b : Bool) → pick b (λ u. pick (eqb n 0) (λ v. 1) (λ v. n + 1)) (λ u. pick (eqb n (i + 1)) (λ v. i + 2) (λ v. 0)) ≡ 0
         → pick b (λ u. paintsWith chars values t (cutName k) (elementId chars t i) m)
         (λ u. eqb (given (linkOf chars values (linkKind (cutName k)) t (cutName k) m) (λ v. elementById chars t (v .bytes)) (λ u. 0)) (i + 1))
         ≡ false
-    go true e = absurd (some (eqb n 0) e)
+    go true e = absurd (any (eqb n 0) e)
     go false e = unled (eqb n (i + 1)) refl e
 
 -- WHAT IS CUT
@@ -178,7 +178,16 @@ module _ (size : ℕ) (chars : List ℕ) (values : List Value) (bare : readingsO
   unfolding applied
   cut-tidy = cuts-tidy size t (cutAt t k m ∷ []) g
 
+  key-kept : (attributeId t m (cutName k) ≡ 0 → ⊥) → (p i : ℕ)
+      → keyOf chars p (setNone (attributeId t m (cutName k) - 1) t) i ≡ keyOf chars p t i
+  unfolding keyOf
+  key-kept h p i =
+      ap (λ (x : ℕ). pick (leb p 2) (λ u. pick (eqb x 0) (λ v. 1) (λ v. x + 1)) (λ u. pick (eqb x (i + 1)) (λ v. i + 2) (λ v. 0)))
+      (by-id-kept size chars values bare t g m (cutName k) h other (elementId chars (setNone (attributeId t m (cutName k) - 1) t) i)
+      ∙ ap (elementById chars t) (element-id-kept size chars values bare t g m (cutName k) h other i))
+
   pub cut-aimed : (aim : Aim) → Aimed chars t aim → Aimed chars (applyCut t (cutAt t k m)) aim
+  unfolding setNone
   cut-aimed aim w = go (ℕ-discrete (attributeId t m (cutName k)) 0)
     where
       go : Dec (attributeId t m (cutName k) ≡ 0) → Aimed chars (applyCut t (cutAt t k m)) aim
@@ -187,20 +196,9 @@ module _ (size : ℕ) (chars : List ℕ) (values : List Value) (bare : readingsO
         first = w .first;
         last = w .last;
         inside = w .inside;
-        key = w .key ∙ sym (keyed (attributeId t m (cutName k) - 1) h);
+        key = w .key ∙ sym (key-kept h (aim .pass) (aim .element));
         some = w .some;
       })
-        where
-          keyed : (n : ℕ) → (attributeId t m (cutName k) ≡ 0 → ⊥)
-              → keyOf chars (aim .pass) (setNone (attributeId t m (cutName k) - 1) t) (aim .element)
-              ≡ keyOf chars (aim .pass) t (aim .element)
-          unfolding keyOf
-          keyed n h =
-              let u : Tree = setNone (attributeId t m (cutName k) - 1) t in
-              ap (λ (x : ℕ). pick (leb (aim .pass) 2) (λ u. pick (eqb x 0) (λ v. 1) (λ v. x + 1))
-              (λ u. pick (eqb x (aim .element + 1)) (λ v. aim .element + 2) (λ v. 0)))
-              (by-id-kept size chars values bare t g m (cutName k) h other (elementId chars u (aim .element))
-              ∙ ap (elementById chars t) (element-id-kept size chars values bare t g m (cutName k) h other (aim .element)))
 
 module _ (size : ℕ) (chars : List ℕ) (values : List Value) (bare : readingsOf 0 values ≡ []) (k i : ℕ) (other : cutName k ≡ AId.Id → ⊥)
     (t : Tree) (g : Tidy size t) (m : ℕ) where
@@ -359,3 +357,10 @@ below-seen script chars ns es c aim w n e =
     ap (λ (xs : List ℕ). cutNodes chars (valuesOf script chars) (aim .pass) (seenOf ns es c)
     (passing (leadsTo chars (valuesOf script chars) (aim .pass) (seenOf ns es c) (aim .element)) xs))
     (sym e ∙ descendants-alike (counted ns (c .nodes)) (seenOf ns es c) refl refl w)
+
+-- Behind all of them nothing at or below w leads back.
+pub cutting-still : (script chars marks heads ns : List ℕ) (c : Counts) (aim : Aim) (w end : ℕ) (es₀ es : List ℕ) (m : ℕ)
+    → Cutting script chars marks heads ns c aim w end es₀ es m → end ≤ m → ((x : ℕ) → Below (counted ns (c .nodes)) w x → x < end)
+    → Still chars (valuesOf script chars) (aim .pass) (seenOf ns es c) (aim .element) w
+cutting-still script chars marks heads ns c aim w end es₀ es m q l h x b =
+    q .still x (b .low) (omega (arith, h x (record { low = b .low; high = b .high; between = b .between })))

@@ -91,5 +91,5 @@ pub record Covered (ns ws : List ℕ) (w : ℕ) : Type 0 where
   pub between : (y : ℕ) → getD ws (w / 256) 0 ≤ y → y ≤ w → getD ws (w / 256) 0 ≤ word ns y 1
 
 -- Any other node than w that is remembered was remembered before.
-abbrev pub Hushed : List ℕ → ℕ → List ℕ → Type 0
-Hushed ws w ws′ = (b q : ℕ) → getD ws′ b 0 ≡ q + 1 → (q ≡ w → ⊥) → getD ws b 0 ≡ q + 1
+pub record Hushed (ws : List ℕ) (w : ℕ) (ws′ : List ℕ) : Type 0 where
+  pub others : (b q : ℕ) → getD ws′ b 0 ≡ q + 1 → (q ≡ w → ⊥) → getD ws b 0 ≡ q + 1

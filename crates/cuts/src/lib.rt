@@ -1,8 +1,8 @@
 // What leads back to one element is cut (document 01, section 5).
-pub mod aim;
 pub mod back;
 pub mod below;
 pub mod cut;
+pub mod key;
 pub mod pair;
 pub mod quiet;
 

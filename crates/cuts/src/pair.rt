@@ -1,10 +1,11 @@
 // An element, and the nodes below it one after another: what leads back to the element is cut, at the node or below where that leads.
 use crate::Aim;
-use crate::aim::key_of;
+
 use crate::back::cut_below;
 use crate::below::behind_below;
 use crate::below::first_with;
 use crate::cut::cut;
+use crate::key::key_of;
 use crate::quiet::forget;
 use crate::quiet::hush;
 use crate::quiet::is_quiet;

@@ -1,7 +1,7 @@
 use Prim.Native.Nat.{_-_}
 use native.Mathlib.Omega.{arith}
 use Rattle.cuts.specs.Seen.{counted}
-use Rattle.cuts.proofs.Descending.{Passed, passed-first, passed-more, passed-stop, passed-all}
+use Rattle.cuts.proofs.Descending.{Passed, passed-first, passed-more, passed-stop, passed-all, below-stop, below-all}
 use Rattle.cuts.proofs.below.behind_below.Statement.{statement}
 use Rattle.cuts.proofs.below.behind_below.Tie as tie
 
@@ -25,7 +25,7 @@ returns c =
     let loop-inv = c .before .before .before .loop .inv in (
       passed-stop _ _ _ loop-inv (c .before .before .loop-test .taken)
           (omega (arith, c .before .node-word .ensures, c .if1 .taken)),
-      (loop-inv .low, loop-inv .high),
+      ((loop-inv .low, loop-inv .high), below-stop _ _ _ (loop-inv .low) (omega (arith, c .before .node-word .ensures, c .if1 .taken))),
     )
 
 add-j-2 : tie.Need-add-j-2 Inv-loop μ-loop
@@ -40,7 +40,10 @@ loop-again c =
     (omega (arith, c .before .node-word .ensures, c .if1 .left))
 
 returns-2 : tie.Need-returns-2 Inv-loop μ-loop
-returns-2 c = (passed-all _ _ _ (c .before .loop .inv) (c .loop-test .left), (c .before .loop .inv .low, c .before .loop .inv .high))
+returns-2 c = (
+  passed-all _ _ _ (c .before .loop .inv) (c .loop-test .left),
+  ((c .before .loop .inv .low, c .before .loop .inv .high), below-all _ _ _ (c .loop-test .left)),
+)
 
 pub behind-below-spec : {M : Type 1} → statement M
 behind-below-spec =

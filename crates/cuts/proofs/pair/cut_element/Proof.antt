@@ -1,66 +1,101 @@
 use native.Mathlib.Omega.{arith}
-use borrow.Author.Tests.{not-true}
+use mathlib.Core.Path.{refl, sym, _∙_}
 use Rattle.tree.proofs.Facts.{readable}
 use Rattle.cuts.proofs.Pairing.{element-bare, element-unled, element-pairs}
 use borrow.Author.Needs.{needs}
 use Rattle.cuts.proofs.pair.cut_element.Statement.{statement}
 use Rattle.cuts.proofs.pair.cut_element.Tie as tie
+use Rattle.cuts.proofs.pair.cut_element.Reads as reads
+use Rattle.cuts.proofs.pair.cut_element.Lts as lts
+use Rattle.cuts.proofs.below.behind_below.Reads as behind-below-reads
+use Rattle.cuts.proofs.below.first_with.Reads as first-with-reads
+use Rattle.cuts.proofs.key.key_of.Reads as key-of-reads
+use Rattle.cuts.proofs.pair.cut_pairs.Reads as cut-pairs-reads
+use Rattle.targets.proofs.name.cut_name.Reads as cut-name-reads
 
+-- src/pair.rt:190:9
 cut-name-requires : tie.Need-cut-name-requires
 cut-name-requires c κs = search needs
 
+-- src/pair.rt:191:9
 behind-below-requires : tie.Need-behind-below-requires
 behind-below-requires c κs = search needs
 
+-- src/pair.rt:192:9
 first-with-requires : tie.Need-first-with-requires
 first-with-requires c κs = (
-  omega (arith, c .before .behind-below .ensures .1 .0),
-  λ m l. readable _ _ (c .before .before .before .before .before .before .before .pre .0 .tidy .kept) m
-      (omega (arith, c .before .behind-below .ensures .1 .1)),
+  omega (arith, c .before .behind-below .ensures .1 .0 .0),
+  λ m l. readable _ _ (c .before .before .before .before .before .before .before .pre .0 .mendable .tidy .kept) m
+      (omega (arith, c .before .behind-below .ensures .1 .0 .1)),
 )
 
+-- src/pair.rt:194:9
 same-length : tie.Need-same-length
 same-length c = search needs
 
+-- src/pair.rt:194:9
 returns : tie.Need-returns
-returns c = (
-  element-bare _ _ _ _ _ _ _ _ _ _ (c .before .before .before .behind-below .ensures .0)
-      (c .before .before .before .before .cut-name .ensures) (c .before .first-with .ensures .0 .0)
-      (c .before .first-with .ensures .0 .1) (c .before .first-with .ensures .1) (c .if1 .taken),
-  c .before .before .before .before .before .before .before .before .before .pre .0 .drawn .fit,
-)
+returns c =
+    element-bare _ _ _ _ (c .before .before .before .before .before .before .before .before .before .args .counts) _ _ _ _ _
+    (c .before .before .before .behind-below .ensures .0) (c .before .before .before .before .cut-name .ensures)
+    (c .before .first-with .ensures .0 .0) (c .before .first-with .ensures .0 .1) (c .before .first-with .ensures .1)
+    (c .if1 .taken)
 
-aim-at-requires : tie.Need-aim-at-requires
-aim-at-requires c κs = search needs
+-- src/pair.rt:196:9
+key-of-requires : tie.Need-key-of-requires
+key-of-requires c κs = search needs
 
+-- src/pair.rt:198:9
 same-length-2 : tie.Need-same-length-2
 same-length-2 c = search needs
 
+-- src/pair.rt:198:9
 returns-2 : tie.Need-returns-2
 returns-2 c =
-    let at-first-with = c .before .before .before .before .before in (
-      element-unled _ _ _ _ _ _ _ _ _ _ (at-first-with .before .before .behind-below .ensures .0)
-          (at-first-with .before .before .before .cut-name .ensures) (at-first-with .first-with .ensures .0 .0)
-          (at-first-with .first-with .ensures .0 .1) (at-first-with .first-with .ensures .1) _ (c .before .before .aim-at .ensures .1)
-          (c .before .before .aim-at .ensures .0) (not-true _ (c .if2 .taken)),
-      at-first-with .before .before .before .before .before .before .before .before .pre .0 .drawn .fit,
-    )
+    element-unled _ _ _ _
+    (c .before .before .before .before .before .before .before .before .before .before .before .before .args .counts) _ _ _ _ _
+    (c .before .before .before .before .before .before .behind-below .ensures .0)
+    (c .before .before .before .before .before .before .before .cut-name .ensures)
+    (c .before .before .before .before .first-with .ensures .0 .0) (c .before .before .before .before .first-with .ensures .0 .1)
+    (c .before .before .before .before .first-with .ensures .1)
+    (c .before .before .before .before .before .before .before .before .before .before .before .before .pre .1 .0 .0)
+    (c .before .before .before .before .before .before .before .before .before .before .before .before .pre .1 .0 .1)
+    (sym (c .before .key-of .ensures) ∙ c .if2 .taken)
 
+-- src/pair.rt:205:5
 cut-pairs-requires : tie.Need-cut-pairs-requires
-cut-pairs-requires c κs = search needs
+cut-pairs-requires c κs = (
+  c .before .before .before .before .before .before .before .before .before .before .before .before .before .before .pre .0,
+  (
+    record {
+      first = c .before .before .before .before .before .before .before .before .before .before .before .before .before
+          .before .pre .1 .0 .0;
+      last = c .before .before .before .before .before .before .before .before .before .before .before
+          .before .before .before .pre .1 .0 .1;
+      inside = c .before .before .before .before .before .before .before .before .before
+          .before .before .before .before .before .pre .1 .1;
+      key = c .before .before .before .key-of .ensures;
+      some = c .before .before .if2 .left;
+    },
+    c .before .before .before .before .before .before .before .before .behind-below .ensures .1 .0 .1,
+  ),
+)
 
+-- src/pair.rt:170:1
 same-length-3 : tie.Need-same-length-3
 same-length-3 c = search needs
 
+-- src/pair.rt:170:1
 returns-3 : tie.Need-returns-3
 returns-3 c =
-    let at-first-with = c .before .before .before .before .before .before .before .before .before in (
-      element-pairs _ _ _ _ (at-first-with .before .before .before .before .before .before .before .before .args .counts) _ _ _ _ _
-          (at-first-with .before .before .behind-below .ensures .0) (at-first-with .before .before .before .cut-name .ensures)
-          (at-first-with .first-with .ensures .0 .0) (at-first-with .first-with .ensures .0 .1) (at-first-with .first-with .ensures .1)
-          _ _ (c .before .before .before .before .before .before .aim-at .ensures .1) _ (c .before .before .cut-pairs .ensures .0),
-      c .before .before .cut-pairs .ensures .1,
-    )
+    element-pairs _ _ _ _ (c .before .before .before .before .before .before .before .before .before .before .before .before
+    .before .before .before .before .before .args .counts) _ _ _ _ _
+    (c .before .before .before .before .before .before .before .before .before .before .before .behind-below .ensures .0)
+    (c .before .before .before .before .before .before .before .before .before .before .before .before .cut-name .ensures)
+    (c .before .before .before .before .before .before .before .before .before .first-with .ensures .0 .0)
+    (c .before .before .before .before .before .before .before .before .before .first-with .ensures .0 .1)
+    (c .before .before .before .before .before .before .before .before .before .first-with .ensures .1) _
+    (c .before .before .cut-pairs .ensures)
 
 pub cut-element-spec : {M : Type 1} → statement M
 cut-element-spec =
@@ -71,7 +106,7 @@ cut-element-spec =
     first-with-requires
     same-length
     returns
-    aim-at-requires
+    key-of-requires
     same-length-2
     returns-2
     cut-pairs-requires

@@ -1,128 +1,145 @@
-use mathlib.Core.Path.{sym, _∙_}
 use native.Mathlib.Omega.{arith}
-use Rattle.model.specs.Drawing.{partAt}
-use Rattle.tree.proofs.Facts.{readable, readable-in}
-use Rattle.cuts.proofs.Turning.{id-stands, back-told, back-cut, lead-fit}
-use Rattle.cuts.proofs.Pairing.{target-on, target-nowhere, pair-back, pair-nowhere, pair-below}
+use mathlib.Core.Path.{_≡_, refl, sym, ap, _∙_}
+use borrow.Author.Tests.{eq-eqb, ne-eqb}
+use Rattle.tree.proofs.Facts.{readable}
+use Rattle.cuts.proofs.Turning.{back-told, back-cut}
+use Rattle.cuts.proofs.Pairing.{target-nowhere, target-on, target-inside, pair-back, pair-nowhere, pair-below, quiet-on}
 use borrow.Author.Needs.{needs}
 use Rattle.cuts.proofs.pair.cut_pair.Statement.{statement}
 use Rattle.cuts.proofs.pair.cut_pair.Tie as tie
+use Rattle.cuts.proofs.pair.cut_pair.Reads as reads
+use Rattle.cuts.proofs.pair.cut_pair.Lts as lts
+use Rattle.cuts.proofs.cut.cut.Reads as cut-reads
+use Rattle.cuts.proofs.pair.cut_target.Reads as cut-target-reads
+use Rattle.targets.proofs.mark.mark_of.Reads as mark-of-reads
 
-lead-of-requires : tie.Need-lead-of-requires
-lead-of-requires c κs =
-    let pre = c .before .before .before .before .before .pre in
-    (pre .0 .drawn, (readable-in _ _ (pre .0 .tidy .kept) _ (pre .1 .1), id-stands _ _ (pre .0 .tidy) _ _ (pre .1 .0 .id)))
+-- src/pair.rt:94:9
+mark-of-requires : tie.Need-mark-of-requires
+mark-of-requires c κs =
+    let a = c .before .before .before .before .before .pre .1 .0 in (
+      c .before .before .before .before .before .pre .0 .mendable .drawn .checked,
+      (
+        c .before .before .before .before .before .pre .0 .mendable .drawn .marked,
+        (
+          c .before .before .before .before .before .pre .0 .mendable .tidy .kept,
+          (
+            c .before .before .before .before .before .pre .0 .mendable .indexed,
+            (
+              (a .first, a .last),
+              (c .before .before .before .before .before .pre .1 .1 .1, c .before .before .before .before .before .pre .0 .targeted),
+            ),
+          ),
+        ),
+      ),
+    )
 
-enum-known-c : tie.Need-enum-known-c
-enum-known-c c = search needs
-
+-- src/pair.rt:106:9
 cut-requires : tie.Need-cut-requires
 cut-requires c κs =
-    let pre = c .before .before .before .before .before .before .before .before .before .before .pre in
-    ((pre .1 .0 .first, omega (arith, pre .1 .0 .last)), readable _ _ (pre .0 .tidy .kept) _ (pre .1 .1))
+    let a = c .before .before .before .before .before .before .before .before .before .pre .1 .0 in (
+      (a .first, omega (arith, a .last)),
+      readable _ _
+          (c .before .before .before .before .before .before .before .before .before .pre .0 .mendable .tidy .kept) _
+          (c .before .before .before .before .before .before .before .before .before .pre .1 .1 .1),
+    )
 
-enum-known-start : tie.Need-enum-known-start
-enum-known-start c = search needs
-
-part-at-requires : tie.Need-part-at-requires
-part-at-requires c κs =
-    let fit′ = lead-fit _ _ _ _ _ (c .before .start .given .1) (c .before .before .before .lead-of .ensures .1) in
-    fit′ .1 .0
-
-find-id-requires : tie.Need-find-id-requires
-find-id-requires c κs =
-    let pre = c .before .before .before .before .before .before .before .before .before .before .before .pre .0 in
-    ((λ k l. readable-in _ _ (pre .tidy .kept) k l), pre .indexed)
-
+-- src/pair.rt:107:9
 same-length : tie.Need-same-length
 same-length c = search needs
 
+-- src/pair.rt:107:9
 returns : tie.Need-returns
-unfolding partAt
 returns c =
-    let at-start = c .before .before .before .before .before in
-    let pre = at-start .before .before .before .before .before .before .before .before .pre .1 .0 in
-    let on = back-told _ _ _ _ _ _ pre _ _ _ (at-start .start .given .1) (at-start .before .before .lead-of .ensures .0) in
-    let fit′ = lead-fit _ _ _ _ _ (at-start .start .given .1) (at-start .before .before .lead-of .ensures .1) in
-    let target = target-on _ _ _ _ _ _ pre _ _ (fit′ .0) _ (c .before .before .before .part-at .ensures) _
-    (c .before .find-id .ensures .0) in
-    (pair-nowhere _ _ _ _ _ _ pre _ on (sym target ∙ c .if1 .taken), fit′ .1 .1)
-
-sub-cut-below : tie.Need-sub-cut-below
-sub-cut-below c = search needs
-
-cut-below-requires : tie.Need-cut-below-requires
-cut-below-requires c κs =
-    let at-lead-of = c .before .before .before .before .before .before .before .before in
-    let pre = at-lead-of .before .before .before .before .before .before .pre in
-    let fit′ = lead-fit _ _ _ _ _ (c .before .before .before .before .before .before .start .given .1)
-    (at-lead-of .lead-of .ensures .1) in (
-      record { drawn = record { checked = pre .0 .drawn .checked; marked = pre .0 .drawn .marked; fit = fit′ .1 .1 }; tidy = pre .0 .tidy; indexed = pre .0 .indexed },
-      (pre .1 .0, omega (arith, c .before .before .find-id .ensures .1, c .before .if1 .left)),
+    let a = c .before .before .before .before .before .before .before .before .before .before .before .before .pre .1 .0 in
+    let told = back-told _ _ _ _ _ _
+    (c .before .before .before .before .before .before .before .before .before .before .before .before .pre .1 .0) _ _
+    (c .before .before .before .before .before .before .mark-of .ensures) in (
+      back-cut _ _ _ _ _ _ a _ (told ∙ eq-eqb _ _ (c .before .before .before .before .if1 .taken)) _
+          (c .before .before .cut .ensures)
+          ∙ pair-back _ _ _ _ _ _ a _ (told ∙ eq-eqb _ _ (c .before .before .before .before .if1 .taken)),
+      quiet-on _ _ _ _ _ _ _
+          (c .before .before .before .before .before .before .before .before .before .before .before .before .args .aim)
+          (c .before .before .before .before .before .before .before .before .before .before .before .before .pre .0) _
+          (c .before .before .before .before .before .before .before .before .before .before .before .before .pre .1 .1 .0) _ _
+          (back-cut _ _ _ _ _ _ a _ (told ∙ eq-eqb _ _ (c .before .before .before .before .if1 .taken)) _
+          (c .before .before .cut .ensures)
+          ∙ pair-back _ _ _ _ _ _ a _ (told ∙ eq-eqb _ _ (c .before .before .before .before .if1 .taken))),
     )
 
-enum-known-c-2 : tie.Need-enum-known-c-2
-enum-known-c-2 c = search needs
-
+-- src/pair.rt:110:9
 same-length-2 : tie.Need-same-length-2
 same-length-2 c = search needs
 
+-- src/pair.rt:110:9
 returns-2 : tie.Need-returns-2
 returns-2 c =
-    let at-c = c .before .before .before .before .before in
-    let pre = at-c .before .before .before .before .before .before .before .before .pre .1 .0 in
-    let back = back-told _ _ _ _ _ _ pre _ _ _ (at-c .c .given .1) (at-c .before .before .lead-of .ensures .0) in (
-      back-cut _ _ _ _ _ _ pre _ back _ (c .before .before .cut .ensures) ∙ pair-back _ _ _ _ _ _ pre _ back,
-      lead-fit _ _ _ _ _ (at-c .c .given .1) (at-c .before .before .lead-of .ensures .1),
+    let a = c .before .before .before .before .before .before .before .before .before .pre .1 .0 in
+    let told = back-told _ _ _ _ _ _ (c .before .before .before .before .before .before .before .before .before .pre .1 .0) _ _
+    (c .before .before .before .mark-of .ensures) in (
+      pair-nowhere _ _ _ _ _ _ a _ (told ∙ ne-eqb _ _ (c .before .if1 .left))
+          (target-nowhere _ _ _ _ _ _ a _ _ (c .before .before .before .mark-of .ensures) (c .if2 .taken)),
+      c .before .before .before .before .before .before .before .before .before .pre .1 .1 .0,
     )
 
+-- src/pair.rt:112:13
+cast-w : tie.Need-cast-w
+cast-w c =
+    let a = c .before .before .before .before .before .before .before .before .before .pre .1 .0 in
+    omega (
+      arith,
+      target-inside _ _ _ _ (c .before .before .before .before .before .before .before .before .before .args .counts)
+          _ a _ _ (c .before .before .before .mark-of .ensures) (omega (arith, c .if2 .left)),
+    )
+
+-- src/pair.rt:113:5
+cut-target-requires : tie.Need-cut-target-requires
+cut-target-requires c κs =
+    let a = c .before .before .before .before .before .before .before .before .before .before .before .pre .1 .0 in (
+      c .before .before .before .before .before .before .before .before .before .before .before .pre .0,
+      (
+        a,
+        (
+          c .before .before .before .before .before .before .before .before .before .before .before .pre .1 .1 .0,
+          omega (
+            arith,
+            target-inside _ _ _ _
+                (c .before .before .before .before .before .before .before .before .before .before .before .args .counts) _ a _ _
+                (c .before .before .before .before .before .mark-of .ensures) (omega (arith, c .before .before .if2 .left)),
+          ),
+        ),
+      ),
+    )
+
+-- src/pair.rt:69:1
 same-length-3 : tie.Need-same-length-3
 same-length-3 c = search needs
 
+-- src/pair.rt:69:1
 returns-3 : tie.Need-returns-3
-unfolding partAt
 returns-3 c =
-    let at-find-id = c .before .before .before .before .before in
-    let at-lead-of = at-find-id .before .before .before .before .before .before in
-    let start = at-find-id .before .before .before .before .start .given .1 in
-    let pre = at-lead-of .before .before .before .before .before .before .pre .1 .0 in
-    let on = back-told _ _ _ _ _ _ pre _ _ _ start (at-lead-of .lead-of .ensures .0) in
-    let fit′ = lead-fit _ _ _ _ _ start (at-lead-of .lead-of .ensures .1) in
-    let target = target-on _ _ _ _ _ _ pre _ _ (fit′ .0) _ (at-find-id .before .before .part-at .ensures) _
-    (at-find-id .find-id .ensures .0) in (
-      c .before .before .cut-below .ensures .0
-          ∙ pair-below _ _ _ _ _ _ pre _ on _ target (c .before .before .before .before .if1 .left),
-      c .before .before .cut-below .ensures .1,
+    let a = c .before .before .before .before .before .before .before .before .before .before .before .before .before .before .pre
+    .1 .0 in
+    let told = back-told _ _ _ _ _ _
+    (c .before .before .before .before .before .before .before .before .before .before .before .before .before .before .pre .1 .0)
+    _ _ (c .before .before .before .before .before .before .before .before .mark-of .ensures) in (
+      c .before .before .cut-target .ensures .0
+          ∙ pair-below _ _ _ _ _ _ a _ (told ∙ ne-eqb _ _ (c .before .before .before .before .before .before .if1 .left)) _
+          (target-on _ _ _ _ _ _ a _ _ (c .before .before .before .before .before .before .before .before .mark-of .ensures)
+          (omega (arith, c .before .before .before .before .before .if2 .left))),
+      c .before .before .cut-target .ensures .1,
     )
-
-same-length-4 : tie.Need-same-length-4
-same-length-4 c = search needs
-
-returns-4 : tie.Need-returns-4
-returns-4 c =
-    let pre = c .before .before .before .before .before .before .before .before .before .pre .1 .0 in
-    let nowhere = back-told _ _ _ _ _ _ pre _ _ _ (c .before .c2 .given .1) (c .before .before .before .lead-of .ensures .0) in
-    let end = lead-fit _ _ _ _ _ (c .before .c2 .given .1) (c .before .before .before .lead-of .ensures .1) in
-    (pair-nowhere _ _ _ _ _ _ pre _ nowhere (target-nowhere _ _ _ _ _ _ pre _ (end .0)), end .1)
 
 pub cut-pair-spec : {M : Type 1} → statement M
 cut-pair-spec =
     tie.close
     (tie.spec
-    lead-of-requires
-    enum-known-c
+    mark-of-requires
     cut-requires
-    enum-known-start
-    part-at-requires
-    find-id-requires
     same-length
     returns
-    sub-cut-below
-    cut-below-requires
-    enum-known-c-2
     same-length-2
     returns-2
+    cast-w
+    cut-target-requires
     same-length-3
-    returns-3
-    same-length-4
-    returns-4)
+    returns-3)
