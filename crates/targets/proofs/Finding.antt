@@ -19,7 +19,6 @@ use Rattle.script.proofs.Commands.{placed-first}
 use Rattle.tree.specs.declared.Counts.{Counts}
 use Rattle.tree.specs.Lent.{readOf, Readable, HeldBy}
 use Rattle.tree.proofs.Alike.{id-same, attribute-same, last-same}
-use Rattle.leads.specs.Links.{valuesOf}
 use Rattle.targets.specs.Targets.{seenOf, passKind, markFor, markOf, storedMark, Targeted}
 use Rattle.targets.proofs.Marks.{for-some, for-empty, for-none}
 

@@ -3,17 +3,17 @@ use mathlib.Core.Path.{_≡_, refl, sym, ap, _∙_, subst}
 use mathlib.Core.Bool.{Bool, true, false, false≢true}
 use mathlib.Core.List.{List, [], _∷_}
 use mathlib.Core.Option.{Option, none, some}
-use Prim.Native.Nat.{ℕ, zero, suc, _+_, _-_, _*_, _/_, _<_, _≤_}
+use Prim.Native.Nat.{ℕ, zero, suc, _+_, _-_, _/_, _<_, _≤_}
 use native.Mathlib.Omega.{arith}
 use native.Mathlib.Decide.{ℕ-discrete}
-use borrow.Author.Tests.{eqb-true, eq-eqb, ne-eqb, le-leb, lt-leb}
+use borrow.Author.Tests.{eq-eqb, ne-eqb, le-leb, lt-leb}
 use lib.Dec.{eqb, leb}
 use lib.ListN.{length}
 use Rattle.model.specs.Base.{pick, and, given, sameBytes}
 use Rattle.model.specs.AId
 use Rattle.model.specs.Drawing.{Part, Value, readingsOf, readingOf}
 use Rattle.model.specs.Tables.{Tree, Entry, entryAt, entryWord, attributeId, hasIdBytes, lastWithId, elementById, setNone}
-use Rattle.model.specs.Repair.{linkKind, linkOf, elementId, readingsOfAttribute, paintsWith, nodeAttribute, Cut, cutName, cutEntry}
+use Rattle.model.specs.Repair.{linkKind, linkOf, elementId, paintsWith, nodeAttribute, Cut, cutName, cutEntry}
 use Rattle.model.specs.Repair.{applyCut, applied}
 use Rattle.model.specs.Theorems.Kept.{Tidy, attribute-any}
 use Rattle.model.specs.Theorems.Entries.{none-entry}
@@ -22,7 +22,7 @@ use Rattle.model.specs.Theorems.Cuts.{entry-kept, readings-kept, readings-gone,
 use Rattle.model.specs.Theorems.Whole.{cuts-tidy}
 use Rattle.model.specs.Theorems.GoingOn.{given-both, leadsTo, targetOf}
 use Rattle.ids.proofs.Values.{same-eq, same-itself}
-use Rattle.leads.proofs.Lasting.{found-has, has-own, compared}
+use Rattle.leads.proofs.Lasting.{has-own, compared}
 use Rattle.targets.specs.Targets.{passKind, markFor, markOf, storedMark, Targeted}
 use Rattle.targets.proofs.Passes.{by-func, no-id}
 
