@@ -15,22 +15,27 @@ use Rattle.ids.specs.Chains.{Like}
 use Rattle.ids.proofs.Likeness.{like-id, like-value}
 use Rattle.targets.specs.Targets.{passKind, markFor, markOf}
 
+-- Two tables that are alike, below the same nodes.
 module _ (n : ℕ) (es₀ es : List ℕ) (w : Like n es₀ es) (ns bs : List ℕ) (c : Counts) (chars : List ℕ) where
-  -- The two trees.
+  -- The first tree.
   abbrev t : Tree
   t = treeOf ns es₀ bs c
 
+  -- The second.
   abbrev u : Tree
   u = treeOf ns es bs c
 
+  -- What counts as absent.
   like-attribute : (i a : ℕ) → attributeOf chars u i a ≡ attributeOf chars t i a
   unfolding attributeOf
   like-attribute i a = rw (like-id n es₀ es w ns bs c i a, like-value n es₀ es w ns bs c chars (attributeId t i a - 1)) refl
 
+  -- Whether a node has that id.
   like-has : (id : List ℕ) (i : ℕ) → hasIdBytes chars u id i ≡ hasIdBytes chars t id i
   unfolding hasIdBytes
   like-has id i = rw (like-id n es₀ es w ns bs c i AId.Id, like-value n es₀ es w ns bs c chars (attributeId t i AId.Id - 1)) refl
 
+  -- The last node with that id.
   like-last : (id : List ℕ) (k : ℕ) → lastWithId chars u id k ≡ lastWithId chars t id k
   unfolding lastWithId
   like-last id zero = refl
@@ -42,6 +47,7 @@ module _ (n : ℕ) (es₀ es : List ℕ) (w : Like n es₀ es) (ns bs : List ℕ
   like-for id = rw (like-last id (c .nodes)) refl
 
   module _ (values : List Value) where
+    -- The readings of an attribute.
     pub like-readings : (a i : ℕ) → readingsOfAttribute chars values u a i ≡ readingsOfAttribute chars values t a i
     unfolding readingsOfAttribute entryAt
     like-readings a i =

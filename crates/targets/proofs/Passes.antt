@@ -48,6 +48,7 @@ passOf a =
     pick (eqb a AId.Fill) (λ u. 1)
     (λ u. pick (eqb a AId.Stroke) (λ v. 2) (λ v. pick (eqb a AId.ClipPath) (λ x. 3) (λ x. pick (eqb a AId.Mask) (λ y. 4) (λ y. 5))))
 
+-- It is the pass that cuts it.
 pass-back : (k : ℕ) → 1 ≤ k → k ≤ 5 → passOf (cutName k) ≡ k
 unfolding cutName passOf
 pass-back zero f l = absurd (omega arith)

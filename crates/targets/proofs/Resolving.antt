@@ -34,6 +34,7 @@ use Rattle.targets.proofs.Likes.{like-mark}
 
 -- LINKS THAT LEAD NOWHERE
 
+-- Node m's link in pass k.
 module _ (chars : List ℕ) (values : List Value) (bare : readingsOf 0 values ≡ []) (k : ℕ) (t : Tree) (m : ℕ) where
   -- Without readings there is no mark.
   unread : readingsOfAttribute chars values t (cutName k) m ≡ [] → markOf chars values k t m ≡ 0
@@ -67,25 +68,31 @@ stored-none t a m z = rw (eq-eqb (attributeId t m a) 0 z) refl
 -- The mark x is stored at node m's attribute a.
 module _ (size : ℕ) (ns es : List ℕ) (c : Counts) (g : Tidy size (seenOf ns es c)) (m a x : ℕ)
     (h : attributeId (seenOf ns es c) m a ≡ 0 → ⊥) where
+  -- The tree before it.
   abbrev t : Tree
   t = seenOf ns es c
 
-  -- The entry, the table behind it, and the tree.
+  -- The entry.
   abbrev e : ℕ
   e = attributeId t m a - 1
 
+  -- The table behind it.
   abbrev es′ : List ℕ
   es′ = nextSet es e x
 
+  -- The tree behind it.
   abbrev u : Tree
   u = seenOf ns es′ c
 
+  -- The entry is one of those that are counted.
   inside : e < c .attributes
   inside = omega (arith, attribute-any size t (g .kept) (g .unused) m a h, h)
 
+  -- Importance is as it was, and so is every other word.
   set-like : Like (c .attributes) es es′
   set-like = like-next (c .attributes) es es (like-itself (c .attributes) es) e x inside (g .kept .fits .entries)
 
+  -- Attributes are where they were.
   set-id : (i b : ℕ) → attributeId u i b ≡ attributeId t i b
   set-id i b = like-id (c .attributes) es es′ set-like ns (replicate (c .text) 0) c i b
 
@@ -123,9 +130,8 @@ module _ (size : ℕ) (ns es : List ℕ) (c : Counts) (g : Tidy size (seenOf ns 
       go : Dec (entryWord t e 4 ≡ 0) → pick (eqb (entryWord t e 4) 0) (λ z. 0) (λ z. entryWord u e 1 / 2) ≡ x
       go (yes z) = rw (eq-eqb _ 0 z) (sym (f z))
       go (no z) =
-          rw (ne-eqb _ 0 z)
-          (ap (λ (y : ℕ). y / 2) (getD-set-same es (5 * e + 1) (getD es (5 * e + 1) 0 % 2 + 2 * x) 0 (omega (arith, inside, g .kept .fits .entries)))
-          ∙ half (getD es (5 * e + 1) 0))
+          let same = getD-set-same es (5 * e + 1) (getD es (5 * e + 1) 0 % 2 + 2 * x) 0 (omega (arith, inside, g .kept .fits .entries)) in
+          rw (ne-eqb _ 0 z) (ap (λ (y : ℕ). y / 2) same ∙ half (getD es (5 * e + 1) 0))
 
   -- Ids stay in their chains.
   set-indexed : (a ≡ AId.Id → ⊥) → (chars hs : List ℕ) (n : ℕ) → Indexed chars (readOf ns es) hs n → Indexed chars (readOf ns es′) hs n
@@ -153,6 +159,7 @@ pub record Resolving (script chars heads ns : List ℕ) (c : Counts) (k : ℕ) (
       → Targeted chars (valuesOf script chars) j (seenOf ns es c)
   pub fit : Fit script hint
 
+-- No node is looked at yet.
 pub resolving-first : (script chars heads ns : List ℕ) (c : Counts) (k : ℕ) (es : List ℕ) (hint : Cursor)
     → Indexed chars (readOf ns es) heads (c .nodes) → Fit script hint → Resolving script chars heads ns c k es es 0 hint
 resolving-first script chars heads ns c k es hint h f = record {
@@ -164,12 +171,15 @@ resolving-first script chars heads ns c k es hint h f = record {
   fit = f;
 }
 
+-- In the middle of pass k, of a drawing that check takes and tables that were tidy.
 module _ (script chars heads ns : List ℕ) (c : Counts) (k : ℕ) (first : 1 ≤ k) (last : k ≤ 5) (checked : check script chars ≡ 0)
     (es₀ : List ℕ) (g : Tidy (length chars) (seenOf ns es₀ c)) (es : List ℕ) (i : ℕ) (hint : Cursor)
     (w : Resolving script chars heads ns c k es₀ es i hint) where
+  -- The values of the drawing.
   abbrev values : List Value
   values = valuesOf script chars
 
+  -- The tree as it is.
   abbrev now : Tree
   now = seenOf ns es c
 
@@ -177,11 +187,13 @@ module _ (script chars heads ns : List ℕ) (c : Counts) (k : ℕ) (first : 1 �
   pub resolving-tidy : Tidy (length chars) now
   resolving-tidy = like-tidy (length chars) es₀ es ns (replicate (c .text) 0) c (w .like) g
 
+  -- A fixed value has no readings.
   bare : readingsOf 0 values ≡ []
   bare = values-bare (length chars) (events script chars) (all-inside script chars checked)
 
-  pub resolving-next : i < c .nodes → (es′ : List ℕ) (n : Cursor) → Stored ns es (cutName k) i (markOf chars values k now i) es′ → Fit script n
-      → Resolving script chars heads ns c k es₀ es′ (i + 1) n
+  -- The next node.
+  pub resolving-next : i < c .nodes → (es′ : List ℕ) (n : Cursor) → Stored ns es (cutName k) i (markOf chars values k now i) es′
+      → Fit script n → Resolving script chars heads ns c k es₀ es′ (i + 1) n
   resolving-next l es′ n s f = go (ℕ-discrete (attributeId (readOf ns es) i (cutName k)) 0)
     where
       a : ℕ
@@ -246,23 +258,27 @@ module _ (script chars heads ns : List ℕ) (c : Counts) (k : ℕ) (first : 1 �
 
           on : (j : ℕ) → 1 ≤ j → j ≤ 5 → (j ≡ k → ⊥) → Targeted chars values j now → Targeted chars values j u
           on j p q d v = record {
-            marks = λ m h. stored-other size ns es c tidy i a x there m (cutName j) (λ y o. d (one-pass j k p q first last o)) ∙ v .marks m h
-                ∙ sym (mark j m);
+            marks = λ m h. stored-other size ns es c tidy i a x there m (cutName j) (λ y o. d (one-pass j k p q first last o))
+                ∙ v .marks m h ∙ sym (mark j m);
           }
 
+  -- No node is left.
   pub resolving-done : c .nodes ≤ i → Targeted chars values k now
   resolving-done l = record { marks = λ m h. w .marks m (omega (arith, h, l)) }
 
 -- ONE TURN
 
+-- Node m's attribute of pass k was looked for; its mark is x.
 module _ (ns es : List ℕ) (k m j name x : ℕ) (a : name ≡ cutName k) (e : j ≡ attributeId (readOf ns es) m name) where
-  -- The attribute that was looked for.
+  -- It is the one that the pass cuts.
   own : j ≡ attributeId (readOf ns es) m (cutName k)
   own = e ∙ ap (attributeId (readOf ns es) m) a
 
+  -- It is not there, and nothing is written.
   pub turn-none : j ≡ 0 → Stored ns es (cutName k) m x es
   turn-none z = record { none = λ y. refl; some = λ y. absurd (y (sym own ∙ z)) }
 
+  -- It is there, and what was found is stored.
   pub turn-some : (j ≡ 0 → ⊥) → (y : ℕ) → y ≡ x → (es′ : List ℕ) → es′ ≡ nextSet es (j - 1) y → Stored ns es (cutName k) m x es′
   turn-some z y f es′ q = record {
     none = λ o. absurd (z (own ∙ o));

@@ -69,8 +69,8 @@ returns-2 : tie.Need-returns-2
 returns-2 c =
     let at-find = c .before .before .before .before .before .before in
     let at-id = at-find .before .before .before in (
-      turn-some _ _ _ _ _ _ _ (at-id .before .before .cut-name .ensures) (at-id .attribute-id .ensures .0) (at-find .before .before .if1 .left) _
-          (at-find .find-mark .ensures .0) _ (c .before .before .before .set-next .ensures),
+      turn-some _ _ _ _ _ _ _ (at-id .before .before .cut-name .ensures) (at-id .attribute-id .ensures .0)
+          (at-find .before .before .if1 .left) _ (at-find .find-mark .ensures .0) _ (c .before .before .before .set-next .ensures),
       at-find .find-mark .ensures .1 .0,
     )
 
