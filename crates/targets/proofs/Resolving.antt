@@ -262,9 +262,10 @@ module _ (script chars heads ns : List ℕ) (c : Counts) (k : ℕ) (first : 1 �
                 ∙ v .marks m h ∙ sym (mark j m);
           }
 
-  -- No node is left.
-  pub resolving-done : c .nodes ≤ i → Targeted chars values k now
-  resolving-done l = record { marks = λ m h. w .marks m (omega (arith, h, l)) }
+-- No node is left.
+pub resolving-done : (script chars heads ns : List ℕ) (c : Counts) (k : ℕ) (es₀ es : List ℕ) (i : ℕ) (hint : Cursor)
+    → Resolving script chars heads ns c k es₀ es i hint → c .nodes ≤ i → Targeted chars (valuesOf script chars) k (seenOf ns es c)
+resolving-done script chars heads ns c k es₀ es i hint w l = record { marks = λ m h. w .marks m (omega (arith, h, l)) }
 
 -- ONE TURN
 

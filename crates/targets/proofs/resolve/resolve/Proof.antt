@@ -17,31 +17,20 @@ start-requires c κs = search needs
 
 loop-holds : tie.Need-loop-holds Inv-loop μ-loop
 loop-holds c =
-    resolving-first _ _ _ _ _ _ _ _ (c .before .before .before .before .before .pre .1 .1 .1 .0)
-    (start-fit _ _ (c .before .before .before .before .before .pre .0) _ (c .start .ensures))
+    let pre = c .before .before .before .before .before .pre in
+    resolving-first _ _ _ _ _ _ _ _ (pre .1 .1 .1 .0) (start-fit _ _ (pre .0) _ (c .start .ensures))
 
 resolve-one-requires : tie.Need-resolve-one-requires Inv-loop μ-loop
-resolve-one-requires c κs = (
-  record {
-    checked = c .before .before .before .before .before .before .before .before .before .pre .0;
-    marked = c .before .before .before .before .before .before .before .before .before .pre .1 .0;
-    fit = c .before .before .before .loop .inv .fit;
-  },
-  (
-    resolving-tidy _ _ _ _ _ _ (c .before .before .before .before .before .before .before .before .before .pre .1 .1 .1 .1 .1 .0)
-        (c .before .before .before .before .before .before .before .before .before .pre .1 .1 .1 .1 .1 .1)
-        (c .before .before .before .before .before .before .before .before .before .pre .0) _
-        (c .before .before .before .before .before .before .before .before .before .pre .1 .1 .0) _ _ _
-        (c .before .before .before .loop .inv),
-    (
-      c .before .before .before .loop .inv .indexed,
+resolve-one-requires c κs =
+    let pre = c .before .before .before .before .before .before .before .before .before .pre in
+    let more = pre .1 .1 .1 .1 in
+    let inv = c .before .before .before .loop .inv in (
+      record { checked = pre .0; marked = pre .1 .0; fit = inv .fit },
       (
-        c .before .before .before .before .before .before .before .before .before .pre .1 .1 .1 .1 .0,
-        (c .before .before .before .before .before .before .before .before .before .pre .1 .1 .1 .1 .1, c .before .if1 .taken),
+        resolving-tidy _ _ _ _ _ _ (more .1 .0) (more .1 .1) (pre .0) _ (pre .1 .1 .0) _ _ _ inv,
+        (inv .indexed, (more .0, (more .1, c .before .if1 .taken))),
       ),
-    ),
-  ),
-)
+    )
 
 add-m : tie.Need-add-m Inv-loop μ-loop
 add-m c = search needs
@@ -51,33 +40,20 @@ loop-less c = search needs
 
 loop-again : tie.Need-loop-again Inv-loop μ-loop
 loop-again c =
-    resolving-next _ _ _ _ _ _
-    (c .before .before .before .before .before .before .before .before .before .before .before .before .pre .1 .1 .1 .1 .1 .0)
-    (c .before .before .before .before .before .before .before .before .before .before .before .before .pre .1 .1 .1 .1 .1 .1)
-    (c .before .before .before .before .before .before .before .before .before .before .before .before .pre .0) _
-    (c .before .before .before .before .before .before .before .before .before .before .before .before .pre .1 .1 .0) _ _ _
-    (c .before .before .before .before .before .before .loop .inv) (c .before .before .before .before .if1 .taken) _ _
-    (c .before .before .resolve-one .ensures .0) (c .before .before .resolve-one .ensures .1)
+    let at-loop = c .before .before .before .before .before .before in
+    let pre = at-loop .before .before .before .before .before .before .pre in
+    let more = pre .1 .1 .1 .1 .1 in
+    resolving-next _ _ _ _ _ _ (more .0) (more .1) (pre .0) _ (pre .1 .1 .0) _ _ _ (at-loop .loop .inv)
+    (c .before .before .before .before .if1 .taken) _ _ (c .before .before .resolve-one .ensures .0)
+    (c .before .before .resolve-one .ensures .1)
 
 same-length : tie.Need-same-length Inv-loop μ-loop
 same-length c = c .before .before .loop .inv .like .long
 
 returns : tie.Need-returns Inv-loop μ-loop
-returns c = (
-  c .before .before .loop .inv .like,
-  (
-    c .before .before .loop .inv .indexed,
-    (
-      resolving-done _ _ _ _ _ _
-          (c .before .before .before .before .before .before .before .before .pre .1 .1 .1 .1 .1 .0)
-          (c .before .before .before .before .before .before .before .before .pre .1 .1 .1 .1 .1 .1)
-          (c .before .before .before .before .before .before .before .before .pre .0) _
-          (c .before .before .before .before .before .before .before .before .pre .1 .1 .0) _ _ _ (c .before .before .loop .inv)
-          (c .if1 .left),
-      c .before .before .loop .inv .others,
-    ),
-  ),
-)
+returns c =
+    let inv = c .before .before .loop .inv in
+    (inv .like, (inv .indexed, (resolving-done _ _ _ _ _ _ _ _ _ _ inv (c .if1 .left), inv .others)))
 
 pub resolve-spec : {M : Type 1} → statement M
 resolve-spec =

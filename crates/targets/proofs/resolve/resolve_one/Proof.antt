@@ -11,8 +11,7 @@ cut-name-requires c κs = search needs
 
 attribute-id-requires : tie.Need-attribute-id-requires
 attribute-id-requires c κs =
-    readable _ _ (c .before .before .before .before .before .before .pre .1 .0 .kept) _
-    (c .before .before .before .before .before .before .pre .1 .1 .1 .1 .1)
+    let pre = c .before .before .before .before .before .before .pre in readable _ _ (pre .1 .0 .kept) _ (pre .1 .1 .1 .1 .1)
 
 same-length : tie.Need-same-length
 same-length c = search needs
@@ -24,43 +23,26 @@ returns c = (
 )
 
 find-mark-requires : tie.Need-find-mark-requires
-find-mark-requires c κs = (
-  c .before .before .before .before .before .before .before .before .before .pre .0,
-  (
-    c .before .before .before .before .before .before .before .before .before .pre .1 .0 .kept,
-    (
-      c .before .before .before .before .before .before .before .before .before .pre .1 .1 .0,
-      (
-        c .before .before .before .before .before .before .before .before .before .pre .1 .1 .1 .1 .0,
-        c .before .before .before .before .before .before .before .before .before .pre .1 .1 .1 .1 .1,
-      ),
-    ),
-  ),
-)
+find-mark-requires c κs =
+    let pre = c .before .before .before .before .before .before .before .before .before .pre in
+    (pre .0, (pre .1 .0 .kept, (pre .1 .1 .0, pre .1 .1 .1 .1)))
 
 cast-mark : tie.Need-cast-mark
 cast-mark c =
-    omega (
-      arith,
-      c .before .find-mark .ensures .1 .1,
-      c .before .before .before .before .before .before .before .before .before .before .before .pre .1 .1 .1 .0,
-    )
+    let pre = c .before .before .before .before .before .before .before .before .before .before .before .pre in
+    omega (arith, c .before .find-mark .ensures .1 .1, pre .1 .1 .1 .0)
 
 sub-set-next : tie.Need-sub-set-next
 sub-set-next c = search needs
 
 set-next-requires : tie.Need-set-next-requires
-set-next-requires c κs = (
-  held-inside _ _ _ (readable _ _
-      (c .before .before .before .before .before .before .before .before .before .before .before .before .pre .1 .0 .kept) _
-      (c .before .before .before .before .before .before .before .before .before .before .before .before .pre .1 .1 .1 .1 .1))
-      (c .before .before .before .before .before .attribute-id .ensures .1) (c .before .before .before .before .if1 .left),
-  omega (
-    arith,
-    c .before .before .find-mark .ensures .1 .1,
-    c .before .before .before .before .before .before .before .before .before .before .before .before .pre .1 .1 .1 .0,
-  ),
-)
+set-next-requires c κs =
+    let at-id = c .before .before .before .before .before in
+    let pre = at-id .before .before .before .before .before .before .before .pre in (
+      held-inside _ _ _ (readable _ _ (pre .1 .0 .kept) _ (pre .1 .1 .1 .1 .1)) (at-id .attribute-id .ensures .1)
+          (c .before .before .before .before .if1 .left),
+      omega (arith, c .before .before .find-mark .ensures .1 .1, pre .1 .1 .1 .0),
+    )
 
 same-length-2 : tie.Need-same-length-2
 same-length-2 c = search needs
