@@ -19,7 +19,6 @@ use Rattle.script.proofs.Commands.{placed-first}
 use Rattle.tree.specs.declared.Counts.{Counts}
 use Rattle.tree.specs.Lent.{readOf, Readable, HeldBy}
 use Rattle.tree.proofs.Alike.{id-same, attribute-same, last-same}
-use Rattle.leads.specs.Links.{valuesOf}
 use Rattle.targets.specs.Targets.{seenOf, passKind, markFor, markOf, storedMark, Targeted}
 use Rattle.targets.proofs.Marks.{for-some, for-empty, for-none}
 
@@ -48,16 +47,20 @@ module _ (chars ns es : List ℕ) (c : Counts) (id : List ℕ) (w : ℕ) (e : w 
   abbrev own : Tree
   own = seenOf ns es c
 
+  -- It is the tree's.
   by-id : w ≡ elementById chars own id
   unfolding elementById
   by-id = e ∙ last-same own chars id (c .nodes)
 
+  -- The mark is that of an element.
   pub found-some : 0 < w → w + 1 ≡ markFor chars own id
   found-some l = omega (arith, by-id, for-some chars own id (λ z. omega (arith, by-id, z)))
 
+  -- There is none, and the id is empty.
   pub found-empty : w ≤ 0 → length id ≡ 0 → 1 ≡ markFor chars own id
   found-empty l h = sym (for-empty chars own id (omega (arith, by-id)) h)
 
+  -- There is none, and it is not.
   pub found-none : w ≤ 0 → (length id ≡ 0 → ⊥) → 0 ≡ markFor chars own id
   found-none l h = sym (for-none chars own id (omega (arith, by-id)) h)
 
@@ -77,6 +80,7 @@ module _ (chars : List ℕ) (values : List Value) (ns es : List ℕ) (c : Counts
   abbrev mark : Option Part → ℕ
   mark o = given o (λ v. markFor chars (seenOf ns es c) (v .bytes)) (λ u. 0)
 
+  -- It is the mark of the node.
   by-link : (o : Option Part) → o ≡ linkOf chars values kind (readOf ns es) name m → mark o ≡ markOf chars values k (seenOf ns es c) m
   unfolding markOf
   by-link o e =
@@ -85,10 +89,12 @@ module _ (chars : List ℕ) (values : List Value) (ns es : List ℕ) (c : Counts
       ∙ ap (λ (x : ℕ). linkOf chars values x (seenOf ns es c) name m) b
       ∙ ap (λ (x : ℕ). linkOf chars values (passKind k) (seenOf ns es c) x m) a)
 
+  -- There is a link, and its id was looked for.
   pub mark-there : (v : Part) → some v ≡ linkOf chars values kind (readOf ns es) name m → (p : List ℕ) → p ≡ v .bytes
       → (x : ℕ) → x ≡ markFor chars (seenOf ns es c) p → x ≡ markOf chars values k (seenOf ns es c) m
   mark-there v e p q x h = h ∙ ap (markFor chars (seenOf ns es c)) q ∙ by-link (some v) e
 
+  -- There is none.
   pub mark-nowhere : none ≡ linkOf chars values kind (readOf ns es) name m → 0 ≡ markOf chars values k (seenOf ns es c) m
   mark-nowhere e = by-link none e
 
@@ -102,16 +108,20 @@ held-inside t i j r h z =
     let n : 5 * toOf t i ≤ length (t .attributes) = r .range e in
     omega arith
 
+-- Node m's attribute a, looked for.
 module _ (t : Tree) (a m j : ℕ) (e : j ≡ attributeId t m a) where
+  -- It is not there.
   pub stored-absent : j ≡ 0 → 0 ≡ storedMark t a m
   unfolding storedMark
   stored-absent z = rw (eq-eqb (attributeId t m a) 0 (sym e ∙ z)) refl
 
   module _ (z : j ≡ 0 → ⊥) (n : ℕ) (d : n ≡ entryWord t (j - 1) 4) where
+    -- It is a fixed value.
     pub stored-fixed : n ≡ 0 → 0 ≡ storedMark t a m
     unfolding storedMark
     stored-fixed y = rw (ne-eqb (attributeId t m a) 0 (λ x. z (e ∙ x)), ← e, ← d, y) refl
 
+    -- It is neither, and the word of its importance was read.
     pub stored-there : (n ≡ 0 → ⊥) → (x : ℕ) → x ≡ entryWord t (j - 1) 1 → x / 2 ≡ storedMark t a m
     unfolding storedMark
     stored-there y x q = rw (ne-eqb (attributeId t m a) 0 (λ o. z (e ∙ o)), ← e, ← d, ne-eqb n 0 y, q) refl
@@ -125,6 +135,7 @@ stored-seen t a m =
 
 -- It is the mark of the link.
 pub stored-mark : (chars : List ℕ) (values : List Value) (ns es : List ℕ) (c : Counts) (k m name : ℕ) → name ≡ cutName k → m < c .nodes
-    → Targeted chars values k (seenOf ns es c) → (x : ℕ) → x ≡ storedMark (readOf ns es) name m → x ≡ markOf chars values k (seenOf ns es c) m
+    → Targeted chars values k (seenOf ns es c) → (x : ℕ) → x ≡ storedMark (readOf ns es) name m
+    → x ≡ markOf chars values k (seenOf ns es c) m
 stored-mark chars values ns es c k m name a l w x e =
     e ∙ ap (λ (b : ℕ). storedMark (readOf ns es) b m) a ∙ stored-seen (seenOf ns es c) (cutName k) m ∙ w .marks m l

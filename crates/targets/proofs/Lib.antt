@@ -1,3 +1,5 @@
 pub mod Finding
+pub mod Likes
 pub mod Marks
 pub mod Passes
+pub mod Resolving

@@ -3,17 +3,17 @@ use mathlib.Core.Path.{_≡_, refl, sym, ap, _∙_, subst}
 use mathlib.Core.Bool.{Bool, true, false, false≢true}
 use mathlib.Core.List.{List, [], _∷_}
 use mathlib.Core.Option.{Option, none, some}
-use Prim.Native.Nat.{ℕ, zero, suc, _+_, _-_, _*_, _/_, _<_, _≤_}
+use Prim.Native.Nat.{ℕ, zero, suc, _+_, _-_, _/_, _<_, _≤_}
 use native.Mathlib.Omega.{arith}
 use native.Mathlib.Decide.{ℕ-discrete}
-use borrow.Author.Tests.{eqb-true, eq-eqb, ne-eqb, le-leb, lt-leb}
+use borrow.Author.Tests.{eq-eqb, ne-eqb, le-leb, lt-leb}
 use lib.Dec.{eqb, leb}
 use lib.ListN.{length}
 use Rattle.model.specs.Base.{pick, and, given, sameBytes}
 use Rattle.model.specs.AId
 use Rattle.model.specs.Drawing.{Part, Value, readingsOf, readingOf}
 use Rattle.model.specs.Tables.{Tree, Entry, entryAt, entryWord, attributeId, hasIdBytes, lastWithId, elementById, setNone}
-use Rattle.model.specs.Repair.{linkKind, linkOf, elementId, readingsOfAttribute, paintsWith, nodeAttribute, Cut, cutName, cutEntry}
+use Rattle.model.specs.Repair.{linkKind, linkOf, elementId, paintsWith, nodeAttribute, Cut, cutName, cutEntry}
 use Rattle.model.specs.Repair.{applyCut, applied}
 use Rattle.model.specs.Theorems.Kept.{Tidy, attribute-any}
 use Rattle.model.specs.Theorems.Entries.{none-entry}
@@ -22,7 +22,7 @@ use Rattle.model.specs.Theorems.Cuts.{entry-kept, readings-kept, readings-gone,
 use Rattle.model.specs.Theorems.Whole.{cuts-tidy}
 use Rattle.model.specs.Theorems.GoingOn.{given-both, leadsTo, targetOf}
 use Rattle.ids.proofs.Values.{same-eq, same-itself}
-use Rattle.leads.proofs.Lasting.{found-has, has-own, compared}
+use Rattle.leads.proofs.Lasting.{has-own, compared}
 use Rattle.targets.specs.Targets.{passKind, markFor, markOf, storedMark, Targeted}
 use Rattle.targets.proofs.Passes.{by-func, no-id}
 
@@ -63,7 +63,7 @@ module _ (size : ℕ) (chars : List ℕ) (values : List Value) (bare : readingsO
           (λ u. pick (eqb (x .command) 0) (λ y. 0) (λ y. x .important / 2)))
           (entry-kept size chars values bare t g i a h m b e d)
 
-  -- The cut link has no mark, and none is stored.
+  -- The cut link has no mark.
   mark-gone : cutName k ≡ a → markOf chars values k v i ≡ 0
   unfolding markOf readingOf
   mark-gone e =
@@ -71,6 +71,7 @@ module _ (size : ℕ) (chars : List ℕ) (values : List Value) (bare : readingsO
       ∙ ap (λ rs. given (readingOf (passKind k) rs) (λ p. markFor chars v (p .bytes)) (λ u. 0))
       (readings-gone size chars values bare t g i a h)
 
+  -- None is stored for it.
   stored-gone : storedMark v a i ≡ 0
   unfolding storedMark entryAt
   stored-gone =
@@ -79,6 +80,7 @@ module _ (size : ℕ) (chars : List ℕ) (values : List Value) (bare : readingsO
       ap (λ (x : Entry). x .command) (none-entry (attributeId t i a - 1) t (omega (arith, l, h, g .kept .fits .entries))) in
       rw (cuts.id-same (attributeId t i a - 1) t i a, ne-eqb (attributeId t i a) 0 h, f) refl
 
+  -- So what is stored are the marks, as before.
   targeted-none : Targeted chars values k t → Targeted chars values k v
   unfolding setNone
   targeted-none w = record { marks = λ m l. go m (w .marks m l) (ℕ-discrete m i) (ℕ-discrete (cutName k) a) }
@@ -92,7 +94,7 @@ module _ (size : ℕ) (chars : List ℕ) (values : List Value) (bare : readingsO
       go m e (no x) y = stored-kept m (cutName k) (λ p q. x p) ∙ e ∙ sym (mark-kept m (λ p q. x p))
 
 module _ (size : ℕ) (chars : List ℕ) (values : List Value) (bare : readingsOf 0 values ≡ []) (k : ℕ) where
-  -- One cut.
+  -- One cut, of any pass at any node.
   pub targeted-cut : (t : Tree) → Tidy size t → Targeted chars values k t → (x : Cut) → Targeted chars values k (applyCut t x)
   unfolding applyCut
   targeted-cut t g w x = go (ℕ-discrete (cutEntry t (x .pass) (x .node)) 0)
@@ -130,14 +132,17 @@ module _ (chars : List ℕ) (t : Tree) (id : List ℕ) where
   abbrev w : ℕ
   w = elementById chars t id
 
+  -- There is one.
   pub for-some : (w ≡ 0 → ⊥) → markFor chars t id ≡ w + 1
   unfolding markFor
   for-some z = rw (ne-eqb w 0 z) refl
 
+  -- There is none, and the id is empty.
   pub for-empty : w ≡ 0 → length id ≡ 0 → markFor chars t id ≡ 1
   unfolding markFor
   for-empty z e = rw (eq-eqb w 0 z, eq-eqb (length id) 0 e) refl
 
+  -- There is none, and it is not.
   pub for-none : w ≡ 0 → (length id ≡ 0 → ⊥) → markFor chars t id ≡ 0
   unfolding markFor
   for-none z e = rw (eq-eqb w 0 z, ne-eqb (length id) 0 e) refl
@@ -178,10 +183,11 @@ none-there [] e = refl
 none-there (x ∷ s) e = absurd (omega arith)
 
 module _ (chars : List ℕ) (t : Tree) (i : ℕ) where
-  -- The id of element i, and the element that links with it lead to, as its index plus 1.
+  -- The id of element i.
   abbrev own : List ℕ
   own = elementId chars t i
 
+  -- The element that links with it lead to, as its index plus 1.
   abbrev led : ℕ
   led = elementById chars t own
 

@@ -113,7 +113,7 @@ fn stored_mark(nodes: &[u32], attributes: &[u32], m: u32, name: u32) -> u32
     entry_word(attributes, j - 1, word::IMPORTANT) / 2
 }
 
-// The mark of node m's link in one of the passes 1 to 5: as it is stored, or where the heads say that ids are not in chains, as it is found.
+// The mark of node m's link in one of the passes 1 to 5: as it is stored. Where the word behind the heads is 0 none is, and it is found.
 pub fn mark_of(
     script: &[u8],
     characters: &[u8],

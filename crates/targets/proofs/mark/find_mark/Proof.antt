@@ -14,11 +14,9 @@ pass-kind-requires : tie.Need-pass-kind-requires
 pass-kind-requires c κs = search needs
 
 link-of-requires : tie.Need-link-of-requires
-link-of-requires c κs = (
-  c .before .before .before .before .before .before .pre .0,
-  readable-in _ _ (c .before .before .before .before .before .before .pre .1 .0) _
-      (c .before .before .before .before .before .before .pre .1 .1 .1 .1),
-)
+link-of-requires c κs =
+    let pre = c .before .before .before .before .before .before .pre in
+    (pre .0, readable-in _ _ (pre .1 .0) _ (pre .1 .1 .1 .1))
 
 enum-known-start : tie.Need-enum-known-start
 enum-known-start c = search needs
@@ -42,8 +40,8 @@ returns c =
     let args = at-link .before .before .before .before .before .before .before .args in
     let told = link-told _ _ _ _ _ (c .before .before .before .start .given .1) (at-link .link-of .ensures .0)
     (at-link .link-of .ensures .1) in (
-      mark-there _ _ _ _ (args .counts) _ _ _ _ (at-link .before .before .cut-name .ensures) (at-link .before .pass-kind .ensures) _
-          (told .0) _ (c .before .part-at .ensures) _ (c .mark-for .ensures .0),
+      mark-there _ _ _ _ (args .counts) _ _ _ _ (at-link .before .before .cut-name .ensures) (at-link .before .pass-kind .ensures)
+          _ (told .0) _ (c .before .part-at .ensures) _ (c .mark-for .ensures .0),
       (told .1 .1, c .mark-for .ensures .1),
     )
 

@@ -15,7 +15,10 @@ add-result : tie.Need-add-result
 add-result c = search needs
 
 returns : tie.Need-returns
-returns c = (found-some _ _ _ (c .before .before .before .before .before .before .args .counts) _ _ (c .before .find-id .ensures .0) (c .if1 .taken), omega (arith, c .before .find-id .ensures .1))
+returns c = (
+  found-some _ _ _ (c .before .before .before .before .before .before .args .counts) _ _ (c .before .find-id .ensures .0) (c .if1 .taken),
+  omega (arith, c .before .find-id .ensures .1),
+)
 
 returns-2 : tie.Need-returns-2
 returns-2 c = (

@@ -11,23 +11,12 @@ start-requires : tie.Need-start-requires
 start-requires c κs = search needs
 
 find-mark-requires : tie.Need-find-mark-requires
-find-mark-requires c κs = (
-  record {
-    checked = c .before .before .before .before .before .before .before .pre .0;
-    marked = c .before .before .before .before .before .before .before .pre .1 .0;
-    fit = start-fit _ _ (c .before .before .before .before .before .before .before .pre .0) _ (c .start .ensures);
-  },
-  (
-    c .before .before .before .before .before .before .before .pre .1 .1 .0,
-    (
-      c .before .before .before .before .before .before .before .pre .1 .1 .1 .0,
-      (
-        c .before .before .before .before .before .before .before .pre .1 .1 .1 .1 .0,
-        c .before .before .before .before .before .before .before .pre .1 .1 .1 .1 .1 .0,
-      ),
-    ),
-  ),
-)
+find-mark-requires c κs =
+    let pre = c .before .before .before .before .before .before .before .pre in
+    let more = pre .1 .1 in (
+      record { checked = pre .0; marked = pre .1 .0; fit = start-fit _ _ (pre .0) _ (c .start .ensures) },
+      (more .0, (more .1 .0, (more .1 .1 .0, more .1 .1 .1 .0))),
+    )
 
 returns : tie.Need-returns
 returns c = search needs
@@ -37,17 +26,16 @@ cut-name-requires c κs = search needs
 
 stored-mark-requires : tie.Need-stored-mark-requires
 stored-mark-requires c κs =
-    readable _ _ (c .before .before .before .before .before .before .before .pre .1 .1 .0) _
-    (c .before .before .before .before .before .before .before .pre .1 .1 .1 .1 .1 .0)
+    let pre = c .before .before .before .before .before .before .before .pre in readable _ _ (pre .1 .1 .0) _ (pre .1 .1 .1 .1 .1 .0)
 
 cast-result : tie.Need-cast-result
 cast-result c = search needs
 
 returns-2 : tie.Need-returns-2
 returns-2 c =
-    stored-mark _ _ _ _ (c .before .before .before .before .before .before .before .before .args .counts) _ _ _
-    (c .before .cut-name .ensures) (c .before .before .before .before .before .before .before .before .pre .1 .1 .1 .1 .1 .0)
-    (c .before .before .before .before .before .before .before .before .pre .1 .1 .1 .1 .1 .1 (c .before .before .if1 .left)) _
+    let start = c .before .before .before .before .before .before .before .before in
+    let more = start .pre .1 .1 .1 .1 .1 in
+    stored-mark _ _ _ _ (start .args .counts) _ _ _ (c .before .cut-name .ensures) (more .0) (more .1 (c .before .before .if1 .left)) _
     (c .stored-mark .ensures)
 
 pub mark-of-spec : {M : Type 1} → statement M

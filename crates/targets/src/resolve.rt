@@ -1,0 +1,113 @@
+// The marks of all links of a pass are found and stored.
+use crate::mark::find_mark;
+use crate::name::cut_name;
+use ids::chain::set_next;
+use script::cursor::Cursor;
+use tree::Counts;
+use tree::read::attribute_id;
+ghost use mathlib.Core.Path.{_≡_};
+ghost use Prim.Native.Nat.{ℕ, _<_, _≤_};
+ghost use lib.ListN.{length};
+ghost use Rattle.model.specs.Check.{check};
+ghost use Rattle.model.specs.Repair.{cutName};
+ghost use Rattle.model.specs.Theorems.Kept.{Tidy};
+ghost use Rattle.script.specs.Step.{Fit};
+ghost use Rattle.places.specs.Marks.{Marked};
+ghost use Rattle.tree.specs.Lent.{readOf};
+ghost use Rattle.ids.specs.Chains.{Like, Indexed};
+ghost use Rattle.leads.specs.Links.{Drawn, valuesOf};
+ghost use Rattle.targets.specs.Targets.{seenOf, markOf, Targeted};
+ghost use Rattle.targets.specs.Storing.{Stored};
+
+// Node m, if it has the attribute of the pass.
+fn resolve_one(
+    script: &[u8],
+    characters: &[u8],
+    marks: &[usize; 1025],
+    heads: &[u32; 2049],
+    nodes: &[u32],
+    attributes: &mut [u32],
+    counts: Counts,
+    pass: u32,
+    m: u32,
+    hint: Cursor,
+) -> Cursor
+    requires { ⌜ Drawn (now script) (now characters) (now marks) hint ⌝ }
+    requires { ⌜ Tidy (length (now characters)) (seenOf (now nodes) (now attributes) counts) ⌝ }
+    requires { ⌜ Indexed (now characters) (readOf (now nodes) (now attributes)) (now heads) (counts .nodes) ⌝ }
+    requires { ⌜ counts .nodes < 1073741824 ⌝ }
+    requires { ⌜ (1 ≤ pass) × (pass ≤ 5) ⌝ }
+    requires { ⌜ m < counts .nodes ⌝ }
+    ensures stored { λ r. ⌜ Stored (now (nodes .entry)) (now (attributes .entry)) (cutName pass) m
+        (markOf (now (characters .entry)) (valuesOf (now (script .entry)) (now (characters .entry))) pass
+        (seenOf (now (nodes .entry)) (now (attributes .entry)) counts) m) (now (attributes .exit)) ⌝ }
+    ensures fit { λ r. ⌜ Fit (now (script .entry)) r ⌝ }
+{
+    let name = cut_name(pass);
+    let j = attribute_id(nodes, attributes, m, name);
+    if j == 0 {
+        return hint;
+    }
+    let found = find_mark(
+        script,
+        characters,
+        marks,
+        heads,
+        nodes,
+        attributes,
+        counts,
+        pass,
+        m,
+        hint,
+    );
+    let mark = found.mark as u32;
+    set_next(attributes, j - 1, mark);
+    found.hint
+}
+
+// All nodes. A mark stands behind the importance of its link's entry.
+pub fn resolve(
+    script: &[u8],
+    characters: &[u8],
+    marks: &[usize; 1025],
+    heads: &[u32; 2049],
+    nodes: &[u32],
+    attributes: &mut [u32],
+    counts: Counts,
+    pass: u32,
+)
+    requires { ⌜ check (now script) (now characters) ≡ 0 ⌝ }
+    requires { ⌜ Marked (now script) (now marks) ⌝ }
+    requires { ⌜ Tidy (length (now characters)) (seenOf (now nodes) (now attributes) counts) ⌝ }
+    requires { ⌜ Indexed (now characters) (readOf (now nodes) (now attributes)) (now heads) (counts .nodes) ⌝ }
+    requires { ⌜ counts .nodes < 1073741824 ⌝ }
+    requires { ⌜ (1 ≤ pass) × (pass ≤ 5) ⌝ }
+    ensures like { λ _. ⌜ Like (counts .attributes) (now (attributes .entry)) (now (attributes .exit)) ⌝ }
+    ensures indexed { λ _. ⌜ Indexed (now (characters .entry)) (readOf (now (nodes .entry)) (now (attributes .exit))) (now (heads .entry))
+        (counts .nodes) ⌝ }
+    ensures targeted { λ _. ⌜ Targeted (now (characters .entry)) (valuesOf (now (script .entry)) (now (characters .entry))) pass
+        (seenOf (now (nodes .entry)) (now (attributes .exit)) counts) ⌝ }
+    ensures others { λ _. ⌜ ((k : ℕ) → 1 ≤ k → k ≤ 5 → (k ≡ pass → ⊥)
+        → Targeted (now (characters .entry)) (valuesOf (now (script .entry)) (now (characters .entry))) k
+        (seenOf (now (nodes .entry)) (now (attributes .entry)) counts)
+        → Targeted (now (characters .entry)) (valuesOf (now (script .entry)) (now (characters .entry))) k
+        (seenOf (now (nodes .entry)) (now (attributes .exit)) counts)) ⌝ }
+{
+    let mut hint = Cursor::start();
+    let mut m = 0;
+    while m < counts.nodes {
+        hint = resolve_one(
+            script,
+            characters,
+            marks,
+            heads,
+            nodes,
+            attributes,
+            counts,
+            pass,
+            m,
+            hint,
+        );
+        m += 1;
+    }
+}
