@@ -36,13 +36,6 @@ use Rattle.cuts.proofs.Descending.{up-step, up-none, descendants-alike}
 
 -- WHAT IS READ
 
--- The tables' link is that of the tree.
-pub link-seen : (chars : List ℕ) (values : List Value) (t : Tree) (k a i : ℕ)
-    → linkOf chars values k (readOf (t .nodes) (t .attributes)) a i ≡ linkOf chars values k t a i
-unfolding readingsOfAttribute entryAt
-link-seen chars values t k a i =
-    ap (λ (j : ℕ). readingOf k (pick (eqb j 0) (λ u. []) (λ u. readingsOf (entryWord t (j - 1) 4) values))) (attribute-same t chars i a)
-
 -- The entry of an id can be read.
 pub id-stands : (size : ℕ) (t : Tree) → Tidy size t → (i j : ℕ) → j ≡ attributeId t i AId.Id → Stands size (entriesOf (t .attributes)) j
 unfolding entryAt

@@ -1,6 +1,5 @@
 // An element, and the nodes below it one after another: what leads back to the element is cut, at the node or below where that leads.
 use crate::Aim;
-
 use crate::back::cut_below;
 use crate::below::behind_below;
 use crate::below::first_with;

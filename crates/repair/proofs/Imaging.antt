@@ -15,8 +15,8 @@ use Rattle.tree.specs.declared.Counts.{Counts}
 use Rattle.tree.specs.Lent.{readOf, entriesOf}
 use Rattle.tree.proofs.Alike.{id-same, attribute-same, last-same}
 use Rattle.leads.specs.Links.{valuesOf, idAt}
-use Rattle.cuts.specs.Seen.{seenOf}
-use Rattle.cuts.proofs.Turning.{link-seen}
+use Rattle.targets.specs.Targets.{seenOf}
+use Rattle.targets.proofs.Finding.{link-seen}
 
 -- The readings of an attribute, in the tables as they are lent.
 readings-seen : (chars : List ℕ) (values : List Value) (t : Tree) (a i : ℕ)

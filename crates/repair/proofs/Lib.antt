@@ -1,4 +1,5 @@
 pub mod Imaging
 pub mod Mending
 pub mod Passing
+pub mod Preparing
 pub mod Twins

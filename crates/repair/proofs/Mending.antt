@@ -1,5 +1,5 @@
 -- All passes, one after another, and the text table that they do not read. Assumes nothing.
-use mathlib.Core.Path.{_≡_, refl, sym, ap, _∙_}
+use mathlib.Core.Path.{_≡_, refl, sym, ap, _∙_, subst}
 use mathlib.Core.Bool.{Bool, true, false, true≢false}
 use mathlib.Core.List.{List, [], _∷_}
 use Prim.Native.Nat.{ℕ, zero, suc, _+_, _-_, _<_, _≤_}
@@ -29,9 +29,11 @@ use Rattle.tree.specs.Lent.{treeOf, readOf}
 use Rattle.ids.specs.Chains.{Indexed}
 use Rattle.tree.proofs.Alike.{id-same}
 use Rattle.leads.specs.Links.{valuesOf}
-use Rattle.cuts.specs.Seen.{seenOf, Mendable}
+use Rattle.targets.specs.Targets.{seenOf}
+use Rattle.cuts.specs.Seen.{Mendable}
 use Rattle.repair.specs.Passes.{allPasses, isLinked}
 use Rattle.cuts.proofs.Writing.{applied-more, mend-on, long-on}
+use Rattle.cuts.proofs.Descending.{up-step}
 
 -- THE TEXT TABLE
 
@@ -175,10 +177,33 @@ module _ (script chars marks heads ns : List ℕ) (c : Counts) (es₀ : List ℕ
             ∙ q .same;
       }
 
+  -- The passes from one on, in a loop.
+  pub before-first : check script chars ≡ 0 → Marked script marks → Tidy (length chars) (seenOf ns es₀ c)
+      → Indexed chars (readOf ns es₀) heads (c .nodes) → Before script chars marks heads ns c (upFrom 1 6) es₀ es₀ atStart
+  unfolding upFrom
+  before-first h m g k = before-all h m g k atStart refl
+
+  pub before-turn : (k : ℕ) (es : List ℕ) → k < 7 → Before script chars marks heads ns c (upFrom k (7 - k)) es₀ es atStart → (es′ : List ℕ)
+      → seenOf ns es′ c ≡ applied (seenOf ns es c) (passOn chars (valuesOf script chars) k (seenOf ns es c))
+      → Before script chars marks heads ns c (upFrom (k + 1) (7 - (k + 1))) es₀ es′ atStart
+  before-turn k es l q es′ e =
+      before-next k (upFrom (k + 1) (7 - (k + 1))) es atStart
+      (subst (λ (ks : List ℕ). Before script chars marks heads ns c ks es₀ es atStart) (up-step k 7 l) q) es′ atStart e
+      (q .mendable .drawn .fit)
+
   pub before-none : (es : List ℕ) (hint : Cursor) → Before script chars marks heads ns c [] es₀ es hint
       → seenOf ns es c ≡ applied (seenOf ns es₀ c) (allPasses chars (valuesOf script chars) (seenOf ns es₀ c))
   unfolding passesOn applied
   before-none es hint q = q .same
+
+  -- The last one is left.
+  pub before-last : (k : ℕ) (es : List ℕ) → 5 < k → k ≤ 6 → Before script chars marks heads ns c (upFrom k (7 - k)) es₀ es atStart
+      → (es′ : List ℕ) → seenOf ns es′ c ≡ applied (seenOf ns es c) (passOn chars (valuesOf script chars) 6 (seenOf ns es c))
+      → Before script chars marks heads ns c [] es₀ es′ atStart
+  unfolding upFrom
+  before-last k es l h q es′ e =
+      let d : k ≡ 6 = omega arith in
+      before-turn 6 es (omega arith) (subst (λ (x : ℕ). Before script chars marks heads ns c (upFrom x (7 - x)) es₀ es atStart) d q) es′ e
 
 -- THE REPAIRS
 

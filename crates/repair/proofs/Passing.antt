@@ -1,5 +1,5 @@
 -- The elements of a pass, one after another. Assumes nothing.
-use mathlib.Core.Path.{_≡_, refl, sym, ap, _∙_}
+use mathlib.Core.Path.{_≡_, refl, sym, ap, _∙_, subst}
 use mathlib.Core.Bool.{Bool, true, false}
 use mathlib.Core.List.{List, [], _∷_}
 use Prim.Native.Nat.{ℕ, zero, suc, _+_, _-_, _<_, _≤_}
@@ -9,17 +9,21 @@ use lib.Dec.{eqb}
 use lib.ListN.{length}
 use Rattle.model.specs.Base.{pick, and, Pair}
 use Rattle.model.specs.EId
-use Rattle.model.specs.Drawing.{Value}
+use Rattle.model.specs.Drawing.{Value, events}
 use Rattle.model.specs.Tables.{Tree, ELEMENT, word, kindOf, isNamed}
 use Rattle.model.specs.Repair.{upFrom, allNamed, descendants, recursiveFeImage, Cut, cutAt, applyCut, applied}
 use Rattle.model.specs.Theorems.Sim.{and-left}
 use Rattle.model.specs.Theorems.GoingOn.{withEach, pairsOf, goingOn, elementOf}
-use Rattle.model.specs.Theorems.Images.{imagesOn, passOn}
+use Rattle.model.specs.Theorems.Inside.{all-inside}
+use Rattle.model.specs.Theorems.Images.{imagesOn, passOn, values-bare}
 use Rattle.script.specs.declared.cursor.Cursor.{Cursor}
-use Rattle.script.specs.Step.{Fit}
+use Rattle.script.specs.Step.{Fit, atStart}
 use Rattle.tree.specs.declared.Counts.{Counts}
-use Rattle.cuts.specs.Seen.{seenOf, Mendable, cutPairs}
-use Rattle.repair.specs.Passes.{linkCuts, imageCuts}
+use Rattle.leads.specs.Links.{valuesOf}
+use Rattle.targets.specs.Targets.{seenOf, Targeted}
+use Rattle.targets.proofs.Marks.{targeted-applied}
+use Rattle.cuts.specs.Seen.{Mendable, cutPairs}
+use Rattle.repair.specs.Passes.{linkCuts, imageCuts, Sought, Resolved}
 use Rattle.cuts.proofs.Descending.{up-step, up-none, descendants-alike}
 use Rattle.cuts.proofs.Writing.{mend-on, long-on}
 use Rattle.cuts.proofs.Pairing.{pairs-first}
@@ -203,3 +207,19 @@ module _ (script chars marks heads ns : List ℕ) (c : Counts) (f : Tree → Lis
         sym (o .none (seenOf ns es c))
         ∙ sym (ap (λ (is : List ℕ). applied (seenOf ns es c) (f (seenOf ns es c) is)) (up-none i (c .nodes) l))
         ∙ q .same
+
+-- THE MARKS
+
+-- Cuts keep the marks.
+module _ (script chars marks heads ns es : List ℕ) (c : Counts) (g : Mendable script chars marks heads ns es c atStart) (cs : List Cut)
+    (es′ : List ℕ) (e : seenOf ns es′ c ≡ applied (seenOf ns es c) cs) where
+  pub sought-on : (k : ℕ) → 1 ≤ k → k ≤ 5 → Sought chars (valuesOf script chars) (seenOf ns es c) k
+      → Sought chars (valuesOf script chars) (seenOf ns es′ c) k
+  sought-on k f l s i m n =
+      subst (Targeted chars (valuesOf script chars) k) (sym e)
+      (targeted-applied (length chars) chars (valuesOf script chars)
+      (values-bare (length chars) (events script chars) (all-inside script chars (g .drawn .checked))) k f l (seenOf ns es c) (g .tidy)
+      (s i m n) cs)
+
+  pub resolved-on : Resolved chars (valuesOf script chars) (seenOf ns es c) 6 → Resolved chars (valuesOf script chars) (seenOf ns es′ c) 6
+  resolved-on r = record { sought = λ k f l. sought-on k f (omega arith) (r .sought k f l) }

@@ -26,7 +26,7 @@ use Rattle.tree.specs.Lent.{readOf}
 use Rattle.tree.proofs.Alike.{id-same}
 use Rattle.ids.specs.Chains.{Like, Unmarked}
 use Rattle.ids.proofs.Likeness.{like-id, like-value}
-use Rattle.cuts.specs.Seen.{seenOf}
+use Rattle.targets.specs.Targets.{seenOf}
 use Rattle.cuts.proofs.Descending.{descendants-alike}
 use Rattle.cuts.proofs.Writing.{ids-applied}
 use Rattle.repair.specs.Passes.{allPasses}

@@ -1,14 +1,21 @@
 -- What a pass cuts at a list of nodes, and what all of them cut.
-use Prim.Native.Nat.{ℕ}
-use mathlib.Core.Bool.{Bool}
+use mathlib.Core.Path.{_≡_}
+use Prim.Native.Nat.{ℕ, _<_, _≤_}
+use mathlib.Core.Bool.{Bool, true}
 use mathlib.Core.List.{List, [], _∷_}
+use lib.ListN.{getD}
 use Rattle.model.specs.Base.{or}
 use Rattle.model.specs.EId
 use Rattle.model.specs.Drawing.{Value}
 use Rattle.model.specs.Tables.{Tree, isNamed}
 use Rattle.model.specs.Repair.{allNamed, Cut}
-use Rattle.model.specs.Theorems.GoingOn.{pairsOf, goingOn}
+use Rattle.model.specs.Theorems.GoingOn.{elementOf, pairsOf, goingOn}
 use Rattle.model.specs.Theorems.Images.{imagesOn, passesOn}
+use Rattle.script.specs.Step.{atStart}
+use Rattle.tree.specs.declared.Counts.{Counts}
+use Rattle.leads.specs.Links.{valuesOf}
+use Rattle.targets.specs.Targets.{seenOf, Targeted}
+use Rattle.cuts.specs.Seen.{Mendable}
 
 -- The cuts of one of the passes 1 to 5 at these nodes, where they are elements with the code that it looks at.
 abbrev pub linkCuts : List ℕ → List Value → ℕ → ℕ → Tree → List ℕ → List Cut
@@ -27,3 +34,16 @@ abbrev pub isLinked : Tree → ℕ → Bool
 isLinked t i =
     or (isNamed t EId.Pattern i) (or (isNamed t EId.ClipPath i) (or (isNamed t EId.Mask i)
     (or (isNamed t EId.Filter i) (isNamed t EId.FeImage i))))
+
+-- Where pass k looks at an element, the marks of its links are in the tables.
+abbrev pub Sought : List ℕ → List Value → Tree → ℕ → Type 0
+Sought chars values t k = (i : ℕ) → i < t .nodeCount → isNamed t (elementOf k) i ≡ true → Targeted chars values k t
+
+-- So it is for the passes before pass n.
+pub record Resolved (chars : List ℕ) (values : List Value) (t : Tree) (n : ℕ) : Type 0 where
+  pub sought : (k : ℕ) → 1 ≤ k → k < n → Sought chars values t k
+
+-- What pass k asks, one of the passes 1 to 5: what the repairs ask, and the marks, if the word behind the heads says so.
+pub record Passable (script chars marks heads ns es : List ℕ) (c : Counts) (k : ℕ) : Type 0 where
+  pub mendable : Mendable script chars marks heads ns es c atStart
+  pub sought : (getD heads 2048 0 ≡ 0 → ⊥) → Sought chars (valuesOf script chars) (seenOf ns es c) k

@@ -16,7 +16,8 @@ ghost use Rattle.model.specs.Tables.{ELEMENT, word};
 ghost use Rattle.model.specs.Repair.{recursiveFeImage};
 ghost use Rattle.script.specs.Step.{Fit};
 ghost use Rattle.leads.specs.Links.{valuesOf};
-ghost use Rattle.cuts.specs.Seen.{seenOf, Mendable};
+ghost use Rattle.targets.specs.Targets.{seenOf};
+ghost use Rattle.cuts.specs.Seen.{Mendable};
 
 // A node that a feImage cuts, as its index plus 1, 0 for none; and a place in the script from which to look for the next link.
 pub struct Image {

@@ -12,7 +12,8 @@ ghost use Rattle.model.specs.Repair.{applied};
 ghost use Rattle.model.specs.Theorems.Images.{passOn};
 ghost use Rattle.script.specs.Step.{Fit};
 ghost use Rattle.leads.specs.Links.{valuesOf};
-ghost use Rattle.cuts.specs.Seen.{seenOf, Mendable};
+ghost use Rattle.targets.specs.Targets.{seenOf};
+ghost use Rattle.cuts.specs.Seen.{Mendable};
 ghost use Rattle.repair.specs.Passes.{imageCuts};
 
 // Node i, where it is a feImage: the filter of the node that it leads to is cut, if it leads back.

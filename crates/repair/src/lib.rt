@@ -3,4 +3,5 @@ pub mod image;
 pub mod images;
 pub mod linked;
 pub mod pass;
+pub mod prepare;
 pub mod whole;

@@ -1,7 +1,6 @@
 // One pass: each element that it looks at, one after another.
 use cuts::pair::cut_element;
 use names::eid;
-use script::cursor::Cursor;
 use tree::Counts;
 use tree::word;
 use tree::word::node_word;
@@ -13,14 +12,13 @@ ghost use Rattle.model.specs.Tables.{isNamed};
 ghost use Rattle.model.specs.Repair.{applied};
 ghost use Rattle.model.specs.Theorems.GoingOn.{elementOf};
 ghost use Rattle.model.specs.Theorems.Images.{passOn};
-ghost use Rattle.script.specs.Step.{Fit};
 ghost use Rattle.tree.specs.Lent.{nodesRead};
 ghost use Rattle.leads.specs.Links.{valuesOf};
-ghost use Rattle.cuts.specs.Seen.{seenOf, Mendable};
-ghost use Rattle.repair.specs.Passes.{linkCuts};
+ghost use Rattle.targets.specs.Targets.{seenOf};
+ghost use Rattle.repair.specs.Passes.{linkCuts, Passable};
 
 // The elements that one of the passes 1 to 5 looks at.
-fn element_code(pass: u32) -> u32
+pub fn element_code(pass: u32) -> u32
     requires { ⌜ (1 ≤ pass) × (pass ≤ 5) ⌝ }
     ensures { λ r. ⌜ r ≡ elementOf pass ⌝ }
 {
@@ -53,38 +51,38 @@ fn cut_named(
     characters: &[u8],
     marks: &[usize; 1025],
     heads: &[u32; 2049],
+    quiet: &mut [u32; 4096],
     nodes: &[u32],
     attributes: &mut [u32],
     counts: Counts,
     pass: u32,
     code: u32,
     i: u32,
-    hint: Cursor,
-) -> Cursor
-    requires { ⌜ Mendable (now script) (now characters) (now marks) (now heads) (now nodes) (now attributes) counts hint ⌝ }
+)
+    requires { ⌜ Passable (now script) (now characters) (now marks) (now heads) (now nodes) (now attributes) counts pass ⌝ }
     requires { ⌜ (1 ≤ pass) × (pass ≤ 5) ⌝ }
+    requires { ⌜ code ≡ elementOf pass ⌝ }
     requires { ⌜ i < counts .nodes ⌝ }
-    ensures tables { λ r. ⌜ seenOf (now (nodes .entry)) (now (attributes .exit)) counts
+    ensures { λ _. ⌜ seenOf (now (nodes .entry)) (now (attributes .exit)) counts
         ≡ applied (seenOf (now (nodes .entry)) (now (attributes .entry)) counts)
         (linkCuts (now (characters .entry)) (valuesOf (now (script .entry)) (now (characters .entry))) pass code
         (seenOf (now (nodes .entry)) (now (attributes .entry)) counts) (i ∷ [])) ⌝ }
-    ensures fit { λ r. ⌜ Fit (now (script .entry)) r ⌝ }
 {
     if !is_named(nodes, code, i) {
-        return hint;
+        return;
     }
     cut_element(
         script,
         characters,
         marks,
         heads,
+        quiet,
         nodes,
         attributes,
         counts,
         pass,
         i,
-        hint,
-    )
+    );
 }
 
 // One of the passes 1 to 5.
@@ -93,38 +91,35 @@ pub fn cut_pass(
     characters: &[u8],
     marks: &[usize; 1025],
     heads: &[u32; 2049],
+    quiet: &mut [u32; 4096],
     nodes: &[u32],
     attributes: &mut [u32],
     counts: Counts,
     pass: u32,
-    hint: Cursor,
-) -> Cursor
-    requires { ⌜ Mendable (now script) (now characters) (now marks) (now heads) (now nodes) (now attributes) counts hint ⌝ }
+)
+    requires { ⌜ Passable (now script) (now characters) (now marks) (now heads) (now nodes) (now attributes) counts pass ⌝ }
     requires { ⌜ (1 ≤ pass) × (pass ≤ 5) ⌝ }
-    ensures tables { λ r. ⌜ seenOf (now (nodes .entry)) (now (attributes .exit)) counts
+    ensures { λ _. ⌜ seenOf (now (nodes .entry)) (now (attributes .exit)) counts
         ≡ applied (seenOf (now (nodes .entry)) (now (attributes .entry)) counts)
         (passOn (now (characters .entry)) (valuesOf (now (script .entry)) (now (characters .entry))) pass
         (seenOf (now (nodes .entry)) (now (attributes .entry)) counts)) ⌝ }
-    ensures fit { λ r. ⌜ Fit (now (script .entry)) r ⌝ }
 {
     let code = element_code(pass);
-    let mut c = hint;
     let mut i = 0;
     while i < counts.nodes {
-        c = cut_named(
+        cut_named(
             script,
             characters,
             marks,
             heads,
+            quiet,
             nodes,
             attributes,
             counts,
             pass,
             code,
             i,
-            c,
         );
         i += 1;
     }
-    c
 }

@@ -2,7 +2,7 @@ use native.Mathlib.Omega.{arith}
 use mathlib.Core.Path.{_∙_}
 use Rattle.tree.proofs.Bools.{fails, passes}
 use Rattle.tree.proofs.Facts.{readable}
-use Rattle.cuts.specs.Seen.{seenOf}
+use Rattle.targets.specs.Targets.{seenOf}
 use Rattle.cuts.proofs.Turning.{cut-seen}
 use Rattle.repair.proofs.Passing.{named-kind, no-image, image-uncut, image-cut}
 use borrow.Author.Needs.{needs}

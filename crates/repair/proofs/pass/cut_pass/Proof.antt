@@ -1,54 +1,85 @@
 use Prim.Native.Nat.{_-_}
 use native.Mathlib.Omega.{arith}
-use mathlib.Core.Path.{ap, _∙_}
+use mathlib.Core.Path.{_≡_, ap, _∙_}
+use lib.ListN.{getD}
 use Rattle.model.specs.Repair.{applied}
+use Rattle.script.specs.Step.{atStart}
 use Rattle.leads.specs.Links.{valuesOf}
-use Rattle.repair.specs.Passes.{linkCuts}
-use Rattle.repair.proofs.Passing.{links-each, links-all, Pass, pass-start, pass-turn, pass-done}
+use Rattle.targets.specs.Targets.{seenOf}
+use Rattle.repair.specs.Passes.{linkCuts, Sought}
+use Rattle.repair.proofs.Passing.{links-each, links-all, Pass, pass-start, pass-turn, pass-done, sought-on}
 use Rattle.repair.proofs.pass.cut_pass.Statement.{statement}
 use Rattle.repair.proofs.pass.cut_pass.Tie as tie
+use Rattle.repair.proofs.pass.cut_pass.Reads as reads
+use Rattle.repair.proofs.pass.cut_pass.Lts as lts
+use Rattle.repair.proofs.pass.cut_named.Reads as cut-named-reads
+use Rattle.repair.proofs.pass.element_code.Reads as element-code-reads
 
 abbrev Inv-loop : tie.InvT-loop
-Inv-loop script characters marks heads nodes attributes₀ counts pass code c₀ i₀ attributes c i =
-    Pass script characters marks heads nodes counts (linkCuts characters (valuesOf script characters) pass code) attributes₀ attributes i c
+Inv-loop script characters marks heads quiet₀ nodes attributes₀ counts pass code i₀ quiet attributes i =
+    Pass script characters marks heads nodes counts (linkCuts characters (valuesOf script characters) pass code) attributes₀ attributes i
+    atStart × ((getD heads 2048 0 ≡ 0 → ⊥) → Sought characters (valuesOf script characters) (seenOf nodes attributes counts) pass)
 
 abbrev μ-loop : tie.MeasureT-loop
-μ-loop script characters marks heads nodes attributes₀ counts pass code c₀ i₀ attributes c i = counts .nodes - i
+μ-loop script characters marks heads quiet₀ nodes attributes₀ counts pass code i₀ quiet attributes i =
+    counts .nodes - i
 
+-- src/pass.rt:107:9
 element-code-requires : tie.Need-element-code-requires Inv-loop μ-loop
 element-code-requires c κs = c .before .before .before .before .pre .1
 
+-- src/pass.rt:109:5
 loop-holds : tie.Need-loop-holds Inv-loop μ-loop
-loop-holds c = pass-start _ _ _ _ _ _ _ _ _ (c .before .before .before .before .before .pre .0)
-
-cut-named-requires : tie.Need-cut-named-requires Inv-loop μ-loop
-cut-named-requires c κs = (
-  c .before .before .before .loop .inv .mendable,
-  (c .before .before .before .before .before .before .before .before .before .pre .1, c .before .if1 .taken),
+loop-holds c = (
+  pass-start _ _ _ _ _ _ _ _ _ (c .before .before .before .before .before .pre .0 .mendable),
+  c .before .before .before .before .before .pre .0 .sought,
 )
 
+-- src/pass.rt:110:9
+cut-named-requires : tie.Need-cut-named-requires Inv-loop μ-loop
+cut-named-requires c κs = (
+  record {
+    mendable = c .before .before .before .before .loop .inv .0 .mendable;
+    sought = c .before .before .before .before .loop .inv .1;
+  },
+  (
+    c .before .before .before .before .before .before .before .before .before .before .pre .1,
+    (c .before .before .before .before .before .element-code .ensures, c .before .before .if1 .taken),
+  ),
+)
+
+-- src/pass.rt:123:9
 add-i : tie.Need-add-i Inv-loop μ-loop
 add-i c = omega arith
 
+-- src/pass.rt:109:5
 loop-less : tie.Need-loop-less Inv-loop μ-loop
 loop-less c = omega arith
 
+-- src/pass.rt:109:5
 loop-again : tie.Need-loop-again Inv-loop μ-loop
-loop-again c =
-    pass-turn _ _ _ _ _ _ _ (links-each _ _ _ _) _ _ _ _ (c .before .before .before .before .before .before .loop .inv)
-    (c .before .before .before .before .if1 .taken) _ _ (c .before .before .cut-named .ensures .0)
-    (c .before .before .cut-named .ensures .1)
-
-same-length : tie.Need-same-length Inv-loop μ-loop
-same-length c = c .before .before .loop .inv .long
-
-returns : tie.Need-returns Inv-loop μ-loop
-returns c = (
-  pass-done _ _ _ _ _ _ _ (links-each _ _ _ _) _ _ _ _ (c .before .before .loop .inv) (c .if1 .left)
-      ∙ ap (applied _) (links-all _ _ _ _ _ (c .before .before .before .element-code .ensures)
-      (c .before .before .before .before .before .before .before .before .pre .1 .1)),
-  c .before .before .loop .inv .mendable .drawn .fit,
+loop-again c = (
+  pass-turn _ _ _ _ _ _ _ (links-each _ _ _ _) _ _ _ _
+      (c .before .before .before .before .before .before .before .loop .inv .0)
+      (c .before .before .before .before .before .if1 .taken) _ _ (c .before .before .cut-named .ensures)
+      (c .before .before .before .before .before .before .before .loop .inv .0 .mendable .drawn .fit),
+  λ z. sought-on _ _ _ _ _ _ _ (c .before .before .before .before .before .before .before .loop .inv .0 .mendable) _ _
+      (c .before .before .cut-named .ensures) _
+      (c .before .before .before .before .before .before .before .before .before .before .before .before .before .pre .1 .0)
+      (c .before .before .before .before .before .before .before .before .before .before .before .before .before .pre .1 .1)
+      (c .before .before .before .before .before .before .before .loop .inv .1 z),
 )
+
+-- src/pass.rt:89:1
+same-length : tie.Need-same-length Inv-loop μ-loop
+same-length c = c .before .before .loop .inv .0 .long
+
+-- src/pass.rt:89:1
+returns : tie.Need-returns Inv-loop μ-loop
+returns c =
+    pass-done _ _ _ _ _ _ _ (links-each _ _ _ _) _ _ _ _ (c .before .before .loop .inv .0) (c .if1 .left)
+    ∙ ap (applied _) (links-all _ _ _ _ _ (c .before .before .before .element-code .ensures)
+    (c .before .before .before .before .before .before .before .before .pre .1 .1))
 
 pub cut-pass-spec : {M : Type 1} → statement M
 cut-pass-spec =

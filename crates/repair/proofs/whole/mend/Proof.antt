@@ -1,134 +1,121 @@
 use native.Mathlib.Omega.{arith}
-use Rattle.repair.proofs.Mending.{before-all, before-next, before-none}
-use borrow.Author.Needs.{needs}
+use mathlib.Core.Path.{_≡_, sym, subst}
+use Prim.Native.Nat.{_-_, _≤_}
+use lib.ListN.{getD}
+use Rattle.model.specs.Repair.{upFrom}
+use Rattle.script.specs.Step.{atStart}
+use Rattle.leads.specs.Links.{valuesOf}
+use Rattle.targets.specs.Targets.{seenOf}
+use Rattle.cuts.specs.Seen.{Mendable}
+use Rattle.repair.specs.Passes.{Resolved}
+use Rattle.repair.proofs.Passing.{resolved-on}
+use Rattle.repair.proofs.Mending.{Before, before-first, before-turn, before-last, before-none}
 use Rattle.repair.proofs.whole.mend.Statement.{statement}
 use Rattle.repair.proofs.whole.mend.Tie as tie
+use Rattle.repair.proofs.whole.mend.Reads as reads
+use Rattle.repair.proofs.whole.mend.Lts as lts
+use Rattle.repair.proofs.images.cut_images.Reads as cut-images-reads
+use Rattle.repair.proofs.pass.cut_pass.Reads as cut-pass-reads
+use Rattle.script.proofs.cursor.Cursor.start.Reads as start-reads
 
-start-requires : tie.Need-start-requires
-start-requires c κs = search needs
+abbrev Inv-loop : tie.InvT-loop
+Inv-loop script characters marks heads quiet₀ nodes attributes₀ counts pass₀ quiet attributes pass =
+    (1 ≤ pass) × ((pass ≤ 6) × (Before script characters marks heads nodes counts (upFrom pass (7 - pass)) attributes₀ attributes atStart
+    × ((getD heads 2048 0 ≡ 0 → ⊥) → Resolved characters (valuesOf script characters) (seenOf nodes attributes counts) 6)))
 
-cut-pass-requires : tie.Need-cut-pass-requires
+abbrev μ-loop : tie.MeasureT-loop
+μ-loop script characters marks heads quiet₀ nodes attributes₀ counts pass₀ quiet attributes pass =
+    6 - pass
+
+-- src/whole.rt:48:5
+loop-holds : tie.Need-loop-holds Inv-loop μ-loop
+loop-holds c = (
+  omega arith,
+  (
+    omega arith,
+    (
+      before-first _ _ _ _ _ _ _ (c .before .before .before .before .pre .0)
+          (c .before .before .before .before .pre .1 .0) (c .before .before .before .before .pre .1 .1 .0)
+          (c .before .before .before .before .pre .1 .1 .1 .0),
+      c .before .before .before .before .pre .1 .1 .1 .1,
+    ),
+  ),
+)
+
+-- src/whole.rt:49:9
+cut-pass-requires : tie.Need-cut-pass-requires Inv-loop μ-loop
 cut-pass-requires c κs =
-    let pre = c .before .before .before .before .before .before .pre in
-    let one = before-all _ _ _ _ _ _ _ (pre .0) (pre .1 .0) (pre .1 .1 .0) (pre .1 .1 .1) _ (c .before .start .ensures) in
-    (one .mendable, (omega arith, omega arith))
+    let before = c .before .before .before .loop .inv .1 .1 .0 in (
+      record {
+        mendable = before .mendable;
+        sought = λ z. (c .before .before .before .loop .inv .1 .1 .1 z) .sought _
+            (c .before .before .before .loop .inv .0) (omega (arith, c .before .before .loop-test .taken));
+      },
+      (c .before .before .before .loop .inv .0, omega (arith, c .before .before .loop-test .taken)),
+    )
 
-cut-pass-requires-2 : tie.Need-cut-pass-requires-2
-cut-pass-requires-2 c κs =
-    let pre = c .before .before .before .before .before .before .before .before .before .before .pre in
-    let one = before-all _ _ _ _ _ _ _ (pre .0) (pre .1 .0) (pre .1 .1 .0) (pre .1 .1 .1) _ (c .before .before .before .before .before .start .ensures) in
-    let two = before-next _ _ _ _ _ _ _ _ _ _ _ one _ _ (c .before .before .before .cut-pass .ensures .0)
-    (c .before .before .before .cut-pass .ensures .1) in
-    (two .mendable, (omega arith, omega arith))
+-- src/whole.rt:60:9
+add-pass : tie.Need-add-pass Inv-loop μ-loop
+add-pass c = omega arith
 
-cut-pass-requires-3 : tie.Need-cut-pass-requires-3
-cut-pass-requires-3 c κs =
-    let at-start = c .before .before .before .before .before .before .before .before .before in
-    let cut-pass-ensures = c .before .before .before .before .before .before .before .cut-pass .ensures in
-    let pre = at-start .before .before .before .before .before .pre in
-    let one = before-all _ _ _ _ _ _ _ (pre .0) (pre .1 .0) (pre .1 .1 .0) (pre .1 .1 .1) _ (at-start .start .ensures) in
-    let two = before-next _ _ _ _ _ _ _ _ _ _ _ one _ _ (cut-pass-ensures .0) (cut-pass-ensures .1) in
-    let three = before-next _ _ _ _ _ _ _ _ _ _ _ two _ _ (c .before .before .before .cut-pass2 .ensures .0)
-    (c .before .before .before .cut-pass2 .ensures .1) in
-    (three .mendable, (omega arith, omega arith))
+-- src/whole.rt:48:5
+loop-less : tie.Need-loop-less Inv-loop μ-loop
+loop-less c = omega arith
 
-cut-pass-requires-4 : tie.Need-cut-pass-requires-4
-cut-pass-requires-4 c κs =
-    let cut-pass2-ensures = c .before .before .before .before .before .before .before .cut-pass2 .ensures in
-    let at-cut-pass = c .before .before .before .before .before .before .before .before .before .before .before in
-    let pre = at-cut-pass .before .before .before .before .before .before .before .pre in
-    let one = before-all _ _ _ _ _ _ _ (pre .0) (pre .1 .0) (pre .1 .1 .0) (pre .1 .1 .1) _ (at-cut-pass .before .before .start .ensures) in
-    let two = before-next _ _ _ _ _ _ _ _ _ _ _ one _ _ (at-cut-pass .cut-pass .ensures .0) (at-cut-pass .cut-pass .ensures .1) in
-    let three = before-next _ _ _ _ _ _ _ _ _ _ _ two _ _ (cut-pass2-ensures .0) (cut-pass2-ensures .1) in
-    let four = before-next _ _ _ _ _ _ _ _ _ _ _ three _ _ (c .before .before .before .cut-pass3 .ensures .0)
-    (c .before .before .before .cut-pass3 .ensures .1) in
-    (four .mendable, (omega arith, omega arith))
+-- src/whole.rt:48:5
+loop-again : tie.Need-loop-again Inv-loop μ-loop
+loop-again c =
+    let before = c .before .before .before .before .before .before .loop .inv .1 .1 .0 in (
+      omega (arith, c .before .before .before .before .before .before .loop .inv .0),
+      (
+        omega (arith, c .before .before .before .before .before .loop-test .taken),
+        (
+          before-turn _ _ _ _ _ _ _ _ _ (omega (arith, c .before .before .before .before .before .loop-test .taken)) before _
+              (c .before .before .cut-pass .ensures),
+          λ z. resolved-on _ _ _ _ _ _ _ (before .mendable) _ _
+              (c .before .before .cut-pass .ensures) (c .before .before .before .before .before .before .loop .inv .1 .1 .1 z),
+        ),
+      ),
+    )
 
-cut-pass-requires-5 : tie.Need-cut-pass-requires-5
-cut-pass-requires-5 c κs =
-    let cut-pass3-ensures = c .before .before .before .before .before .before .before .cut-pass3 .ensures in
-    let at-cut-pass2 = c .before .before .before .before .before .before .before .before .before .before .before in
-    let at-start = at-cut-pass2 .before .before .before .before .before .before in
-    let cut-pass-ensures = at-cut-pass2 .before .before .before .before .cut-pass .ensures in
-    let pre = at-start .before .before .before .before .before .pre in
-    let one = before-all _ _ _ _ _ _ _ (pre .0) (pre .1 .0) (pre .1 .1 .0) (pre .1 .1 .1) _ (at-start .start .ensures) in
-    let two = before-next _ _ _ _ _ _ _ _ _ _ _ one _ _ (cut-pass-ensures .0) (cut-pass-ensures .1) in
-    let three = before-next _ _ _ _ _ _ _ _ _ _ _ two _ _ (at-cut-pass2 .cut-pass2 .ensures .0)
-    (at-cut-pass2 .cut-pass2 .ensures .1) in
-    let four = before-next _ _ _ _ _ _ _ _ _ _ _ three _ _ (cut-pass3-ensures .0) (cut-pass3-ensures .1) in
-    let five = before-next _ _ _ _ _ _ _ _ _ _ _ four _ _ (c .before .before .before .cut-pass4 .ensures .0)
-    (c .before .before .before .cut-pass4 .ensures .1) in
-    (five .mendable, (omega arith, omega arith))
+-- src/whole.rt:70:9
+start-requires : tie.Need-start-requires Inv-loop μ-loop
+start-requires c κs = omega arith
 
-cut-images-requires : tie.Need-cut-images-requires
+-- src/whole.rt:62:5
+cut-images-requires : tie.Need-cut-images-requires Inv-loop μ-loop
 cut-images-requires c κs =
-    let cut-pass4-ensures = c .before .before .before .before .before .before .before .cut-pass4 .ensures in
-    let at-cut-pass3 = c .before .before .before .before .before .before .before .before .before .before .before in
-    let cut-pass2-ensures = at-cut-pass3 .before .before .before .before .cut-pass2 .ensures in
-    let at-cut-pass = at-cut-pass3 .before .before .before .before .before .before .before .before in
-    let pre = at-cut-pass .before .before .before .before .before .before .before .pre in
-    let one = before-all _ _ _ _ _ _ _ (pre .0) (pre .1 .0) (pre .1 .1 .0) (pre .1 .1 .1) _ (at-cut-pass .before .before .start .ensures) in
-    let two = before-next _ _ _ _ _ _ _ _ _ _ _ one _ _ (at-cut-pass .cut-pass .ensures .0) (at-cut-pass .cut-pass .ensures .1) in
-    let three = before-next _ _ _ _ _ _ _ _ _ _ _ two _ _ (cut-pass2-ensures .0) (cut-pass2-ensures .1) in
-    let four = before-next _ _ _ _ _ _ _ _ _ _ _ three _ _ (at-cut-pass3 .cut-pass3 .ensures .0)
-    (at-cut-pass3 .cut-pass3 .ensures .1) in
-    let five = before-next _ _ _ _ _ _ _ _ _ _ _ four _ _ (cut-pass4-ensures .0) (cut-pass4-ensures .1) in
-    let six = before-next _ _ _ _ _ _ _ _ _ _ _ five _ _ (c .before .before .before .cut-pass5 .ensures .0)
-    (c .before .before .before .cut-pass5 .ensures .1) in
-    six .mendable
+    let before = c .before .before .before .loop .inv .1 .1 .0 in
+    subst (Mendable _ _ _ _ _ _ _) (sym (c .start .ensures)) (before .mendable)
 
-same-length : tie.Need-same-length
+-- src/whole.rt:26:1
+same-length : tie.Need-same-length Inv-loop μ-loop
 same-length c =
-    let cut-pass5-ensures = c .before .before .before .before .before .before .cut-pass5 .ensures in
-    let at-cut-pass4 = c .before .before .before .before .before .before .before .before .before .before in
-    let cut-pass3-ensures = at-cut-pass4 .before .before .before .before .cut-pass3 .ensures in
-    let at-cut-pass2 = at-cut-pass4 .before .before .before .before .before .before .before .before in
-    let at-start = at-cut-pass2 .before .before .before .before .before .before in
-    let cut-pass-ensures = at-cut-pass2 .before .before .before .before .cut-pass .ensures in
-    let pre = at-start .before .before .before .before .before .pre in
-    let one = before-all _ _ _ _ _ _ _ (pre .0) (pre .1 .0) (pre .1 .1 .0) (pre .1 .1 .1) _ (at-start .start .ensures) in
-    let two = before-next _ _ _ _ _ _ _ _ _ _ _ one _ _ (cut-pass-ensures .0) (cut-pass-ensures .1) in
-    let three = before-next _ _ _ _ _ _ _ _ _ _ _ two _ _ (at-cut-pass2 .cut-pass2 .ensures .0)
-    (at-cut-pass2 .cut-pass2 .ensures .1) in
-    let four = before-next _ _ _ _ _ _ _ _ _ _ _ three _ _ (cut-pass3-ensures .0) (cut-pass3-ensures .1) in
-    let five = before-next _ _ _ _ _ _ _ _ _ _ _ four _ _ (at-cut-pass4 .cut-pass4 .ensures .0)
-    (at-cut-pass4 .cut-pass4 .ensures .1) in
-    let six = before-next _ _ _ _ _ _ _ _ _ _ _ five _ _ (cut-pass5-ensures .0) (cut-pass5-ensures .1) in
-    let end = before-next _ _ _ _ _ _ _ _ _ _ _ six _ _ (c .before .before .cut-images .ensures .0)
-    (c .before .before .cut-images .ensures .1) in
+    let before = c .before .before .before .before .before .before .loop .inv .1 .1 .0 in
+    let end = before-last _ _ _ _ _ _ _ _ _ (omega (arith, c .before .before .before .before .before .loop-test .left))
+    (c .before .before .before .before .before .before .loop .inv .1 .0) before _ (c .before .before .cut-images .ensures .0) in
     end .long
 
-returns : tie.Need-returns
+-- src/whole.rt:26:1
+returns : tie.Need-returns Inv-loop μ-loop
 returns c =
-    let cut-pass5-ensures = c .before .before .before .before .before .before .cut-pass5 .ensures in
-    let at-cut-pass4 = c .before .before .before .before .before .before .before .before .before .before in
-    let cut-pass3-ensures = at-cut-pass4 .before .before .before .before .cut-pass3 .ensures in
-    let at-cut-pass2 = at-cut-pass4 .before .before .before .before .before .before .before .before in
-    let at-start = at-cut-pass2 .before .before .before .before .before .before in
-    let cut-pass-ensures = at-cut-pass2 .before .before .before .before .cut-pass .ensures in
-    let pre = at-start .before .before .before .before .before .pre in
-    let one = before-all _ _ _ _ _ _ _ (pre .0) (pre .1 .0) (pre .1 .1 .0) (pre .1 .1 .1) _ (at-start .start .ensures) in
-    let two = before-next _ _ _ _ _ _ _ _ _ _ _ one _ _ (cut-pass-ensures .0) (cut-pass-ensures .1) in
-    let three = before-next _ _ _ _ _ _ _ _ _ _ _ two _ _ (at-cut-pass2 .cut-pass2 .ensures .0)
-    (at-cut-pass2 .cut-pass2 .ensures .1) in
-    let four = before-next _ _ _ _ _ _ _ _ _ _ _ three _ _ (cut-pass3-ensures .0) (cut-pass3-ensures .1) in
-    let five = before-next _ _ _ _ _ _ _ _ _ _ _ four _ _ (at-cut-pass4 .cut-pass4 .ensures .0)
-    (at-cut-pass4 .cut-pass4 .ensures .1) in
-    let six = before-next _ _ _ _ _ _ _ _ _ _ _ five _ _ (cut-pass5-ensures .0) (cut-pass5-ensures .1) in
-    let end = before-next _ _ _ _ _ _ _ _ _ _ _ six _ _ (c .before .before .cut-images .ensures .0)
-    (c .before .before .cut-images .ensures .1) in
+    let before = c .before .before .before .before .before .before .loop .inv .1 .1 .0 in
+    let end = before-last _ _ _ _ _ _ _ _ _ (omega (arith, c .before .before .before .before .before .loop-test .left))
+    (c .before .before .before .before .before .before .loop .inv .1 .0) before _ (c .before .before .cut-images .ensures .0) in
     before-none _ _ _ _ _ _ _ _ _ end
 
 pub mend-spec : {M : Type 1} → statement M
 mend-spec =
     tie.close
     (tie.spec
-    start-requires
+    Inv-loop
+    μ-loop
+    loop-holds
     cut-pass-requires
-    cut-pass-requires-2
-    cut-pass-requires-3
-    cut-pass-requires-4
-    cut-pass-requires-5
+    add-pass
+    loop-less
+    loop-again
+    start-requires
     cut-images-requires
     same-length
     returns)

@@ -1,6 +1,7 @@
 use mathlib.Core.List.{[]}
 use native.Mathlib.Omega.{arith}
 use borrow.Author.Tests.{not-true, not-false}
+use Rattle.model.specs.Theorems.Unused.{replicate-zero}
 use Rattle.places.proofs.Marking.{marked-none}
 use Rattle.ids.proofs.Likeness.{like-tidy}
 use Rattle.cuts.proofs.Writing.{long-on}
@@ -9,99 +10,134 @@ use Rattle.repair.proofs.Twins.{unchained}
 use borrow.Author.Needs.{needs}
 use Rattle.repair.proofs.whole.repair.Statement.{statement}
 use Rattle.repair.proofs.whole.repair.Tie as tie
+use Rattle.repair.proofs.whole.repair.Reads as reads
+use Rattle.repair.proofs.whole.repair.Lts as lts
+use Rattle.ids.proofs.plain.unchain.Reads as unchain-reads
+use Rattle.places.proofs.marks.set_marks.Reads as set-marks-reads
+use Rattle.repair.proofs.linked.any_linked.Reads as any-linked-reads
+use Rattle.repair.proofs.prepare.has_room.Reads as has-room-reads
+use Rattle.repair.proofs.prepare.prepare.Reads as prepare-reads
+use Rattle.repair.proofs.whole.mend.Reads as mend-reads
 
+-- src/whole.rt:89:9
 any-linked-requires : tie.Need-any-linked-requires
 any-linked-requires c κs = search needs
 
+-- src/whole.rt:90:9
 returns : tie.Need-returns
 returns c =
     mended _ _ _ _ _ (c .before .before .before .before .before .before .args .counts)
     (c .before .before .before .before .before .before .pre .0) (c .before .before .before .before .before .before .pre .1)
     (unlinked _ _ _ (c .before .any-linked .ensures (not-true _ (c .if1 .taken))))
 
+-- src/whole.rt:93:5
 set-marks-requires : tie.Need-set-marks-requires
 set-marks-requires c κs = marked-none _ (small _ _ (c .before .before .before .before .before .before .before .pre .0))
 
-is-plain-requires : tie.Need-is-plain-requires
-is-plain-requires c κs = search needs
+-- src/whole.rt:96:9
+has-room-requires : tie.Need-has-room-requires
+has-room-requires c κs = search needs
 
+-- src/whole.rt:97:9
 mend-requires : tie.Need-mend-requires
 mend-requires c κs = (
+  c .before .before .before .before .before .before .before .before .before .before .before .before .before .before .before
+      .pre .0,
+  (
+    c .before .before .before .before .before .before .before .set-marks .ensures,
+    (
+      c .before .before .before .before .before .before .before .before .before .before .before .before .before .before .before
+          .pre .1,
+      (indexed-none _ _ _, λ z. absurd (z (replicate-zero 2049 2048))),
+    ),
+  ),
+)
+
+-- src/whole.rt:107:9
+same-length : tie.Need-same-length
+same-length c = search needs
+
+-- src/whole.rt:107:9
+returns-2 : tie.Need-returns-2
+returns-2 c =
+    mended _ _ _ _ _ (c .before .before .before .before .before .before .before .before .before .before .before .before .before
+    .before .before .before .before .before .args .counts)
+    (c .before .before .before .before .before .before .before .before .before .before .before .before .before .before .before
+    .before .before .before .pre .0) (c .before .before .before .before .before .before .before .before .before .before .before
+    .before .before .before .before .before .before .before .pre .1) (c .before .before .mend .ensures)
+
+-- src/whole.rt:109:5
+prepare-requires : tie.Need-prepare-requires
+prepare-requires c κs = (
   c .before .before .before .before .before .before .before .before .before .before .before .before .before .before .pre .0,
   (
     c .before .before .before .before .before .before .set-marks .ensures,
     (
       c .before .before .before .before .before .before .before .before .before .before .before .before .before .before .pre .1,
-      indexed-none _ _ _,
+      (
+        heads-none,
+        (c .before .before .before .before .has-room .ensures (not-false _ (c .before .before .before .if2 .left))) .0,
+      ),
     ),
   ),
 )
 
-same-length : tie.Need-same-length
-same-length c = search needs
-
-returns-2 : tie.Need-returns-2
-returns-2 c =
-    mended _ _ _ _ _ (c .before .before .before .before .before .before .before .before .before .before .before .before .before
-    .before .before .before .before .args .counts)
-    (c .before .before .before .before .before .before .before .before .before .before .before .before .before .before .before
-    .before .before .pre .0) (c .before .before .before .before .before .before .before .before .before .before .before .before
-    .before .before .before .before .before .pre .1) (c .before .before .mend .ensures)
-
-chain-requires : tie.Need-chain-requires
-chain-requires c κs = (
-  c .before .before .before .before .before .before .before .before .before .before .before .before .before .pre .1,
-  heads-none,
-)
-
+-- src/whole.rt:118:5
 mend-requires-2 : tie.Need-mend-requires-2
 mend-requires-2 c κs = (
   c .before .before .before .before .before .before .before .before .before .before .before .before .before .before .before
-      .before .before .before .before .pre .0,
+      .before .before .before .before .before .before .pre .0,
   (
-    c .before .before .before .before .before .before .before .before .before .before
-        .before .set-marks .ensures,
+    c .before .before .before .before .before .before .before .before .before .before .before .before .before .set-marks
+        .ensures,
     (
-      like-tidy _ _ _ _ _ _ (c .before .before .before .before .before .chain .ensures .0)
+      like-tidy _ _ _ _ _ _ (c .before .before .before .before .before .before .prepare .ensures .0)
           (c .before .before .before .before .before .before .before .before .before .before .before .before .before .before .before
-          .before .before .before .before .pre .1),
-      c .before .before .before .before .before .chain .ensures .1,
+          .before .before .before .before .before .before .pre .1),
+      (
+        c .before .before .before .before .before .before .prepare .ensures .1 .0,
+        c .before .before .before .before .before .before .prepare .ensures .1 .1,
+      ),
     ),
   ),
 )
 
+-- src/whole.rt:128:5
 unchain-requires : tie.Need-unchain-requires
 unchain-requires c κs =
     omega (
       arith,
       c .before .before .before .before .before .before .before .before .before .before .before .before .before
-          .before .before .before .before .before .before .before .before .before .before .pre .1 .kept .fits .entries,
-      c .before .before .before .before .before .before .before .before .before .chain .ensures .0 .long,
-      long-on [] [] [] [] _ _ (c .before .before .before .before .before .before .before .before .before .before .before .before .before
-          .before .before .before .before .before .before .before .before .before .before .args .counts) _ _
+          .before .before .before .before .before .before .before .before .before .before .before .before .pre .1 .kept .fits .entries,
+      c .before .before .before .before .before .before .before .before .before .before .prepare .ensures .0 .long,
+      long-on [] [] [] [] _ _ (c .before .before .before .before .before .before .before .before .before .before .before .before
+          .before .before .before .before .before .before .before .before .before .before .before .before .before .args .counts) _ _
           (c .before .before .before .mend2 .ensures),
     )
 
+-- src/whole.rt:76:1
 same-length-2 : tie.Need-same-length-2
 same-length-2 c = search needs
 
+-- src/whole.rt:76:1
 returns-3 : tie.Need-returns-3
 returns-3 c =
     mended _ _ _ _ _ (c .before .before .before .before .before .before .before .before .before .before .before .before .before
-    .before .before .before .before .before .before .before .before .before .before .before .before .before .args .counts)
+    .before .before .before .before .before .before .before .before .before .before .before .before .before .before .before .args
+    .counts) (c .before .before .before .before .before .before .before .before .before .before .before .before .before .before
+    .before .before .before .before .before .before .before .before .before .before .before .before .before .before .pre .0)
     (c .before .before .before .before .before .before .before .before .before .before .before .before .before .before .before
-    .before .before .before .before .before .before .before .before .before .before .before .pre .0)
-    (c .before .before .before .before .before .before .before .before .before .before .before .before .before .before .before
-    .before .before .before .before .before .before .before .before .before .before .before .pre .1)
+    .before .before .before .before .before .before .before .before .before .before .before .before .before .pre .1)
     (unchained _ _ _ _ (c .before .before .before .before .before .before .before .before .before .before .before .before .before
-    .before .before .before .before .before .before .before .before .before .before .before .before .before .args .counts) _ _ _ _
-    (c .before .before .before .before .before .before .before .before .before .before .before .before .before .before .before
-    .before .before .before .before .before .before .before .before .before .before .before .pre .1)
-    (c .before .before .before .before .before .before .before .before .before .before .before .before .before .before .before
-    .before .is-plain .ensures (not-false _ (c .before .before .before .before .before .before .before .before .before .before
-    .before .before .before .before .before .if2 .left)))
-    (c .before .before .before .before .before .before .before .before .before .before .before .before .chain .ensures .0)
-    (c .before .before .before .before .before .before .mend2 .ensures) (c .before .before .unchain .ensures))
+    .before .before .before .before .before .before .before .before .before .before .before .before .before .before .before .args
+    .counts) _ _ _ _ (c .before .before .before .before .before .before .before .before .before .before .before .before .before
+    .before .before .before .before .before .before .before .before .before .before .before .before .before .before .before .pre
+    .1) ((c .before .before .before .before .before .before .before .before .before .before .before .before .before .before
+    .before .before .before .before .has-room .ensures
+    (not-false _ (c .before .before .before .before .before .before .before .before .before .before .before .before .before
+    .before .before .before .before .if2 .left))) .1)
+    (c .before .before .before .before .before .before .before .before .before .before .before .before .before .prepare .ensures
+    .0) (c .before .before .before .before .before .before .mend2 .ensures) (c .before .before .unchain .ensures))
 
 pub repair-spec : {M : Type 1} → statement M
 repair-spec =
@@ -110,11 +146,11 @@ repair-spec =
     any-linked-requires
     returns
     set-marks-requires
-    is-plain-requires
+    has-room-requires
     mend-requires
     same-length
     returns-2
-    chain-requires
+    prepare-requires
     mend-requires-2
     unchain-requires
     same-length-2
