@@ -15,16 +15,24 @@ fn wide(n: u32) -> usize
     n as usize
 }
 
+// How many blocks the first `count` nodes have, at most all.
+fn blocks(count: u32) -> usize
+    ensures { λ r. ⌜ (r ≤ 4096) × ((b : ℕ) → 256 * b < count → b < 4096 → b < r) ⌝ }
+{
+    let n = wide(count / 256) + 1;
+    if n < 4096 {
+        return n;
+    }
+    4096
+}
+
 // Nothing is remembered of the first `count` nodes.
 pub fn forget(quiet: &mut [u32; 4096], count: u32)
     ensures { λ _. ⌜ ((b : ℕ) → 256 * b < count → b < 4096 → getD (now (quiet .exit)) b 0 ≡ 0) ⌝ }
 {
-    let end = wide(count);
+    let end = blocks(count);
     let mut b: usize = 0;
-    while b < 4096 {
-        if end <= 256 * b {
-            return;
-        }
+    while b < end {
         quiet[b] = 0;
         b += 1;
     }
