@@ -62,7 +62,7 @@ printIn v = (v - 1) / 1024
 
 -- At that many slots, at most.
 abbrev pub probes : ℕ
-probes = 128
+probes = 512
 
 -- With u words in a part: where the search for a key begins, how far it goes at a time, and the slot behind slot i.
 abbrev pub startOf : ℕ → ℕ → ℕ

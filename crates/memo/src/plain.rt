@@ -47,7 +47,7 @@ pub fn has_id(script: &[u8], characters: &[u8], e: Opened, id: &[u8]) -> Asked
     requires { ⌜ Standing (now script) e ⌝ }
     ensures { λ r. ⌜ Tested (now (script .entry)) (now (characters .entry)) (now (id .entry)) e r ⌝ }
 {
-    match first_id(script, characters, e) {
+    match attribute_in(script, characters, e.inside, 0, ID) {
         FoundValue::At(v) => {
             let start = v.own.chars;
             let first = part_at(characters, start, v.len);

@@ -8,7 +8,7 @@ ghost use Rattle.memo.specs.Words.{unit, spacing, wideIn, markIn, slotCo
 ghost use Rattle.memo.specs.Words.{startOf, stepOf, nextSlot, powers, hasBit, bitOf, isOpen, Apart, RoomFor, MarkPut, SlotPut};
 
 // So many slots are looked at, at most.
-pub const PROBES: usize = 128;
+pub const PROBES: usize = 512;
 
 // The bits of a word.
 const POWERS: [u16; 16] = [
