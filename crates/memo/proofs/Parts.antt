@@ -72,12 +72,15 @@ module _ (s t : List ℕ) (k n : ℕ) (x : Apart s k n t) where
   same-mark m h =
       ap (cursorIn t) (same-mark-at m)
       ∙ rw (
-        x .same (markAt s m) (λ c d. h (omega (arith, c)) (omega (arith, d))),
-        x .same (markAt s m + 1) (λ c d. h (omega (arith, c)) (omega (arith, d))),
-        x .same (markAt s m + 2) (λ c d. h (omega (arith, c)) (omega (arith, d))),
-        x .same (markAt s m + 3) (λ c d. h (omega (arith, c)) (omega (arith, d))),
-        x .same (markAt s m + 4) (λ c d. h (omega (arith, c)) (omega (arith, d))),
+        word (markAt s m) (omega arith) (omega arith),
+        word (markAt s m + 1) (omega arith) (omega arith),
+        word (markAt s m + 2) (omega arith) (omega arith),
+        word (markAt s m + 3) (omega arith) (omega arith),
+        word (markAt s m + 4) (omega arith) (omega arith),
       ) refl
+    where
+      word : (p : ℕ) → markAt s m ≤ p → p < markAt s m + 5 → getD t p 0 ≡ getD s p 0
+      word p a b = x .same p (λ c d. h (omega arith) (omega arith))
 
   pub same-slot : (i : ℕ) → (k ≤ 4 * unit s + i → 4 * unit s + i < k + n → ⊥) → slotIn t i ≡ slotIn s i
   same-slot i h = same-word _ _ (ap (λ u. 4 * u + i) same-unit) h
@@ -160,8 +163,11 @@ module _ (s a b d e t : List ℕ) (m k upper : ℕ) (c : Cursor) (room : RoomFor
   here : markAt t m ≡ k
   here = same-mark-at s t k 5 (stored .apart) m ∙ sym q
 
+  word : (i : ℕ) → i < 5 → getD t (k + i) 0 ≡ wordsOf c i
+  word = stored .words
+
   first : getD t k 0 ≡ c .at % 65536
-  first = ap (λ p. getD t p 0) (let y : k ≡ k + 0 = omega arith in y) ∙ stored .words 0 (omega arith)
+  first = ap (λ p. getD t p 0) (let y : k ≡ k + 0 = omega arith in y) ∙ word 0 (omega arith)
 
   whole : cursorOf (c .at % 65536) (c .chars % 65536) (c .number % 65536) (c .texts % 65536) (upperOf c) ≡ c
   whole = rw (at, chars, number, texts) refl
@@ -182,7 +188,7 @@ module _ (s a b d e t : List ℕ) (m k upper : ℕ) (c : Cursor) (room : RoomFor
   mark-put = record {
     apart = subst (λ i. Apart s i 5 t) q (stored .apart);
     here = ap (cursorIn t) here
-        ∙ rw (first, stored .words 1 (omega arith), stored .words 2 (omega arith), stored .words 3 (omega arith), stored .words 4 (omega arith)) whole;
+        ∙ rw (first, word 1 (omega arith), word 2 (omega arith), word 3 (omega arith), word 4 (omega arith)) whole;
   }
 
 pub slot-put : (s t : List ℕ) (i v k : ℕ) → k ≡ 4 * unit s + i → i < slotCount s → t ≡ set s k v → SlotPut s i v t

@@ -2,96 +2,70 @@ use mathlib.Core.Path.{refl}
 use borrow.Author.Needs.{needs}
 use Rattle.memo.proofs.words.mark_at.Statement.{statement}
 use Rattle.memo.proofs.words.mark_at.Tie as tie
-use Rattle.memo.proofs.words.mark_at.Reads as reads
-use Rattle.memo.proofs.words.mark_at.Lts as lts
-use Rattle.memo.proofs.words.unit.Reads as unit-reads
-use Rattle.memo.proofs.words.word.Reads as word-reads
 
--- src/words.rt:67:13
 unit-requires : tie.Need-unit-requires
 unit-requires c κs = search needs
 
--- src/words.rt:67:27
 mul-k : tie.Need-mul-k
 mul-k c = search needs
 
--- src/words.rt:67:13
 add-k : tie.Need-add-k
 add-k c = search needs
 
--- src/words.rt:67:13
 add-k-2 : tie.Need-add-k-2
 add-k-2 c = search needs
 
--- src/words.rt:68:29
 add-word : tie.Need-add-word
 add-word c = search needs
 
--- src/words.rt:68:9
 word-requires : tie.Need-word-requires
 word-requires c κs = search needs
 
--- src/words.rt:70:13
 word-requires-2 : tie.Need-word-requires-2
 word-requires-2 c κs = search needs
 
--- src/words.rt:70:30
 mul-t6 : tie.Need-mul-t6
 mul-t6 c = search needs
 
--- src/words.rt:70:13
 add-t8 : tie.Need-add-t8
 add-t8 c = search needs
 
--- src/words.rt:71:28
 add-word-2 : tie.Need-add-word-2
 add-word-2 c = search needs
 
--- src/words.rt:71:16
 word-requires-3 : tie.Need-word-requires-3
 word-requires-3 c κs = search needs
 
--- src/words.rt:71:37
 mul-t13 : tie.Need-mul-t13
 mul-t13 c = search needs
 
--- src/words.rt:71:16
 add-t14 : tie.Need-add-t14
 add-t14 c = search needs
 
--- src/words.rt:72:29
 add-word-3 : tie.Need-add-word-3
 add-word-3 c = search needs
 
--- src/words.rt:72:17
 word-requires-4 : tie.Need-word-requires-4
 word-requires-4 c κs = search needs
 
--- src/words.rt:72:38
 mul-t19 : tie.Need-mul-t19
 mul-t19 c = search needs
 
--- src/words.rt:72:17
 add-t20 : tie.Need-add-t20
 add-t20 c = search needs
 
--- src/words.rt:73:28
 add-word-4 : tie.Need-add-word-4
 add-word-4 c = search needs
 
--- src/words.rt:73:16
 word-requires-5 : tie.Need-word-requires-5
 word-requires-5 c κs = search needs
 
--- src/words.rt:73:37
 mul-t24 : tie.Need-mul-t24
 mul-t24 c = search needs
 
--- src/words.rt:73:16
 add-t25 : tie.Need-add-t25
 add-t25 c = search needs
 
--- src/words.rt:63:1
 returns : tie.Need-returns
 returns c =
     rw (
