@@ -43,13 +43,13 @@ kept-same slots = record { long = refl; spaced = refl; marks = λ m l. refl }
 -- AN ID ENTERED
 
 -- The word of a slot has its two parts.
-mark-back : (m p : ℕ) → m < 1023 → markOf (m + 1024 * p + 1) ≡ m
+mark-back : (m p : ℕ) → m < 2047 → markOf (m + 2048 * p + 1) ≡ m
 mark-back m p h = omega (arith, h)
 
-print-back : (m p : ℕ) → m < 1023 → printIn (m + 1024 * p + 1) ≡ p
+print-back : (m p : ℕ) → m < 2047 → printIn (m + 2048 * p + 1) ≡ p
 print-back m p h = omega (arith, h)
 
-module _ (s chars slots : List ℕ) (next m : ℕ) (e : Opened) (r : Ready s chars slots next m e) (few : m < 1023) (id : List ℕ)
+module _ (s chars slots : List ℕ) (next m : ℕ) (e : Opened) (r : Ready s chars slots next m e) (few : m < 2047) (id : List ℕ)
     (w : Named s chars e id) (slots′ : List ℕ) (h : IdEntered slots m id slots′) where
   long : isOpen slots (keyOf id) ≡ true → 16 ≤ length slots
   long o = open-long slots (keyOf id) o
@@ -78,21 +78,21 @@ module _ (s chars slots : List ℕ) (next m : ℕ) (e : Opened) (r : Ready s cha
   -- A slot is taken.
   module _ (i : ℕ) (o : isOpen slots (keyOf id) ≡ true) (q : freeFor slots (keyOf id) ≡ i + 1) where
     v : ℕ
-    v = m + 1024 * printOf (keyOf id) + 1
+    v = m + 2048 * printOf (keyOf id) + 1
 
-    p : SlotPut slots i (m + 1024 * printOf (keyOf id) + 1) slots′
+    p : SlotPut slots i (m + 2048 * printOf (keyOf id) + 1) slots′
     p = h .put i o q
 
     z : slotIn slots i ≡ 0
     z = free-zero (slotIn slots) _ i probes _ q
 
-    low : markOf (m + 1024 * printOf (keyOf id) + 1) < next
+    low : markOf (m + 2048 * printOf (keyOf id) + 1) < next
     low = subst (λ n. n < next) (sym (mark-back m (printOf (keyOf id)) few)) (r .set (open-some slots (keyOf id) o))
 
     put-known : Known s chars slots′ next (nodeAt s chars e)
     put-known = known-put s chars slots next (nodeAt s chars e) (r .known) (long o) i _ slots′ p z low
 
-    marks : (n : ℕ) → 8 * n + 16 ≤ 3 * unit slots → markIn slots′ n ≡ markIn slots n
+    marks : (n : ℕ) → 5 * n + 6 ≤ 3 * unit slots → markIn slots′ n ≡ markIn slots n
     marks = put-marks s chars slots next (nodeAt s chars e) (r .known) (long o) i _ slots′ p z low
 
     spaced : spacing slots′ ≡ spacing slots
@@ -109,7 +109,7 @@ module _ (s chars slots : List ℕ) (next m : ℕ) (e : Opened) (r : Ready s cha
     seen-here : IsThis (sees s chars slots′ id i)
     seen-here =
         subst IsThis (sym
-        (seen-within s chars slots′ id i (λ a. let b : m + 1024 * printOf (keyOf id) + 1 ≡ 0 = sym (p .here) ∙ a in omega (arith, b))
+        (seen-within s chars slots′ id i (λ a. let b : m + 2048 * printOf (keyOf id) + 1 ≡ 0 = sym (p .here) ∙ a in omega (arith, b))
         (ap printIn (p .here) ∙ print-back m (printOf (keyOf id)) few)
         ∙ ap (λ c. seenNodes (within (spacing slots′) id (eventsAt s chars c)))
         (ap (λ a. markIn slots′ (markOf a)) (p .here) ∙ ap (markIn slots′) (mark-back m (printOf (keyOf id)) few) ∙ same-last)
@@ -151,7 +151,7 @@ module _ (s chars : List ℕ) (e : Opened) (r : FoundValue) (h : IdIs s chars e 
     (y : Ready s chars slots next m e) where
   -- One with an id.
   module _ (v : ValueAt) (t : r ≡ found.At v) (p : List ℕ) (g : p ≡ slice (v .own .chars) (v .own .chars + v .len) chars)
-      (few : m < 1023) (slots′ : List ℕ) (i : IdEntered slots m p slots′) where
+      (few : m < 2047) (slots′ : List ℕ) (i : IdEntered slots m p slots′) where
     named : Named s chars e p
     named x = sym (compared s chars x e r h v t p g (sameBytes p x) refl)
 
@@ -198,13 +198,13 @@ module _ (slots : List ℕ) (m key : ℕ) (id : List ℕ) (k : key ≡ keyOf id)
       put = λ i a b. absurd (let c : 0 ≡ i + 1 = sym z ∙ sym free-by ∙ b in omega (arith, c));
     }
 
-    pub id-put : (n ≡ 0 → ⊥) → (slots′ : List ℕ) → SlotPut slots (n - 1) (m + 1024 * printOf key + 1) slots′ → IdEntered slots m id slots′
+    pub id-put : (n ≡ 0 → ⊥) → (slots′ : List ℕ) → SlotPut slots (n - 1) (m + 2048 * printOf key + 1) slots′ → IdEntered slots m id slots′
     id-put z slots′ p = record {
       shut = λ a. absurd (false≢true (sym a ∙ sym (ap (isOpen slots) k) ∙ o));
       full = λ a b. absurd (z (sym free-by ∙ b));
-      put = λ i a b. subst (λ j. SlotPut slots j (m + 1024 * printOf (keyOf id) + 1) slots′)
+      put = λ i a b. subst (λ j. SlotPut slots j (m + 2048 * printOf (keyOf id) + 1) slots′)
           (let c : n ≡ i + 1 = sym free-by ∙ b in let d : n - 1 ≡ i = omega (arith, c) in d)
-          (subst (λ x. SlotPut slots (n - 1) (m + 1024 * printOf x + 1) slots′) k p);
+          (subst (λ x. SlotPut slots (n - 1) (m + 2048 * printOf x + 1) slots′) k p);
     }
 
 pub part-told : (r x : FoundPart) → r ≡ x → PartFit r → PartFit x

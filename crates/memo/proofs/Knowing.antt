@@ -232,7 +232,7 @@ module _ (s chars slots : List ℕ) (next : ℕ) (xs : List Event) (h : Known s 
   pub put-spacing : spacing slots′ ≡ spacing slots
   put-spacing = same-spacing _ _ _ _ (p .apart) (λ a b. omega (arith, a, some-words))
 
-  pub put-marks : (m : ℕ) → 8 * m + 16 ≤ 3 * unit slots → markIn slots′ m ≡ markIn slots m
+  pub put-marks : (m : ℕ) → 5 * m + 6 ≤ 3 * unit slots → markIn slots′ m ≡ markIn slots m
   put-marks m l = same-mark _ _ _ _ (p .apart) m (λ a b. omega (arith, a, l))
 
   set-marks : (m : ℕ) → m < next → markIn slots′ m ≡ markIn slots m

@@ -1,9 +1,10 @@
 -- The words of the table of ids. Assumes nothing.
 use mathlib.Core.Path.{_≡_, refl, sym, ap, _∙_, subst}
-use mathlib.Core.List.{List}
+use mathlib.Core.List.{List, [], _∷_}
 use mathlib.Core.Bool.{Bool, false, not}
 use Prim.Native.Nat.{ℕ, _+_, _-_, _*_, _/_, _%_, _<_, _≤_}
 use native.Mathlib.Nat.{mod-lt, div-le-self}
+use native.Mathlib.Decide.{ℕ-discrete}
 use native.Mathlib.Numerals.{add-one}
 use native.Mathlib.Omega.{arith}
 use borrow.Author.Tests.{ne-eqb, eq-eqb, lt-ltb, le-ltb, lt-leb, le-leb}
@@ -12,8 +13,8 @@ use lib.ListN.{length, getD, set, drop, length-set, drop-of-length-le}
 use lib.Seq.{getD-set-same, getD-set-other, drop-cons}
 use Rattle.model.specs.Base.{pick, and, folded}
 use Rattle.script.specs.declared.cursor.Cursor.{Cursor}
-use Rattle.memo.specs.Words.{mixed, keyOf, unit, markAt, spacing, wideIn, markIn, slotCount, slotIn, isWanted, isOpen}
-use Rattle.memo.specs.Words.{powers, bitOf, hasBit, nextSlot, Apart, MarkPut, SlotPut}
+use Rattle.memo.specs.Words.{mixed, keyOf, unit, markAt, spacing, cursorOf, upperOf, cursorIn, markIn, slotCount, slotIn, isWanted, isOpen}
+use Rattle.memo.specs.Words.{powers, bitOf, hasBit, nextSlot, Apart, RoomFor, MarkPut, SlotPut}
 
 -- KEYS
 
@@ -63,27 +64,23 @@ module _ (s t : List ℕ) (k n : ℕ) (x : Apart s k n t) where
   same-word : (p q : ℕ) → p ≡ q → (k ≤ q → q < k + n → ⊥) → getD t p 0 ≡ getD s q 0
   same-word p q e h = ap (λ i. getD t i 0) e ∙ x .same q h
 
-  pub same-wide : (p q : ℕ) → p ≡ q → (k ≤ q + 1 → q < k + n → ⊥) → wideIn t p ≡ wideIn s q
-  same-wide p q e h =
-      let a : getD t p 0 ≡ getD s q 0 = same-word p q e (λ c d. h (omega (arith, c)) d) in
-      let b : getD t (p + 1) 0 ≡ getD s (q + 1) 0 = same-word (p + 1) (q + 1) (ap (λ i. i + 1) e) (λ c d. h c (omega (arith, d))) in
-      ap (λ m. m + 65536 * getD t (p + 1) 0) a ∙ ap (λ m. getD s q 0 + 65536 * m) b
-
   pub same-mark-at : (m : ℕ) → markAt t m ≡ markAt s m
-  same-mark-at m = ap (λ u. u + 8 * m + 8) same-unit
+  same-mark-at m = ap (λ u. u + 5 * m + 1) same-unit
 
   -- A mark apart from what is stored.
-  pub same-mark : (m : ℕ) → (k < markAt s m + 8 → markAt s m < k + n → ⊥) → markIn t m ≡ markIn s m
+  pub same-mark : (m : ℕ) → (k < markAt s m + 5 → markAt s m < k + n → ⊥) → markIn t m ≡ markIn s m
   same-mark m h =
-      cursor-same _ _ _ _ _ _ _ _ (same-wide _ _ (same-mark-at m) (λ c d. h (omega (arith, c)) (omega (arith, d))))
-      (same-wide _ _ (ap (λ i. i + 2) (same-mark-at m)) (λ c d. h (omega (arith, c)) (omega (arith, d))))
-      (same-wide _ _ (ap (λ i. i + 4) (same-mark-at m)) (λ c d. h (omega (arith, c)) (omega (arith, d))))
-      (same-wide _ _ (ap (λ i. i + 6) (same-mark-at m)) (λ c d. h (omega (arith, c)) (omega (arith, d))))
+      ap (cursorIn t) (same-mark-at m)
+      ∙ rw (
+        word (markAt s m) (omega arith) (omega arith),
+        word (markAt s m + 1) (omega arith) (omega arith),
+        word (markAt s m + 2) (omega arith) (omega arith),
+        word (markAt s m + 3) (omega arith) (omega arith),
+        word (markAt s m + 4) (omega arith) (omega arith),
+      ) refl
     where
-      cursor-same : (a b d e p q r t : ℕ) → a ≡ p → b ≡ q → d ≡ r → e ≡ t
-          → (let x : Cursor = record { at = a; chars = b; number = d; texts = e } in x)
-          ≡ record { at = p; chars = q; number = r; texts = t }
-      cursor-same a b d e p q r t h k l m = rw (h, k, l, m) refl
+      word : (p : ℕ) → markAt s m ≤ p → p < markAt s m + 5 → getD t p 0 ≡ getD s p 0
+      word p a b = x .same p (λ c d. h (omega arith) (omega arith))
 
   pub same-slot : (i : ℕ) → (k ≤ 4 * unit s + i → 4 * unit s + i < k + n → ⊥) → slotIn t i ≡ slotIn s i
   same-slot i h = same-word _ _ (ap (λ u. 4 * u + i) same-unit) h
@@ -120,71 +117,79 @@ module _ (s t : List ℕ) (k n : ℕ) (x : Apart s k n t) where
 pub part-low : (slots : List ℕ) (j u n : ℕ) → u ≡ unit slots → 0 < j * unit slots → n % (j * u) < j * unit slots
 part-low slots j u n e h = subst (λ v. n % (j * v) < j * unit slots) (sym e) (mod-lt n h)
 
-module _ (s : List ℕ) (k w : ℕ) (l : k + 1 < length s) where
-  halves : List ℕ
-  halves = set (set s k (w % 65536)) (k + 1) (w / 65536)
+-- The n words from k on became those that f says.
+pub record Stored (s : List ℕ) (k : ℕ) (f : ℕ → ℕ) (n : ℕ) (t : List ℕ) : Type 0 where
+  pub apart : Apart s k n t
+  pub words : (i : ℕ) → i < n → getD t (k + i) 0 ≡ f i
 
-  pub wide-apart : (t u : List ℕ) → t ≡ set s k (w % 65536) → u ≡ set t (k + 1) (w / 65536) → Apart s k 2 u
-  wide-apart t u e f =
-      apart-join s t u k 2 k 1 (k + 1) 1 (subst (Apart s k 1) (sym e) (apart-set s k (w % 65536)))
-      (subst (Apart t (k + 1) 1) (sym f) (apart-set t (k + 1) (w / 65536))) (omega arith) (omega arith) (omega arith) (omega arith)
+pub stored-none : (s : List ℕ) (k : ℕ) (f : ℕ → ℕ) → Stored s k f 0 s
+stored-none s k f = record { apart = apart-none s k 0; words = λ i h. absurd (omega (arith, h)) }
 
-  pub wide-here : (t u : List ℕ) → t ≡ set s k (w % 65536) → u ≡ set t (k + 1) (w / 65536) → wideIn u k ≡ w
-  wide-here t u e f =
-      ap (λ m. m + 65536 * getD u (k + 1) 0) low ∙ ap (λ m. w % 65536 + 65536 * m) high ∙ (let z : w % 65536 + 65536 * (w / 65536) ≡ w = omega arith in z)
+-- One word more.
+pub stored-more : (s t u : List ℕ) (k : ℕ) (f : ℕ → ℕ) (n j v : ℕ) → Stored s k f n t → j ≡ k + n → v ≡ f n → j < length s
+    → u ≡ set t j v → Stored s k f (n + 1) u
+stored-more s t u k f n j v x e w l h = record {
+  apart = apart-join s t u k (n + 1) k n j 1 (x .apart) apart (omega arith) (omega arith) (omega (arith, e)) (omega (arith, e));
+  words = λ i b. go i b (ℕ-discrete i n);
+}
+  where
+    apart : Apart t j 1 u
+    apart = subst (Apart t j 1) (sym h) (apart-set t j v)
+
+    go : (i : ℕ) → i < n + 1 → Dec (i ≡ n) → getD u (k + i) 0 ≡ f i
+    go i b (yes z) =
+        ap (λ p. getD u p 0) (let y : k + i ≡ j = omega (arith, z, e) in y) ∙ ap (λ y. getD y j 0) h
+        ∙ getD-set-same t j v 0 (omega (arith, l, x .apart .long)) ∙ w ∙ ap f (sym z)
+    go i b (no z) = apart .same (k + i) (λ c d. z (omega (arith, c, d, e))) ∙ x .words i (omega (arith, b, z))
+
+-- The words of a cursor.
+abbrev pub wordsOf : Cursor → ℕ → ℕ
+wordsOf c i = getD (c .at % 65536 ∷ c .chars % 65536 ∷ c .number % 65536 ∷ c .texts % 65536 ∷ upperOf c ∷ []) i 0
+
+-- A mark is put by five stores.
+module _ (s a b d e t : List ℕ) (m k upper : ℕ) (c : Cursor) (room : RoomFor s m c) (q : k ≡ markAt s m) (w : upper ≡ upperOf c)
+    (h1 : a ≡ set s k (c .at % 65536)) (h2 : b ≡ set a (k + 1) (c .chars % 65536)) (h3 : d ≡ set b (k + 2) (c .number % 65536))
+    (h4 : e ≡ set d (k + 3) (c .texts % 65536)) (h5 : t ≡ set e (k + 4) upper) where
+  inside : (n : ℕ) → n < 5 → k + n < length s
+  inside n l = omega (arith, l, q, room .low, unit-low s)
+
+  stored : Stored s k (wordsOf c) 5 t
+  stored =
+      stored-more s e t k _ 4 (k + 4) _ (stored-more s d e k _ 3 (k + 3) _ (stored-more s b d k _ 2 (k + 2) _
+      (stored-more s a b k _ 1 (k + 1) _ (stored-more s s a k _ 0 k _ (stored-none s k (wordsOf c)) (omega arith) refl
+      (omega (arith, inside 0 (omega arith))) h1) refl refl (inside 1 (omega arith)) h2) refl refl (inside 2 (omega arith)) h3) refl refl
+      (inside 3 (omega arith)) h4) refl w (inside 4 (omega arith)) h5
+
+  here : markAt t m ≡ k
+  here = same-mark-at s t k 5 (stored .apart) m ∙ sym q
+
+  word : (i : ℕ) → i < 5 → getD t (k + i) 0 ≡ wordsOf c i
+  word = stored .words
+
+  first : getD t k 0 ≡ c .at % 65536
+  first = ap (λ p. getD t p 0) (let y : k ≡ k + 0 = omega arith in y) ∙ word 0 (omega arith)
+
+  whole : cursorOf (c .at % 65536) (c .chars % 65536) (c .number % 65536) (c .texts % 65536) (upperOf c) ≡ c
+  whole = rw (at, chars, number, texts) refl
     where
-      long : length t ≡ length s
-      long = ap length e ∙ length-set s k (w % 65536)
+      at : c .at % 65536 + 65536 * (upperOf c % 16) ≡ c .at
+      at = omega (arith, room .at)
 
-      low : getD u k 0 ≡ w % 65536
-      low =
-          ap (λ x. getD x k 0) f ∙ getD-set-other t (k + 1) k (w / 65536) 0 (omega arith) ∙ ap (λ x. getD x k 0) e
-          ∙ getD-set-same s k (w % 65536) 0 (omega (arith, l))
+      chars : c .chars % 65536 + 65536 * (upperOf c / 16 % 16) ≡ c .chars
+      chars = omega (arith, room .at, room .chars)
 
-      high : getD u (k + 1) 0 ≡ w / 65536
-      high = ap (λ x. getD x (k + 1) 0) f ∙ getD-set-same t (k + 1) (w / 65536) 0 (omega (arith, l, long))
+      number : c .number % 65536 + 65536 * (upperOf c / 256 % 16) ≡ c .number
+      number = omega (arith, room .at, room .chars, room .number)
 
--- A mark is put by four stores.
-module _ (s a b d e : List ℕ) (m k : ℕ) (c : Cursor) (q : k ≡ markAt s m)
-    (x : Apart s k 2 a × (wideIn a k ≡ c .at)) (y : Apart a (k + 2) 2 b × (wideIn b (k + 2) ≡ c .chars))
-    (z : Apart b (k + 4) 2 d × (wideIn d (k + 4) ≡ c .number)) (w : Apart d (k + 6) 2 e × (wideIn e (k + 6) ≡ c .texts)) where
-  two : Apart s k 4 b
-  two = apart-join s a b k 4 k 2 (k + 2) 2 (x .0) (y .0) (omega arith) (omega arith) (omega arith) (omega arith)
+      texts : c .texts % 65536 + 65536 * (upperOf c / 4096) ≡ c .texts
+      texts = omega (arith, room .at, room .chars, room .number, room .texts)
 
-  three : Apart s k 6 d
-  three = apart-join s b d k 6 k 4 (k + 4) 2 two (z .0) (omega arith) (omega arith) (omega arith) (omega arith)
-
-  all : Apart s k 8 e
-  all = apart-join s d e k 8 k 6 (k + 6) 2 three (w .0) (omega arith) (omega arith) (omega arith) (omega arith)
-
-  last-two : Apart b (k + 4) 4 e
-  last-two = apart-join b d e (k + 4) 4 (k + 4) 2 (k + 6) 2 (z .0) (w .0) (omega arith) (omega arith) (omega arith) (omega arith)
-
-  last-three : Apart a (k + 2) 6 e
-  last-three = apart-join a b e (k + 2) 6 (k + 2) 2 (k + 4) 4 (y .0) last-two (omega arith) (omega arith) (omega arith) (omega arith)
-
-  here : markAt e m ≡ k
-  here = same-mark-at s e k 8 all m ∙ sym q
-
-  -- One of its four numbers.
-  number-at : (t : List ℕ) (j p n v : ℕ) → Apart t p n e → wideIn t (k + j) ≡ v → (p ≤ k + j + 1 → k + j < p + n → ⊥)
-      → wideIn e (markAt e m + j) ≡ v
-  number-at t j p n v o h r = same-wide t e p n o (markAt e m + j) (k + j) (ap (λ i. i + j) here) r ∙ h
-
-  pub mark-put : MarkPut s m c e
+  pub mark-put : MarkPut s m c t
   mark-put = record {
-    apart = subst (λ i. Apart s i 8 e) q all;
-    here = cursor-by _ _ _ _ c
-        (ap (λ i. wideIn e i) (let o : markAt e m ≡ markAt e m + 0 = omega arith in o)
-        ∙ number-at a 0 (k + 2) 6 (c .at) last-three (ap (λ i. wideIn a i) (let o : k + 0 ≡ k = omega arith in o) ∙ x .1) (λ g h. omega (arith, g)))
-        (number-at b 2 (k + 4) 4 (c .chars) last-two (y .1) (λ g h. omega (arith, g)))
-        (number-at d 4 (k + 6) 2 (c .number) (w .0) (z .1) (λ g h. omega (arith, g)))
-        (ap (λ i. wideIn e i) (ap (λ i. i + 6) here) ∙ w .1);
+    apart = subst (λ i. Apart s i 5 t) q (stored .apart);
+    here = ap (cursorIn t) here
+        ∙ rw (first, word 1 (omega arith), word 2 (omega arith), word 3 (omega arith), word 4 (omega arith)) whole;
   }
-    where
-      cursor-by : (p q r t : ℕ) (c : Cursor) → p ≡ c .at → q ≡ c .chars → r ≡ c .number → t ≡ c .texts
-          → (let x : Cursor = record { at = p; chars = q; number = r; texts = t } in x) ≡ c
-      cursor-by p q r t c h k l m = rw (h, k, l, m) refl
 
 pub slot-put : (s t : List ℕ) (i v k : ℕ) → k ≡ 4 * unit s + i → i < slotCount s → t ≡ set s k v → SlotPut s i v t
 slot-put s t i v k q h e = record {

@@ -126,7 +126,7 @@ ProbeFit script probe.Over = Unit {0}
 
 -- Mark m has its words, and is a cursor of the script.
 pub record Placed (script slots : List ℕ) (m : ℕ) : Type 0 where
-  pub low : 8 * m + 16 ≤ 3 * unit slots
+  pub low : 5 * m + 6 ≤ 3 * unit slots
   pub fit : Fit script (markIn slots m)
 
 -- The marks in slots can be read.
@@ -177,7 +177,7 @@ pub record Ready (script chars slots : List ℕ) (next m : ℕ) (e : Opened) : T
 pub record Kept (slots slots′ : List ℕ) : Type 0 where
   pub long : length slots′ ≡ length slots
   pub spaced : spacing slots′ ≡ spacing slots
-  pub marks : (m : ℕ) → 8 * m + 16 ≤ 3 * unit slots → markIn slots′ m ≡ markIn slots m
+  pub marks : (m : ℕ) → 5 * m + 6 ≤ 3 * unit slots → markIn slots′ m ≡ markIn slots m
 
 -- The element e is entered, with the cursor n inside it before its children.
 pub record Entered (script chars slots : List ℕ) (next : ℕ) (e : Opened) (slots′ : List ℕ) (n : Cursor) : Type 0 where
@@ -190,7 +190,7 @@ pub record IdEntered (slots : List ℕ) (m : ℕ) (id slots′ : List ℕ) : Typ
   pub shut : isOpen slots (keyOf id) ≡ false → slots′ ≡ slots
   pub full : isOpen slots (keyOf id) ≡ true → freeFor slots (keyOf id) ≡ 0 → slots′ ≡ slots
   pub put : (i : ℕ) → isOpen slots (keyOf id) ≡ true → freeFor slots (keyOf id) ≡ i + 1
-      → SlotPut slots i (m + 1024 * printOf (keyOf id) + 1) slots′
+      → SlotPut slots i (m + 2048 * printOf (keyOf id) + 1) slots′
 
 -- From the last mark on, a search that meets nothing meets nothing among the next `left` elements.
 abbrev pub Follows : List ℕ → List ℕ → List ℕ → ℕ → ℕ → List Event → Type 0
@@ -200,7 +200,7 @@ Follows script chars slots last left xs =
 -- How far the filling is, where the nodes xs are still to come.
 pub record Filling (script chars slots : List ℕ) (next left : ℕ) (xs : List Event) : Type 0 where
   pub long : 16 ≤ length slots
-  pub few : next ≤ 1023
+  pub few : next ≤ 2047
   pub some : 0 < left → 0 < next
   pub known : Known script chars slots next xs
   pub follows : 0 < left → Follows script chars slots (next - 1) left xs

@@ -26,23 +26,31 @@ unit slots = length slots / 16
 
 -- Where mark m begins; before the first stands how many elements are looked at from a mark on, 0 where the table tells nothing.
 abbrev pub markAt : List ℕ → ℕ → ℕ
-markAt slots m = unit slots + 8 * m + 8
+markAt slots m = unit slots + 5 * m + 1
 
 abbrev pub spacing : List ℕ → ℕ
 spacing slots = getD slots (unit slots) 0
 
--- A number of two words.
-abbrev pub wideIn : List ℕ → ℕ → ℕ
-wideIn slots k = getD slots k 0 + 65536 * getD slots (k + 1) 0
+-- A cursor in five words: of each of its numbers the lower 16 bits, and the upper 4 bits of all of them.
+abbrev pub cursorOf : ℕ → ℕ → ℕ → ℕ → ℕ → Cursor
+cursorOf a b d e upper = record {
+  at = a + 65536 * (upper % 16);
+  chars = b + 65536 * (upper / 16 % 16);
+  number = d + 65536 * (upper / 256 % 16);
+  texts = e + 65536 * (upper / 4096);
+}
+
+-- The upper bits of a cursor's numbers.
+abbrev pub upperOf : Cursor → ℕ
+upperOf c = c .at / 65536 + 16 * (c .chars / 65536) + 256 * (c .number / 65536) + 4096 * (c .texts / 65536)
+
+-- The five words from k on as a cursor.
+abbrev pub cursorIn : List ℕ → ℕ → Cursor
+cursorIn slots k = cursorOf (getD slots k 0) (getD slots (k + 1) 0) (getD slots (k + 2) 0) (getD slots (k + 3) 0) (getD slots (k + 4) 0)
 
 -- Mark m: a cursor.
 abbrev pub markIn : List ℕ → ℕ → Cursor
-markIn slots m = record {
-  at = wideIn slots (markAt slots m);
-  chars = wideIn slots (markAt slots m + 2);
-  number = wideIn slots (markAt slots m + 4);
-  texts = wideIn slots (markAt slots m + 6);
-}
+markIn slots m = cursorIn slots (markAt slots m)
 
 -- How many slots there are, and the word of slot i, 0 where it is free.
 abbrev pub slotCount : List ℕ → ℕ
@@ -53,16 +61,16 @@ slotIn slots i = getD slots (4 * unit slots + i) 0
 
 -- The mark in the word of a slot, and what tells the key.
 abbrev pub markOf : ℕ → ℕ
-markOf v = (v - 1) % 1024
+markOf v = (v - 1) % 2048
 
 abbrev pub printIn : ℕ → ℕ
-printIn v = (v - 1) / 1024
+printIn v = (v - 1) / 2048
 
 -- WHERE A SEARCH LOOKS
 
 -- At that many slots, at most.
 abbrev pub probes : ℕ
-probes = 128
+probes = 512
 
 -- With u words in a part: where the search for a key begins, how far it goes at a time, and the slot behind slot i.
 abbrev pub startOf : ℕ → ℕ → ℕ
@@ -76,7 +84,7 @@ nextSlot u step i = pick (ltb (i + step) (12 * u)) (λ v. i + step) (λ v. i + s
 
 -- What tells the key in a slot's word.
 abbrev pub printOf : ℕ → ℕ
-printOf key = key / 67108864
+printOf key = key / 134217728
 
 -- WANTED KEYS
 
@@ -106,15 +114,16 @@ pub record Apart (slots : List ℕ) (k n : ℕ) (slots′ : List ℕ) : Type 0 w
 
 -- Mark m can become c.
 pub record RoomFor (slots : List ℕ) (m : ℕ) (c : Cursor) : Type 0 where
-  pub few : m < 1023
-  pub low : 8 * m + 16 ≤ 3 * unit slots
-  pub chars : c .chars < 4294967296
-  pub number : c .number < 4294967296
-  pub texts : c .texts < 4294967296
+  pub few : m < 2047
+  pub low : 5 * m + 6 ≤ 3 * unit slots
+  pub at : c .at < 1048576
+  pub chars : c .chars < 1048576
+  pub number : c .number < 1048576
+  pub texts : c .texts < 1048576
 
 -- Mark m becomes c.
 pub record MarkPut (slots : List ℕ) (m : ℕ) (c : Cursor) (slots′ : List ℕ) : Type 0 where
-  pub apart : Apart slots (markAt slots m) 8 slots′
+  pub apart : Apart slots (markAt slots m) 5 slots′
   pub here : markIn slots′ m ≡ c
 
 -- The word of slot i becomes v.

@@ -49,7 +49,7 @@ fn spaced(count: usize, words: usize) -> usize
     requires { ⌜ count ≤ mostBytes ⌝ }
     ensures { λ r. ⌜ r < 65536 ⌝ }
 {
-    let n = count / (words / 43 - 2) + 1;
+    let n = count / (words / 27 - 2) + 1;
     if n < 65536 {
         return n;
     }
@@ -77,7 +77,7 @@ fn free_slot(slots: &[u16], key: usize) -> usize
 
 // An element with that id gets a slot, if the table tells of its key and a slot is free: a search from mark m on meets it.
 fn enter_id(slots: &mut [u16], m: usize, id: &[u8])
-    requires { ⌜ m < 1023 ⌝ }
+    requires { ⌜ m < 2047 ⌝ }
     ensures { λ _. ⌜ IdEntered (now (slots .entry)) m (now (id .entry)) (now (slots .exit)) ⌝ }
 {
     let key = key_of(id);
@@ -88,13 +88,13 @@ fn enter_id(slots: &mut [u16], m: usize, id: &[u8])
     if i == 0 {
         return;
     }
-    put_slot(slots, i - 1, m + 1024 * (key / 67108864) + 1);
+    put_slot(slots, i - 1, m + 2048 * (key / 134217728) + 1);
 }
 
 // The element e is entered, if it has an id. The cursor inside it, behind the attributes that were read.
 fn enter(script: &[u8], characters: &[u8], slots: &mut [u16], e: Opened, m: usize) -> Cursor
     requires { ⌜ Standing (now script) e ⌝ }
-    requires { ⌜ m < 1023 ⌝ }
+    requires { ⌜ m < 2047 ⌝ }
     ensures { λ r. ⌜ ((next : ℕ) → Ready (now (script .entry)) (now (characters .entry)) (now (slots .entry)) next m e
         → Entered (now (script .entry)) (now (characters .entry)) (now (slots .entry)) next e (now (slots .exit)) r) ⌝ }
 {

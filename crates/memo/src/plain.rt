@@ -42,12 +42,13 @@ pub fn first_id(script: &[u8], characters: &[u8], e: Opened) -> FoundValue
     attribute_in(script, characters, e.inside, 0, ID)
 }
 
-// Has the element an unprefixed id, and the first one is this?
+// Has the element an unprefixed id, and the first one is this? Each element of a search is asked, so no other function lies between this
+// one and the attributes.
 pub fn has_id(script: &[u8], characters: &[u8], e: Opened, id: &[u8]) -> Asked
     requires { ⌜ Standing (now script) e ⌝ }
     ensures { λ r. ⌜ Tested (now (script .entry)) (now (characters .entry)) (now (id .entry)) e r ⌝ }
 {
-    match first_id(script, characters, e) {
+    match attribute_in(script, characters, e.inside, 0, ID) {
         FoundValue::At(v) => {
             let start = v.own.chars;
             let first = part_at(characters, start, v.len);

@@ -93,10 +93,10 @@ fn look_at(script: &[u8], characters: &[u8], slots: &[u16], i: usize, id: &[u8],
     if v == 0 {
         return Look::Empty;
     }
-    if (v - 1) / 1024 != key / 67108864 {
+    if (v - 1) / 2048 != key / 134217728 {
         return Look::Another;
     }
-    let mark = mark_at(slots, (v - 1) % 1024);
+    let mark = mark_at(slots, (v - 1) % 2048);
     match within(script, characters, mark, spacing(slots), id) {
         FoundElement::At(e) => Look::This(e),
         FoundElement::Nothing => Look::Another,

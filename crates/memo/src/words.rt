@@ -4,11 +4,11 @@ ghost use mathlib.Core.Path.{_≡_};
 ghost use mathlib.Core.Bool.{true};
 ghost use Prim.Native.Nat.{_+_, _*_, _%_, _<_, _≤_};
 ghost use lib.ListN.{length, getD, set};
-ghost use Rattle.memo.specs.Words.{unit, spacing, wideIn, markIn, slotCount, slotIn};
+ghost use Rattle.memo.specs.Words.{unit, spacing, upperOf, markIn, slotCount, slotIn};
 ghost use Rattle.memo.specs.Words.{startOf, stepOf, nextSlot, powers, hasBit, bitOf, isOpen, Apart, RoomFor, MarkPut, SlotPut};
 
 // So many slots are looked at, at most.
-pub const PROBES: usize = 128;
+pub const PROBES: usize = 512;
 
 // The bits of a word.
 const POWERS: [u16; 16] = [
@@ -59,34 +59,18 @@ fn put_word(slots: &mut [u16], k: usize, w: usize)
     slots[k] = w as u16;
 }
 
-// A number of two words.
-fn wide(slots: &[u16], k: usize) -> usize
-    requires { ⌜ k + 1 < length (now slots) ⌝ }
-    ensures { λ r. ⌜ r ≡ wideIn (now (slots .entry)) k ⌝ }
-{
-    word(slots, k) + 65536 * word(slots, k + 1)
-}
-
-fn put_wide(slots: &mut [u16], k: usize, w: usize)
-    requires { ⌜ k + 1 < length (now slots) ⌝ }
-    requires { ⌜ w < 4294967296 ⌝ }
-    ensures { λ _. ⌜ Apart (now (slots .entry)) k 2 (now (slots .exit)) × (wideIn (now (slots .exit)) k ≡ w) ⌝ }
-{
-    put_word(slots, k, w % 65536);
-    put_word(slots, k + 1, w / 65536);
-}
-
 // Mark m.
 pub fn mark_at(slots: &[u16], m: usize) -> Cursor
-    requires { ⌜ 8 * m + 16 ≤ 3 * unit (now slots) ⌝ }
+    requires { ⌜ 5 * m + 6 ≤ 3 * unit (now slots) ⌝ }
     ensures { λ r. ⌜ r ≡ markIn (now (slots .entry)) m ⌝ }
 {
-    let k = unit(slots) + 8 * m + 8;
+    let k = unit(slots) + 5 * m + 1;
+    let upper = word(slots, k + 4);
     Cursor {
-        at: wide(slots, k),
-        chars: wide(slots, k + 2),
-        number: wide(slots, k + 4),
-        texts: wide(slots, k + 6),
+        at: word(slots, k) + 65536 * (upper % 16),
+        chars: word(slots, k + 1) + 65536 * (upper / 16 % 16),
+        number: word(slots, k + 2) + 65536 * (upper / 256 % 16),
+        texts: word(slots, k + 3) + 65536 * (upper / 4096),
     }
 }
 
@@ -94,32 +78,46 @@ pub fn mark_at(slots: &[u16], m: usize) -> Cursor
 pub fn has_room(slots: &[u16], m: usize, c: Cursor) -> bool
     ensures { λ r. ⌜ (r ≡ true → RoomFor (now (slots .entry)) m c) ⌝ }
 {
-    if 1022 < m {
+    if 2046 < m {
         return false;
     }
-    if 3 * unit(slots) < 8 * m + 16 {
+    if 3 * unit(slots) < 5 * m + 6 {
         return false;
     }
-    if 4294967295 < c.chars {
+    if 1048575 < c.at {
         return false;
     }
-    if 4294967295 < c.number {
+    if 1048575 < c.chars {
         return false;
     }
-    c.texts < 4294967296
+    if 1048575 < c.number {
+        return false;
+    }
+    c.texts < 1048576
+}
+
+// The upper bits of the numbers of c.
+fn upper_of(c: Cursor) -> usize
+    requires { ⌜ c .at < 1048576 ⌝ }
+    requires { ⌜ c .chars < 1048576 ⌝ }
+    requires { ⌜ c .number < 1048576 ⌝ }
+    requires { ⌜ c .texts < 1048576 ⌝ }
+    ensures { λ r. ⌜ (r ≡ upperOf c) × (r < 65536) ⌝ }
+{
+    c.at / 65536 + 16 * (c.chars / 65536) + 256 * (c.number / 65536) + 4096 * (c.texts / 65536)
 }
 
 // Mark m becomes c.
 pub fn put_mark(slots: &mut [u16], m: usize, c: Cursor)
     requires { ⌜ RoomFor (now slots) m c ⌝ }
-    requires { ⌜ c .at < 4294967296 ⌝ }
     ensures { λ _. ⌜ MarkPut (now (slots .entry)) m c (now (slots .exit)) ⌝ }
 {
-    let k = unit(slots) + 8 * m + 8;
-    put_wide(slots, k, c.at);
-    put_wide(slots, k + 2, c.chars);
-    put_wide(slots, k + 4, c.number);
-    put_wide(slots, k + 6, c.texts);
+    let k = unit(slots) + 5 * m + 1;
+    put_word(slots, k, c.at % 65536);
+    put_word(slots, k + 1, c.chars % 65536);
+    put_word(slots, k + 2, c.number % 65536);
+    put_word(slots, k + 3, c.texts % 65536);
+    put_word(slots, k + 4, upper_of(c));
 }
 
 // How many elements are looked at from a mark on.

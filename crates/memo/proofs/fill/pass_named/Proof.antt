@@ -103,14 +103,7 @@ returns-3 c =
 
 -- src/fill.rt:149:5
 put-mark-requires : tie.Need-put-mark-requires
-put-mark-requires c κs = (
-  c .before .before .has-room .ensures (not-false _ (c .before .if3 .left)),
-  omega (
-    arith,
-    c .before .before .before .before .before .before .before .before .before .before .before .before .before .pre .0 .own .at,
-    c .before .before .before .before .before .before .before .before .before .before .before .before .before .pre .0 .own .size,
-  ),
-)
+put-mark-requires c κs = c .before .before .has-room .ensures (not-false _ (c .before .if3 .left))
 
 -- src/fill.rt:150:9
 spacing-requires-2 : tie.Need-spacing-requires-2

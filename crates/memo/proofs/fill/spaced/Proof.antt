@@ -17,7 +17,7 @@ div-n c = search needs
 
 -- src/fill.rt:50:13
 add-n : tie.Need-add-n
-add-n c = omega (arith, over-low (c .args .count) (c .args .words / 43 - 2), c .pre .1)
+add-n c = omega (arith, over-low (c .args .count) (c .args .words / 27 - 2), c .pre .1)
 
 -- src/fill.rt:52:9
 returns : tie.Need-returns
