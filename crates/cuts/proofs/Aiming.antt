@@ -1,17 +1,17 @@
 -- What a pass aims at. Assumes nothing.
 use mathlib.Core.Path.{_≡_, refl, ap, _∙_}
-use mathlib.Core.Bool.{Bool, true, false}
 use mathlib.Core.List.{List}
 use Prim.Native.Nat.{ℕ, _+_, _<_, _≤_}
 use native.Mathlib.Omega.{arith}
 use borrow.Author.Tests.{eq-eqb, ne-eqb, le-leb, lt-leb}
 use lib.Dec.{eqb}
 use Rattle.model.specs.Base.{pick}
-use Rattle.model.specs.Tables.{Tree, entryAt, lastWithId, elementById}
+use Rattle.model.specs.AId
+use Rattle.model.specs.Tables.{Tree, entryAt, attributeId, lastWithId, elementById}
 use Rattle.model.specs.Repair.{elementId}
 use Rattle.model.specs.Theorems.Kept.{Kept}
 use Rattle.tree.specs.Lent.{readOf}
-use Rattle.tree.proofs.Alike.{last-same}
+use Rattle.tree.proofs.Alike.{id-same, last-same}
 use Rattle.tree.proofs.Facts.{readable}
 use Rattle.leads.specs.Links.{KnownIn}
 use Rattle.cuts.specs.Seen.{keyOf}
@@ -37,14 +37,14 @@ module _ (chars : List ℕ) (t : Tree) (k i : ℕ) where
   abbrev found : ℕ
   found = lastWithId chars (readOf (t .nodes) (t .attributes)) (elementId chars (readOf (t .nodes) (t .attributes)) i) (t .nodeCount)
 
-  module _ (h : 2 < k) (b : Bool) (e : b ≡ eqb found (i + 1)) where
-    pub key-here : b ≡ true → (n : ℕ) → n ≡ i → n + 2 ≡ keyOf chars k t i
+  module _ (h : 2 < k) (j : ℕ) (e : j ≡ attributeId (readOf (t .nodes) (t .attributes)) i AId.Id) where
+    pub key-absent : j ≡ 0 → 0 ≡ keyOf chars k t i
     unfolding keyOf
-    key-here z n d = rw (lt-leb k 2 h, ← last-seen chars t i, ← e, z, d) refl
+    key-absent z = rw (lt-leb k 2 h, ← id-same t i AId.Id, ← e, eq-eqb j 0 z) refl
 
-    pub key-not : b ≡ false → 0 ≡ keyOf chars k t i
+    pub key-here : (j ≡ 0 → ⊥) → (n : ℕ) → n ≡ i → n + 2 ≡ keyOf chars k t i
     unfolding keyOf
-    key-not z = rw (lt-leb k 2 h, ← last-seen chars t i, ← e, z) refl
+    key-here z n d = rw (lt-leb k 2 h, ← id-same t i AId.Id, ← e, ne-eqb j 0 z, d) refl
 
   module _ (h : k ≤ 2) (w : ℕ) (e : w ≡ found) where
     pub key-empty : w ≡ 0 → 1 ≡ keyOf chars k t i

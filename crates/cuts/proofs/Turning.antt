@@ -19,6 +19,7 @@ use Rattle.model.specs.Theorems.Inside.{all-inside}
 use Rattle.model.specs.Theorems.Images.{values-bare}
 use Rattle.model.specs.Theorems.Whole.{cuts-tidy}
 use Rattle.model.specs.Theorems.Kept.{Tidy, attribute-any}
+use Rattle.model.specs.Theorems.Cuts as cuts
 use Rattle.model.specs.Theorems.Cuts.{by-id-kept, element-id-kept}
 use Rattle.model.specs.Theorems.GoingOn.{passing, Without, leadsTo, cutsAlong, cut-is, leads-without}
 use Rattle.tree.specs.declared.Counts.{Counts}
@@ -31,7 +32,7 @@ use Rattle.targets.proofs.Marks.{mark-leads-link, mark-leads-paint}
 use Rattle.cuts.specs.declared.Aim.{Aim}
 use Rattle.cuts.specs.Seen.{counted, Cuttable, keyOf, Aimed, cutBack, cutNodes, Below, Still}
 use Rattle.cuts.proofs.Writing.{cuttable-on, long-on}
-use Rattle.leads.proofs.Lasting.{compared}
+use Rattle.leads.proofs.Lasting.{last-absent}
 use Rattle.cuts.proofs.Descending.{up-step, up-none, descendants-alike}
 
 -- WHAT IS READ
@@ -56,29 +57,26 @@ leads-marked chars values t aim w m = go (leb (aim .pass) 2) refl (λ z. w .some
     i : ℕ
     i = aim .element
 
-    n : ℕ
-    n = elementById chars t (elementId chars t i)
-
     by-key : (x : ℕ) → keyOf chars k t i ≡ x → leadsTo chars values k t i m ≡ eqb (markOf chars values k t m) x
         → leadsTo chars values k t i m ≡ eqb (markOf chars values k t m) (aim .key)
     by-key x e q = q ∙ ap (eqb (markOf chars values k t m)) (sym (w .key ∙ e))
 
-    other : (b : Bool) → (pick b (λ v. i + 2) (λ v. 0) ≡ 0 → ⊥) → pick b (λ v. i + 2) (λ v. 0) ≡ i + 2
-    other true z = refl
-    other false z = absurd (z refl)
+    other : (b : Bool) → (pick b (λ v. 0) (λ v. i + 2) ≡ 0 → ⊥) → pick b (λ v. 0) (λ v. i + 2) ≡ i + 2
+    other true z = absurd (z refl)
+    other false z = refl
 
     go : (b : Bool) → leb k 2 ≡ b → (keyOf chars k t i ≡ 0 → ⊥)
         → leadsTo chars values k t i m ≡ eqb (markOf chars values k t m) (aim .key)
     go true e z =
         by-key _ (rw e refl) (mark-leads-paint chars values k (w .first) (leb-true k 2 e) t i m (w .inside))
     go false e z =
-        by-key (i + 2) (rw e (other (eqb n (i + 1)) (rw e at z)))
+        by-key (i + 2) (rw e (other (eqb (attributeId t i AId.Id) 0) (rw e at z)))
         (mark-leads-link chars values k (omega (arith, leb-false k 2 e)) (w .last) t i m)
 
 -- An element to which no link can lead.
 pub never-led : (chars : List ℕ) (values : List Value) (k : ℕ) → 1 ≤ k → k ≤ 5 → (t : Tree) (i : ℕ) → keyOf chars k t i ≡ 0 → (m : ℕ)
     → leadsTo chars values k t i m ≡ false
-unfolding keyOf leadsTo nodeAttribute
+unfolding keyOf leadsTo nodeAttribute elementById
 never-led chars values k f l t i z m = go (leb k 2) z
   where
     n : ℕ
@@ -88,21 +86,22 @@ never-led chars values k f l t i z m = go (leb k 2) z
     any true e = omega arith
     any false e = omega arith
 
-    at : (o : Option Part) → eqb n (i + 1) ≡ false → eqb (given o (λ v. elementById chars t (v .bytes)) (λ u. 0)) (i + 1) ≡ false
+    at : (o : Option Part) → attributeId t i AId.Id ≡ 0 → eqb (given o (λ v. elementById chars t (v .bytes)) (λ u. 0)) (i + 1) ≡ false
     at none e = ne-eqb 0 (i + 1) (λ q. omega arith)
-    at (some v) e = compared chars t i (v .bytes) ∙ rw e refl
+    at (some v) e = sym (last-absent chars t i e (v .bytes) (t .nodeCount))
 
-    unled : (b : Bool) → eqb n (i + 1) ≡ b → pick b (λ v. i + 2) (λ v. 0) ≡ 0
+    unled : (b : Bool) → eqb (attributeId t i AId.Id) 0 ≡ b → pick b (λ v. 0) (λ v. i + 2) ≡ 0
         → eqb (given (linkOf chars values (linkKind (cutName k)) t (cutName k) m) (λ v. elementById chars t (v .bytes)) (λ u. 0)) (i + 1) ≡ false
-    unled true e q = absurd (omega (arith, q))
-    unled false e q = at (linkOf chars values (linkKind (cutName k)) t (cutName k) m) e
+    unled true e q = at (linkOf chars values (linkKind (cutName k)) t (cutName k) m) (eqb-true (attributeId t i AId.Id) 0 e)
+    unled false e q = absurd (omega (arith, q))
 
-    go : (b : Bool) → pick b (λ u. pick (eqb n 0) (λ v. 1) (λ v. n + 1)) (λ u. pick (eqb n (i + 1)) (λ v. i + 2) (λ v. 0)) ≡ 0
+    go : (b : Bool)
+        → pick b (λ u. pick (eqb n 0) (λ v. 1) (λ v. n + 1)) (λ u. pick (eqb (attributeId t i AId.Id) 0) (λ v. 0) (λ v. i + 2)) ≡ 0
         → pick b (λ u. paintsWith chars values t (cutName k) (elementId chars t i) m)
         (λ u. eqb (given (linkOf chars values (linkKind (cutName k)) t (cutName k) m) (λ v. elementById chars t (v .bytes)) (λ u. 0)) (i + 1))
         ≡ false
     go true e = absurd (any (eqb n 0) e)
-    go false e = unled (eqb n (i + 1)) refl e
+    go false e = unled (eqb (attributeId t i AId.Id) 0) refl e
 
 -- WHAT IS CUT
 
@@ -175,7 +174,10 @@ module _ (size : ℕ) (chars : List ℕ) (values : List Value) (bare : readingsO
       → keyOf chars p (setNone (attributeId t m (cutName k) - 1) t) i ≡ keyOf chars p t i
   unfolding keyOf
   key-kept h p i =
-      ap (λ (x : ℕ). pick (leb p 2) (λ u. pick (eqb x 0) (λ v. 1) (λ v. x + 1)) (λ u. pick (eqb x (i + 1)) (λ v. i + 2) (λ v. 0)))
+      let w : ℕ = elementById chars (setNone (attributeId t m (cutName k) - 1) t) (elementId chars (setNone (attributeId t m (cutName k) - 1) t) i) in
+      ap (λ (j : ℕ). pick (leb p 2) (λ u. pick (eqb w 0) (λ v. 1) (λ v. w + 1)) (λ u. pick (eqb j 0) (λ v. 0) (λ v. i + 2)))
+      (cuts.id-same (attributeId t m (cutName k) - 1) t i AId.Id)
+      ∙ ap (λ (x : ℕ). pick (leb p 2) (λ u. pick (eqb x 0) (λ v. 1) (λ v. x + 1)) (λ u. pick (eqb (attributeId t i AId.Id) 0) (λ v. 0) (λ v. i + 2)))
       (by-id-kept size chars values bare t g m (cutName k) h other (elementId chars (setNone (attributeId t m (cutName k) - 1) t) i)
       ∙ ap (elementById chars t) (element-id-kept size chars values bare t g m (cutName k) h other i))
 

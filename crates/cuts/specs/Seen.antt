@@ -7,7 +7,8 @@ use lib.Dec.{eqb, leb}
 use lib.ListN.{length, getD}
 use Rattle.model.specs.Base.{pick, Pair}
 use Rattle.model.specs.Drawing.{Value}
-use Rattle.model.specs.Tables.{Tree, word, parentOf, elementById}
+use Rattle.model.specs.AId
+use Rattle.model.specs.Tables.{Tree, word, parentOf, attributeId, elementById}
 use Rattle.model.specs.Repair.{elementId, cutAt, applyCut, applied}
 use Rattle.model.specs.Theorems.Kept.{Tidy}
 use Rattle.model.specs.Theorems.GoingOn.{leadsTo, cutsAlong, goingOn}
@@ -39,11 +40,11 @@ pub record Cuttable (script chars marks heads ns es : List ℕ) (c : Counts) (k 
 -- AIMS
 
 -- The mark of the links that lead to element i in pass k, 0 where none can. A pattern is led to by its id, as are all others with that id;
--- any other element only if it is the last one with its id.
+-- any other element by links that find it, and so only if it has an id.
 unfoldable pub keyOf : List ℕ → ℕ → Tree → ℕ → ℕ
 keyOf chars k t i =
     let w : ℕ = elementById chars t (elementId chars t i) in
-    pick (leb k 2) (λ u. pick (eqb w 0) (λ v. 1) (λ v. w + 1)) (λ u. pick (eqb w (i + 1)) (λ v. i + 2) (λ v. 0))
+    pick (leb k 2) (λ u. pick (eqb w 0) (λ v. 1) (λ v. w + 1)) (λ u. pick (eqb (attributeId t i AId.Id) 0) (λ v. 0) (λ v. i + 2))
 
 -- An element that one of the passes 1 to 5 aims at, and to which links can lead.
 pub record Aimed (chars : List ℕ) (t : Tree) (aim : Aim) : Type 0 where

@@ -1,7 +1,8 @@
 // What a pass aims at with an element: the mark of the links that lead to it.
-use leads::last::is_led;
 use leads::last::last_of;
+use names::aid;
 use tree::Counts;
+use tree::read::attribute_id;
 ghost use mathlib.Core.Path.{_≡_};
 ghost use Prim.Native.Nat.{_<_, _≤_};
 ghost use lib.ListN.{length};
@@ -33,10 +34,10 @@ pub fn key_of(
     ensures { λ r. ⌜ r ≡ keyOf (now (characters .entry)) pass (seenOf (now (nodes .entry)) (now (attributes .entry)) counts) i ⌝ }
 {
     if pass > 2 {
-        if is_led(nodes, attributes, characters, heads, counts.nodes, i) {
-            return wide(i) + 2;
+        if attribute_id(nodes, attributes, i, aid::ID) == 0 {
+            return 0;
         }
-        return 0;
+        return wide(i) + 2;
     }
     let w = last_of(nodes, attributes, characters, heads, counts.nodes, i);
     if w == 0 {

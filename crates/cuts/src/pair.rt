@@ -164,8 +164,7 @@ fn cut_pairs(
     }
 }
 
-// Element i with itself and each node below it. Where none of them has a link, or no link leads to the element, there is nothing to cut:
-// whether it is the last with its id is asked of elements with links alone.
+// Element i with itself and each node below it. Where none of them has a link, or no link can lead to the element, there is nothing to cut.
 pub fn cut_element(
     script: &[u8],
     characters: &[u8],

@@ -1,4 +1,3 @@
-pub mod Comparing
 pub mod Lasting
 pub mod Linking
 pub mod Looking

@@ -6,7 +6,7 @@ use mathlib.Core.List.{List, []}
 use mathlib.Core.Option.{Option, none, some}
 use lib.Dec.{eqb}
 use lib.ListN.{length}
-use Rattle.model.specs.Base.{pick, and, given, sameBytes}
+use Rattle.model.specs.Base.{pick}
 use Rattle.model.specs.Check.{check}
 use Rattle.model.specs.Drawing.{Part, Value, partAt, events, valuesIn}
 use Rattle.model.specs.Tables.{Tree, ELEMENT, kindOf, toOf, entryAt, valueAtEntry}
@@ -19,8 +19,6 @@ use Rattle.places.specs.Marks.{Marked}
 use Rattle.tree.specs.Lent.{Readable, Valued}
 use Rattle.leads.specs.declared.link.FoundLink.{FoundLink}
 use Rattle.leads.specs.declared.link.FoundLink.the-variants as link
-use Rattle.leads.specs.declared.lead.Lead.{Lead}
-use Rattle.leads.specs.declared.lead.Lead.the-variants as lead
 use Rattle.leads.specs.declared.filter.Look.{Look}
 use Rattle.leads.specs.declared.filter.Look.the-variants as look
 
@@ -66,24 +64,6 @@ pub record Known (size : ℕ) (t : Tree) (j : ℕ) : Type 0 where
 pub record KnownIn (size : ℕ) (t : Tree) (i : ℕ) : Type 0 where
   pub readable : Readable t i
   pub entries : kindOf t i ≡ ELEMENT → (j : ℕ) → j < toOf t i → KeptEntry size (entryAt t j)
-
--- WHERE THEY LEAD
-
--- Does a link lead to an element with that id? Only if links with the id lead to it, and if its bytes are the id's.
-abbrev pub ledBy : Bool → List ℕ → Option Part → Bool
-ledBy led id o = and led (given o (λ v. sameBytes (v .bytes) id) (λ u. false))
-
--- Does it lead back to the element?
-abbrev pub isBack : Lead → Bool
-isBack (lead.Back c) = true
-isBack (lead.On a l c) = false
-isBack (lead.Nowhere c) = false
-
--- What is told of the link o.
-abbrev pub LeadFit : List ℕ → List ℕ → Option Part → Lead → Type 0
-LeadFit script chars o (lead.Back c) = Fit script c
-LeadFit script chars o (lead.On a l c) = (some (partAt chars a l) ≡ o) × ((a ≤ mostStart) × Fit script c)
-LeadFit script chars o (lead.Nowhere c) = (none ≡ o) × Fit script c
 
 -- FILTER LINKS
 

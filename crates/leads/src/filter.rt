@@ -1,5 +1,5 @@
 // The filter links of a node: every one is compared with an id.
-use crate::lead::is_id;
+use crate::id::is_id;
 use names::aid;
 use places::marks::seek_near;
 use script::cursor::Cursor;

@@ -1,4 +1,4 @@
-// Is an element the last one with its id? Then, and only then, do links with that id lead to it.
+// The last element with the id of an element: the one to which links with that id lead.
 use ids::find::find_id;
 use names::aid;
 use names::is_fixed;
@@ -104,25 +104,4 @@ pub fn last_of(
     let size = entry_word(attributes, j - 1, word::SIZE);
     let id = part_at(characters, start as usize, size);
     find_id(nodes, attributes, characters, heads, id, count)
-}
-
-// Is element i the last of the first `count` nodes with its id? One without an id is not.
-pub fn is_led(
-    nodes: &[u32],
-    attributes: &[u32],
-    characters: &[u8],
-    heads: &[u32; 2049],
-    count: u32,
-    i: u32,
-) -> bool
-    requires { ⌜ ((k : ℕ) → k < count → KnownIn (length (now characters)) (readOf (now nodes) (now attributes)) k) ⌝ }
-    requires { ⌜ Indexed (now characters) (readOf (now nodes) (now attributes)) (now heads) count ⌝ }
-    requires { ⌜ i < count ⌝ }
-    ensures { λ r. ⌜ r ≡ eqb (lastWithId (now (characters .entry)) (readOf (now (nodes .entry)) (now (attributes .entry)))
-        (elementId (now (characters .entry)) (readOf (now (nodes .entry)) (now (attributes .entry))) i) count) (i + 1) ⌝ }
-{
-    if attribute_id(nodes, attributes, i, aid::ID) == 0 {
-        return false;
-    }
-    last_of(nodes, attributes, characters, heads, count, i) == i + 1
 }

@@ -4,8 +4,8 @@ use borrow.Author.Tests.{eq-eqb, ne-eqb}
 use Rattle.names.proofs.Compared.{same-empty}
 use Rattle.ids.proofs.Values.{same-swap}
 use borrow.Author.Needs.{needs}
-use Rattle.leads.proofs.lead.is_id.Statement.{statement}
-use Rattle.leads.proofs.lead.is_id.Tie as tie
+use Rattle.leads.proofs.id.is_id.Statement.{statement}
+use Rattle.leads.proofs.id.is_id.Tie as tie
 
 returns : tie.Need-returns
 returns c = rw (eq-eqb _ 0 (c .if1 .taken)) (same-empty _ ∙ same-swap [] _)
