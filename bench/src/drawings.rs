@@ -470,6 +470,24 @@ fn nested_patterns(n: usize) -> Drawing {
     })
 }
 
+/// So many patterns in one another, with a thing for each of as many others in one another that is filled with it, from the innermost on;
+/// in that 1,804 times as many rects.
+fn nested_targets(n: usize) -> Drawing {
+    in_svg(|d| {
+        named(d, G, "h", |d| (0..450).for_each(|_| rect(d)));
+        let nested = |d: &mut Drawing, name: &str, inside: &dyn Fn(&mut Drawing)| {
+            for i in 0..n {
+                d.open(PATTERN, 1);
+                attributes(d, &[(Id, &format!("{name}{i}"))]);
+            }
+            inside(d);
+            (0..n).for_each(|_| d.close());
+        };
+        nested(d, "q", &|d| (0..4 * n).for_each(|_| use_of(d, "h")));
+        nested(d, "p", &|d| (0..n).rev().for_each(|i| painted(d, &format!("q{i}"))));
+    })
+}
+
 /// 900 groups in one another with so many attributes each, and in them so many copies of a rect with as many attributes as all of them, none
 /// of which finds what it inherits.
 fn inherited_in_vain(n: usize) -> Drawing {
@@ -535,10 +553,11 @@ fn far_places(n: usize) -> Drawing {
 }
 
 /// Drawings that take the longest: what they have so many of, how they are made, and how many there are in the largest that is not refused.
-pub const WORST: [(&str, fn(usize) -> Drawing, usize); 8] = [
+pub const WORST: [(&str, fn(usize) -> Drawing, usize); 9] = [
     ("ids before uses of nothing", searched_in_vain, 85_500),
     ("comments, copied", copied_comments, 1_000_000),
     ("patterns, nested, and links", nested_patterns, 1000),
+    ("patterns, nested, to as many", nested_targets, 490),
     ("attributes that inherit nothing", inherited_in_vain, 80),
     ("comments, quoted", quoted_comments, 640_000),
     ("filters of one thing", many_filters, 61_000),

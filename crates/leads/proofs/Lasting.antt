@@ -90,6 +90,38 @@ module _ (chars : List ℕ) (t : Tree) (i : ℕ) where
   unfolding hasIdBytes
   has-none h id = rw (eq-eqb (attributeId t i AId.Id) 0 h) refl
 
+  -- An element with an id is found by its bytes alone.
+  has-same : (id : List ℕ) → hasIdBytes chars t id i ≡ true → sameBytes id (elementId chars t i) ≡ true
+  unfolding hasIdBytes elementId
+  has-same id h = go (ℕ-discrete (attributeId t i AId.Id) 0) h
+    where
+      go : Dec (attributeId t i AId.Id ≡ 0)
+          → pick (eqb (attributeId t i AId.Id) 0) (λ u. false) (λ u. sameBytes (valueAtEntry chars t (attributeId t i AId.Id)) id) ≡ true
+          → sameBytes id (pick (eqb (attributeId t i AId.Id) 0) (λ u. []) (λ u. valueAtEntry chars t (attributeId t i AId.Id))) ≡ true
+      go (yes e) k = absurd (false≢true (rw (eq-eqb (attributeId t i AId.Id) 0 e) at k))
+      go (no e) k = rw (ne-eqb (attributeId t i AId.Id) 0 e)
+          (same-swap id (valueAtEntry chars t (attributeId t i AId.Id)) ∙ (rw (ne-eqb (attributeId t i AId.Id) 0 e) at k))
+
+  -- A link leads to element i exactly if links with its id do, and the link's bytes are its id.
+  pub compared : (bs : List ℕ) → eqb (elementById chars t bs) (i + 1)
+      ≡ and (eqb (elementById chars t (elementId chars t i)) (i + 1)) (sameBytes bs (elementId chars t i))
+  unfolding elementById
+  compared bs = go (sameBytes bs (elementId chars t i)) refl
+    where
+      go : (b : Bool) → sameBytes bs (elementId chars t i) ≡ b
+          → eqb (elementById chars t bs) (i + 1)
+          ≡ and (eqb (elementById chars t (elementId chars t i)) (i + 1)) (sameBytes bs (elementId chars t i))
+      go true e = rw (e, same-eq bs (elementId chars t i) e) (whole (eqb (elementById chars t (elementId chars t i)) (i + 1)))
+        where
+          whole : (b : Bool) → b ≡ and b true
+          whole true = refl
+          whole false = refl
+      go false e =
+          rw e
+          (ne-eqb (elementById chars t bs) (i + 1)
+          (λ z. false≢true (sym e ∙ has-same bs (found-has chars t bs (t .nodeCount) i z)))
+          ∙ and-false (eqb (elementById chars t (elementId chars t i)) (i + 1)))
+
   -- It has no id.
   pub last-absent : attributeId t i AId.Id ≡ 0 → (id : List ℕ) (n : ℕ) → false ≡ eqb (lastWithId chars t id n) (i + 1)
   last-absent h id n =
