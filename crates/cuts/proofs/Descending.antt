@@ -1,15 +1,20 @@
 -- The nodes below a node follow it: they are a range of the table. Assumes nothing.
 use mathlib.Core.Path.{_≡_, refl, sym, ap, _∙_}
+use mathlib.Core.Bool.{true, false}
 use mathlib.Core.List.{List, [], _∷_, _++_, append-assoc, append-nil}
 use Prim.Native.Nat.{ℕ, zero, suc, _+_, _-_, _<_, _≤_}
 use native.Mathlib.Omega.{arith}
 use native.Mathlib.Decide.{ℕ-discrete, decLt}
-use borrow.Author.Tests.{le-leb, lt-leb}
-use lib.Dec.{leb}
+use borrow.Author.Tests.{eq-eqb, ne-eqb, le-leb, lt-leb, lt-ltb, le-ltb}
+use lib.Dec.{eqb, leb, ltb}
 use Rattle.model.specs.Base.{pick}
 use Rattle.model.specs.Tables.{Tree, word, parentOf, attributeId}
 use Rattle.model.specs.Repair.{upFrom, belowFrom, descendants}
-use Rattle.cuts.specs.Seen.{Below}
+use Rattle.tree.specs.declared.Counts.{Counts}
+use Rattle.tree.specs.Lent.{readOf}
+use Rattle.tree.proofs.Alike.{id-same}
+use Rattle.targets.specs.Targets.{seenOf}
+use Rattle.cuts.specs.Seen.{counted, anyWith, hasLinks, Below}
 
 -- One more node at the end.
 pub up-more : (n i : ℕ) → upFrom i (suc n) ≡ upFrom i n ++ ((i + n) ∷ [])
@@ -123,3 +128,47 @@ without-more t a i end m w l e = record {
     go : (x : ℕ) → i ≤ x → x < m + 1 → Dec (x ≡ m) → attributeId t x a ≡ 0
     go x p q (yes d) = ap (λ (y : ℕ). attributeId t y a) d ∙ e
     go x p q (no d) = w .none x p (omega arith)
+
+-- LINKS BELOW AN ELEMENT
+
+with-none : (t : Tree) (a n i : ℕ) → ((x : ℕ) → i ≤ x → x < i + n → attributeId t x a ≡ 0) → anyWith t a (upFrom i n) ≡ false
+unfolding anyWith upFrom
+with-none t a zero i h = refl
+with-none t a (suc n) i h =
+    rw (eq-eqb (attributeId t i a) 0 (h i (omega arith) (omega arith)))
+    (with-none t a n (i + 1) (λ x l m. h x (omega arith) (omega arith)))
+
+with-some : (t : Tree) (a n i x : ℕ) → i ≤ x → x < i + n → (attributeId t x a ≡ 0 → ⊥) → anyWith t a (upFrom i n) ≡ true
+unfolding anyWith upFrom
+with-some t a zero i x l m h = absurd (omega arith)
+with-some t a (suc n) i x l m h = go (ℕ-discrete (attributeId t i a) 0) (λ d. with-some t a n (i + 1) x d (omega arith) h)
+  where
+    go : Dec (attributeId t i a ≡ 0) → (i + 1 ≤ x → anyWith t a (upFrom (i + 1) n) ≡ true)
+        → pick (eqb (attributeId t i a) 0) (λ u. anyWith t a (upFrom (i + 1) n)) (λ u. true) ≡ true
+    go (no e) r = rw (ne-eqb (attributeId t i a) 0 e) refl
+    go (yes e) r = rw (eq-eqb (attributeId t i a) 0 e) (r (later (ℕ-discrete i x)))
+      where
+        later : Dec (i ≡ x) → i + 1 ≤ x
+        later (yes d) = absurd (h (ap (λ (y : ℕ). attributeId t y a) (sym d) ∙ e))
+        later (no d) = omega arith
+
+-- What was found by a search for the first one.
+pub links-found : (ns es : List ℕ) (c : Counts) (a i end r : ℕ) → descendants (counted ns (c .nodes)) i ≡ upFrom i (end - i)
+    → i < end → (i ≤ r) × (r ≤ end) → ((m : ℕ) → i ≤ m → m < r → attributeId (readOf ns es) m a ≡ 0)
+    → (r < end → attributeId (readOf ns es) r a ≡ 0 → ⊥) → ltb r end ≡ hasLinks (seenOf ns es c) a i
+unfolding hasLinks
+links-found ns es c a i end r d l b none some = go (decLt r end) ∙ sym whole
+  where
+    t : Tree
+    t = seenOf ns es c
+
+    whole : anyWith t a (descendants t i) ≡ anyWith t a (upFrom i (end - i))
+    whole = ap (anyWith t a) (sym (descendants-alike (counted ns (c .nodes)) t refl refl i) ∙ d)
+
+    go : Dec (r < end) → ltb r end ≡ anyWith t a (upFrom i (end - i))
+    go (yes h) =
+        lt-ltb r end h
+        ∙ sym (with-some t a (end - i) i r (b .0) (omega (arith, b .1)) (λ z. some h (id-same t r a ∙ z)))
+    go (no h) =
+        le-ltb r end (omega arith)
+        ∙ sym (with-none t a (end - i) i (λ x p q. sym (id-same t x a) ∙ none x p (omega (arith, b .1))))

@@ -1,10 +1,11 @@
 -- An element and the nodes below it, pair by pair. Assumes nothing.
 use mathlib.Core.Path.{_≡_, refl, sym, ap, _∙_, subst}
-use mathlib.Core.Bool.{Bool, true, false}
+use mathlib.Core.Bool.{Bool, true, false, true≢false}
 use mathlib.Core.List.{List, [], _∷_}
 use mathlib.Core.Option.{Option, none, some}
 use Prim.Native.Nat.{ℕ, zero, suc, _+_, _-_, _*_, _<_, _≤_}
 use native.Mathlib.Omega.{arith}
+use native.Mathlib.Decide.{ℕ-discrete}
 use borrow.Author.Tests.{eq-eqb, ne-eqb, le-leb, lt-leb}
 use lib.Dec.{eqb, leb}
 use lib.ListN.{length, getD}
@@ -26,7 +27,7 @@ use Rattle.targets.specs.Targets.{seenOf, passKind, markFor, markOf}
 use Rattle.targets.proofs.Passes.{no-id}
 use Rattle.targets.proofs.Marks.{mark-target}
 use Rattle.cuts.specs.declared.Aim.{Aim}
-use Rattle.cuts.specs.Seen.{counted, Cuttable, keyOf, Aimed, Quiet, Covered, cutBack, cutNodes, cutPairs}
+use Rattle.cuts.specs.Seen.{counted, anyWith, hasLinks, Cuttable, keyOf, Aimed, Quiet, Covered, cutBack, cutNodes, cutPairs}
 use Rattle.cuts.proofs.Writing.{applied-more, cuttable-on, long-on}
 use Rattle.cuts.proofs.Turning.{never-led, leads-entry, cut-tidy, cut-aimed}
 use Rattle.cuts.proofs.Descending.{up-step, up-none, descendants-alike}
@@ -163,6 +164,23 @@ module _ (chars : List ℕ) (values : List Value) (k i : ℕ) (t : Tree) where
       ∙ skipped n (a + 1) end (omega arith) (λ m x y. h m (omega arith) (omega arith))
       ∙ pair-quiet a (upFrom (a + 1) (end - (a + 1))) (unlinked a (h a (omega arith) (omega arith)))
       ∙ ap (λ (xs : List ℕ). cutPairs chars values k t (withEach i xs [])) (sym (up-step a end (omega arith)))
+
+  -- None of the nodes has the attribute.
+  with-pairs : (js : List ℕ) → anyWith t (cutName k) js ≡ false → t ≡ cutPairs chars values k t (withEach i js [])
+  unfolding anyWith withEach goingOn applied
+  with-pairs [] e = refl
+  with-pairs (j ∷ js) e = go (ℕ-discrete (attributeId t j (cutName k)) 0) e (with-pairs js)
+    where
+      go : Dec (attributeId t j (cutName k) ≡ 0)
+          → pick (eqb (attributeId t j (cutName k)) 0) (λ u. anyWith t (cutName k) js) (λ u. true) ≡ false
+          → (anyWith t (cutName k) js ≡ false → t ≡ cutPairs chars values k t (withEach i js []))
+          → t ≡ cutPairs chars values k t (withEach i (j ∷ js) [])
+      go (yes z) h r = r (rw (eq-eqb (attributeId t j (cutName k)) 0 z) at h) ∙ pair-quiet j js (unlinked j z)
+      go (no z) h r = absurd (true≢false (rw (ne-eqb (attributeId t j (cutName k)) 0 z) at h))
+
+  pub linkless-pairs : hasLinks t (cutName k) i ≡ false → t ≡ cutPairs chars values k t (withEach i (descendants t i) [])
+  unfolding hasLinks
+  linkless-pairs e = with-pairs (descendants t i) e
 
 -- An element to which no link leads.
 none-passing : (f : ℕ → Bool) → ((x : ℕ) → f x ≡ false) → (xs : List ℕ) → passing f xs ≡ []

@@ -1,15 +1,15 @@
 -- The tables as the repairs see them, and what a step at one element leaves in them.
 use mathlib.Core.Path.{_≡_}
 use Prim.Native.Nat.{ℕ, _+_, _-_, _*_, _/_, _<_, _≤_}
-use mathlib.Core.Bool.{Bool, false}
-use mathlib.Core.List.{List, []}
+use mathlib.Core.Bool.{Bool, true, false}
+use mathlib.Core.List.{List, [], _∷_}
 use lib.Dec.{eqb, leb}
 use lib.ListN.{length, getD}
 use Rattle.model.specs.Base.{pick, Pair}
 use Rattle.model.specs.Drawing.{Value}
 use Rattle.model.specs.AId
 use Rattle.model.specs.Tables.{Tree, word, parentOf, attributeId, elementById}
-use Rattle.model.specs.Repair.{elementId, cutAt, applyCut, applied}
+use Rattle.model.specs.Repair.{descendants, elementId, cutAt, applyCut, applied}
 use Rattle.model.specs.Theorems.Kept.{Tidy}
 use Rattle.model.specs.Theorems.GoingOn.{leadsTo, cutsAlong, goingOn}
 use Rattle.script.specs.declared.cursor.Cursor.{Cursor}
@@ -36,6 +36,17 @@ pub record Mendable (script chars marks heads ns es : List ℕ) (c : Counts) (hi
 pub record Cuttable (script chars marks heads ns es : List ℕ) (c : Counts) (k : ℕ) : Type 0 where
   pub mendable : Mendable script chars marks heads ns es c atStart
   pub targeted : (getD heads 2048 0 ≡ 0 → ⊥) → Targeted chars (valuesOf script chars) k (seenOf ns es c)
+
+-- LINKS BELOW AN ELEMENT
+
+-- Has one of these nodes the attribute a?
+unfoldable pub anyWith : Tree → ℕ → List ℕ → Bool
+anyWith t a [] = false
+anyWith t a (x ∷ xs) = pick (eqb (attributeId t x a) 0) (λ u. anyWith t a xs) (λ u. true)
+
+-- Has node i the attribute a, or a node below it?
+unfoldable pub hasLinks : Tree → ℕ → ℕ → Bool
+hasLinks t a i = anyWith t a (descendants t i)
 
 -- AIMS
 

@@ -1,4 +1,5 @@
 // The nodes below a node follow it in the table.
+use tree::Counts;
 use tree::read::attribute_id;
 use tree::word;
 use tree::word::node_word;
@@ -8,7 +9,8 @@ ghost use lib.ListN.{length};
 ghost use Rattle.model.specs.Tables.{attributeId};
 ghost use Rattle.model.specs.Repair.{upFrom, descendants};
 ghost use Rattle.tree.specs.Lent.{readOf, Readable};
-ghost use Rattle.cuts.specs.Seen.{counted, Below};
+ghost use Rattle.targets.specs.Targets.{seenOf};
+ghost use Rattle.cuts.specs.Seen.{counted, Below, hasLinks};
 
 // `descendants` of node i: from i up to the node that is answered, the first behind i whose parent comes before i.
 pub fn behind_below(nodes: &[u32], count: u32, i: u32) -> u32
@@ -34,6 +36,7 @@ pub fn first_with(nodes: &[u32], attributes: &[u32], name: u32, i: u32, end: u32
     ensures within { λ r. ⌜ (i ≤ r) × (r ≤ end) ⌝ }
     ensures none { λ r. ⌜ ((m : ℕ) → i ≤ m → m < r
         → attributeId (readOf (now (nodes .entry)) (now (attributes .entry))) m name ≡ 0) ⌝ }
+    ensures some { λ r. ⌜ (r < end → attributeId (readOf (now (nodes .entry)) (now (attributes .entry))) r name ≡ 0 → ⊥) ⌝ }
 {
     let mut m = i;
     while m < end {
@@ -43,4 +46,14 @@ pub fn first_with(nodes: &[u32], attributes: &[u32], name: u32, i: u32, end: u32
         m += 1;
     }
     m
+}
+
+// Has node i that attribute, or a node below it?
+pub fn has_links(nodes: &[u32], attributes: &[u32], counts: Counts, name: u32, i: u32) -> bool
+    requires { ⌜ ((m : ℕ) → m < counts .nodes → Readable (readOf (now nodes) (now attributes)) m) ⌝ }
+    requires { ⌜ (i < counts .nodes) × (8 * counts .nodes ≤ length (now nodes)) ⌝ }
+    ensures { λ r. ⌜ r ≡ hasLinks (seenOf (now (nodes .entry)) (now (attributes .entry)) counts) name i ⌝ }
+{
+    let end = behind_below(nodes, counts.nodes, i);
+    first_with(nodes, attributes, name, i, end) < end
 }

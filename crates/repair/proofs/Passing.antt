@@ -10,9 +10,10 @@ use lib.ListN.{length}
 use Rattle.model.specs.Base.{pick, and, Pair}
 use Rattle.model.specs.EId
 use Rattle.model.specs.Drawing.{Value, events}
-use Rattle.model.specs.Tables.{Tree, ELEMENT, word, kindOf, isNamed}
-use Rattle.model.specs.Repair.{upFrom, allNamed, descendants, recursiveFeImage, Cut, cutAt, applyCut, applied}
+use Rattle.model.specs.Tables.{Tree, ELEMENT, word, kindOf, isNamed, attributeId, setNone}
+use Rattle.model.specs.Repair.{upFrom, allNamed, descendants, recursiveFeImage, Cut, cutName, cutEntry, cutAt, applyCut, applied}
 use Rattle.model.specs.Theorems.Sim.{and-left}
+use Rattle.model.specs.Theorems.Cuts as cuts
 use Rattle.model.specs.Theorems.GoingOn.{withEach, pairsOf, goingOn, elementOf}
 use Rattle.model.specs.Theorems.Inside.{all-inside}
 use Rattle.model.specs.Theorems.Images.{imagesOn, passOn, values-bare}
@@ -22,11 +23,11 @@ use Rattle.tree.specs.declared.Counts.{Counts}
 use Rattle.leads.specs.Links.{valuesOf}
 use Rattle.targets.specs.Targets.{seenOf, Targeted}
 use Rattle.targets.proofs.Marks.{targeted-applied}
-use Rattle.cuts.specs.Seen.{Mendable, cutPairs}
+use Rattle.cuts.specs.Seen.{anyWith, hasLinks, Mendable, cutPairs}
 use Rattle.repair.specs.Passes.{linkCuts, imageCuts, Sought, Resolved}
 use Rattle.cuts.proofs.Descending.{up-step, up-none, descendants-alike}
 use Rattle.cuts.proofs.Writing.{mend-on, long-on}
-use Rattle.cuts.proofs.Pairing.{pairs-first}
+use Rattle.cuts.proofs.Pairing.{pairs-first, linkless-pairs}
 
 -- The last of the passes 1 to 5.
 pub last-element : (k : ℕ) → (k ≤ 2 → ⊥) → k ≤ 5 → (k ≡ 3 → ⊥) → (k ≡ 4 → ⊥) → EId.Filter ≡ elementOf k
@@ -92,6 +93,10 @@ module _ (chars : List ℕ) (values : List Value) (k : ℕ) (t : Tree) (code : �
       → cutPairs chars values k t (withEach i (descendants t i) []) ≡ applied t (linkCuts chars values k code t (i ∷ []))
   unfolding allNamed pairsOf
   named-here i e = rw e refl
+
+  pub linkless-here : (i a : ℕ) → a ≡ cutName k → isNamed t code i ≡ true → hasLinks t a i ≡ false
+      → t ≡ applied t (linkCuts chars values k code t (i ∷ []))
+  linkless-here i a e n h = linkless-pairs chars values k i t (ap (λ (x : ℕ). hasLinks t x i) (sym e) ∙ h) ∙ named-here i n
 
   pub unnamed-here : (i : ℕ) → isNamed t code i ≡ false → t ≡ applied t (linkCuts chars values k code t (i ∷ []))
   unfolding allNamed pairsOf goingOn applied
@@ -210,16 +215,48 @@ module _ (script chars marks heads ns : List ℕ) (c : Counts) (f : Tree → Lis
 
 -- THE MARKS
 
+-- The attributes of nodes behind cuts.
+ids-cuts : (cs : List Cut) (t : Tree) (x a : ℕ) → attributeId (applied t cs) x a ≡ attributeId t x a
+unfolding applied applyCut
+ids-cuts [] t x a = refl
+ids-cuts (c ∷ cs) t x a = ids-cuts cs (applyCut t c) x a ∙ go (eqb (cutEntry t (c .pass) (c .node)) 0)
+  where
+    j : ℕ
+    j = cutEntry t (c .pass) (c .node)
+
+    go : (b : Bool) → attributeId (pick b (λ u. t) (λ u. setNone (j - 1) t)) x a ≡ attributeId t x a
+    go true = refl
+    go false = cuts.id-same (j - 1) t x a
+
+with-same : (t u : Tree) (a : ℕ) → ((x : ℕ) → attributeId u x a ≡ attributeId t x a) → (xs : List ℕ) → anyWith u a xs ≡ anyWith t a xs
+unfolding anyWith
+with-same t u a h [] = refl
+with-same t u a h (x ∷ xs) = rw (h x, with-same t u a h xs) refl
+
+-- Tables with the same attributes have the same links.
+pub links-same : (ns es es′ : List ℕ) (c : Counts) (a i : ℕ)
+    → ((x : ℕ) → attributeId (seenOf ns es′ c) x a ≡ attributeId (seenOf ns es c) x a)
+    → hasLinks (seenOf ns es′ c) a i ≡ hasLinks (seenOf ns es c) a i
+unfolding hasLinks
+links-same ns es es′ c a i h =
+    ap (anyWith (seenOf ns es′ c) a) (descendants-alike (seenOf ns es′ c) (seenOf ns es c) refl refl i)
+    ∙ go (descendants (seenOf ns es c) i)
+  where
+    go : (xs : List ℕ) → anyWith (seenOf ns es′ c) a xs ≡ anyWith (seenOf ns es c) a xs
+    go xs = with-same (seenOf ns es c) (seenOf ns es′ c) a h xs
+
 -- Cuts keep the marks.
 module _ (script chars marks heads ns es : List ℕ) (c : Counts) (g : Mendable script chars marks heads ns es c atStart) (cs : List Cut)
     (es′ : List ℕ) (e : seenOf ns es′ c ≡ applied (seenOf ns es c) cs) where
   pub sought-on : (k : ℕ) → 1 ≤ k → k ≤ 5 → Sought chars (valuesOf script chars) (seenOf ns es c) k
       → Sought chars (valuesOf script chars) (seenOf ns es′ c) k
-  sought-on k f l s i m n =
+  sought-on k f l s i m n h =
+      let same = links-same ns es es′ c (cutName k) i
+      (λ x. ap (λ (u : Tree). attributeId u x (cutName k)) e ∙ ids-cuts cs (seenOf ns es c) x (cutName k)) in
       subst (Targeted chars (valuesOf script chars) k) (sym e)
       (targeted-applied (length chars) chars (valuesOf script chars)
       (values-bare (length chars) (events script chars) (all-inside script chars (g .drawn .checked))) k f l (seenOf ns es c) (g .tidy)
-      (s i m n) cs)
+      (s i m n (sym same ∙ h)) cs)
 
   pub resolved-on : Resolved chars (valuesOf script chars) (seenOf ns es c) 6 → Resolved chars (valuesOf script chars) (seenOf ns es′ c) 6
   resolved-on r = record { sought = λ k f l. sought-on k f (omega arith) (r .sought k f l) }

@@ -4,18 +4,18 @@ use Prim.Native.Nat.{ℕ, _<_, _≤_}
 use mathlib.Core.Bool.{Bool, true}
 use mathlib.Core.List.{List, [], _∷_}
 use lib.ListN.{getD}
-use Rattle.model.specs.Base.{or}
+use Rattle.model.specs.Base.{and, or}
 use Rattle.model.specs.EId
 use Rattle.model.specs.Drawing.{Value}
 use Rattle.model.specs.Tables.{Tree, isNamed}
-use Rattle.model.specs.Repair.{allNamed, Cut}
+use Rattle.model.specs.Repair.{allNamed, Cut, cutName}
 use Rattle.model.specs.Theorems.GoingOn.{elementOf, pairsOf, goingOn}
 use Rattle.model.specs.Theorems.Images.{imagesOn, passesOn}
 use Rattle.script.specs.Step.{atStart}
 use Rattle.tree.specs.declared.Counts.{Counts}
 use Rattle.leads.specs.Links.{valuesOf}
 use Rattle.targets.specs.Targets.{seenOf, Targeted}
-use Rattle.cuts.specs.Seen.{Mendable}
+use Rattle.cuts.specs.Seen.{hasLinks, Mendable}
 
 -- The cuts of one of the passes 1 to 5 at these nodes, where they are elements with the code that it looks at.
 abbrev pub linkCuts : List ℕ → List Value → ℕ → ℕ → Tree → List ℕ → List Cut
@@ -35,9 +35,14 @@ isLinked t i =
     or (isNamed t EId.Pattern i) (or (isNamed t EId.ClipPath i) (or (isNamed t EId.Mask i)
     (or (isNamed t EId.Filter i) (isNamed t EId.FeImage i))))
 
--- Where pass k looks at an element, the marks of its links are in the tables.
+-- Is node i an element with that code, and has it or a node below it the attribute a?
+abbrev pub isSought : Tree → ℕ → ℕ → ℕ → Bool
+isSought t code a i = and (isNamed t code i) (hasLinks t a i)
+
+-- Where pass k looks at an element with links at or below it, the marks of its links are in the tables.
 abbrev pub Sought : List ℕ → List Value → Tree → ℕ → Type 0
-Sought chars values t k = (i : ℕ) → i < t .nodeCount → isNamed t (elementOf k) i ≡ true → Targeted chars values k t
+Sought chars values t k =
+    (i : ℕ) → i < t .nodeCount → isNamed t (elementOf k) i ≡ true → hasLinks t (cutName k) i ≡ true → Targeted chars values k t
 
 -- So it is for the passes before pass n.
 pub record Resolved (chars : List ℕ) (values : List Value) (t : Tree) (n : ℕ) : Type 0 where

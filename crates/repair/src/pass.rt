@@ -1,6 +1,8 @@
 // One pass: each element that it looks at, one after another.
+use cuts::below::has_links;
 use cuts::pair::cut_element;
 use names::eid;
+use targets::name::cut_name;
 use tree::Counts;
 use tree::word;
 use tree::word::node_word;
@@ -45,7 +47,7 @@ pub fn is_named(nodes: &[u32], code: u32, i: u32) -> bool
     node_word(nodes, i, word::CODE) == code
 }
 
-// Node i, where it is an element that the pass looks at.
+// Node i, where it is an element that the pass looks at, with links at or below it.
 fn cut_named(
     script: &[u8],
     characters: &[u8],
@@ -69,6 +71,10 @@ fn cut_named(
         (seenOf (now (nodes .entry)) (now (attributes .entry)) counts) (i ∷ [])) ⌝ }
 {
     if !is_named(nodes, code, i) {
+        return;
+    }
+    let name = cut_name(pass);
+    if !has_links(nodes, attributes, counts, name, i) {
         return;
     }
     cut_element(

@@ -1,8 +1,10 @@
 // Before the passes: chains of ids, and marks of the links in the passes that look at elements of the drawing.
 use crate::pass::element_code;
 use crate::pass::is_named;
+use cuts::below::has_links;
 use ids::chain::chain;
 use ids::plain::is_plain;
+use targets::name::cut_name;
 use targets::resolve::resolve;
 use tree::Counts;
 ghost use mathlib.Core.Path.{_≡_};
@@ -10,14 +12,13 @@ ghost use mathlib.Core.Bool.{true, false};
 ghost use Prim.Native.Nat.{ℕ, _+_, _*_, _<_, _≤_};
 ghost use lib.ListN.{length, getD};
 ghost use Rattle.model.specs.Check.{check};
-ghost use Rattle.model.specs.Tables.{isNamed};
 ghost use Rattle.model.specs.Theorems.Kept.{Tidy};
 ghost use Rattle.places.specs.Marks.{Marked};
-ghost use Rattle.tree.specs.Lent.{readOf, nodesRead};
+ghost use Rattle.tree.specs.Lent.{readOf, Readable};
 ghost use Rattle.ids.specs.Chains.{Like, Indexed};
 ghost use Rattle.leads.specs.Links.{valuesOf};
 ghost use Rattle.targets.specs.Targets.{seenOf};
-ghost use Rattle.repair.specs.Passes.{Resolved};
+ghost use Rattle.repair.specs.Passes.{isSought, Resolved};
 
 // Is there room behind the words of importance? Each has to be 0 or 1, and the nodes are to be few enough.
 pub fn has_room(attributes: &[u32], counts: Counts) -> bool
@@ -31,14 +32,35 @@ pub fn has_room(attributes: &[u32], counts: Counts) -> bool
     is_plain(attributes, counts.attributes)
 }
 
-// Is one of the first `count` nodes an element with that code?
-fn any_named(nodes: &[u32], code: u32, count: u32) -> bool
-    requires { ⌜ 8 * count ≤ length (now nodes) ⌝ }
-    ensures { λ r. ⌜ (r ≡ false → (i : ℕ) → i < count → isNamed (nodesRead (now (nodes .entry))) code i ≡ false) ⌝ }
+// Is node i an element with that code, which has that attribute or a node below it that has?
+fn is_sought(
+    nodes: &[u32],
+    attributes: &[u32],
+    counts: Counts,
+    code: u32,
+    name: u32,
+    i: u32,
+) -> bool
+    requires { ⌜ ((m : ℕ) → m < counts .nodes → Readable (readOf (now nodes) (now attributes)) m) ⌝ }
+    requires { ⌜ (i < counts .nodes) × (8 * counts .nodes ≤ length (now nodes)) ⌝ }
+    ensures { λ r. ⌜ r ≡ isSought (seenOf (now (nodes .entry)) (now (attributes .entry)) counts) code name i ⌝ }
+{
+    if !is_named(nodes, code, i) {
+        return false;
+    }
+    has_links(nodes, attributes, counts, name, i)
+}
+
+// Is one of the nodes such an element?
+fn any_sought(nodes: &[u32], attributes: &[u32], counts: Counts, code: u32, name: u32) -> bool
+    requires { ⌜ ((m : ℕ) → m < counts .nodes → Readable (readOf (now nodes) (now attributes)) m) ⌝ }
+    requires { ⌜ 8 * counts .nodes ≤ length (now nodes) ⌝ }
+    ensures { λ r. ⌜ (r ≡ false → (i : ℕ) → i < counts .nodes
+        → isSought (seenOf (now (nodes .entry)) (now (attributes .entry)) counts) code name i ≡ false) ⌝ }
 {
     let mut i = 0;
-    while i < count {
-        if is_named(nodes, code, i) {
+    while i < counts.nodes {
+        if is_sought(nodes, attributes, counts, code, name, i) {
             return true;
         }
         i += 1;
@@ -46,7 +68,7 @@ fn any_named(nodes: &[u32], code: u32, count: u32) -> bool
     false
 }
 
-// The marks of one of the passes 1 to 5, where it looks at an element.
+// The marks of one of the passes 1 to 5, where it looks at an element with links at or below it.
 fn resolve_named(
     script: &[u8],
     characters: &[u8],
@@ -71,7 +93,8 @@ fn resolve_named(
         (seenOf (now (nodes .entry)) (now (attributes .exit)) counts) (pass + 1) ⌝ }
 {
     let code = element_code(pass);
-    if any_named(nodes, code, counts.nodes) {
+    let name = cut_name(pass);
+    if any_sought(nodes, attributes, counts, code, name) {
         resolve(
             script,
             characters,

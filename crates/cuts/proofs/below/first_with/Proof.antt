@@ -21,7 +21,7 @@ attribute-id-requires c κs = c .before .before .before .before .pre .1 _ (c .lo
 returns : tie.Need-returns Inv-loop μ-loop
 returns c =
     let loop-inv = c .before .before .before .loop .inv in
-    ((loop-inv .low, loop-inv .high), loop-inv .none)
+    ((loop-inv .low, loop-inv .high), (loop-inv .none, λ l z. c .if1 .taken (c .before .attribute-id .ensures .0 ∙ z)))
 
 add-m : tie.Need-add-m Inv-loop μ-loop
 add-m c = omega arith
@@ -35,7 +35,10 @@ loop-again c =
     (sym (c .before .attribute-id .ensures .0) ∙ c .if1 .left)
 
 returns-2 : tie.Need-returns-2 Inv-loop μ-loop
-returns-2 c = ((c .before .loop .inv .low, c .before .loop .inv .high), c .before .loop .inv .none)
+returns-2 c = (
+  (c .before .loop .inv .low, c .before .loop .inv .high),
+  (c .before .loop .inv .none, λ l z. omega (arith, l, c .loop-test .left)),
+)
 
 pub first-with-spec : {M : Type 1} → statement M
 first-with-spec =

@@ -38,7 +38,7 @@ returns : tie.Need-returns
 returns c =
     element-bare _ _ _ _ (c .before .before .before .before .before .before .before .before .before .args .counts) _ _ _ _ _
     (c .before .before .before .behind-below .ensures .0) (c .before .before .before .before .cut-name .ensures)
-    (c .before .first-with .ensures .0 .0) (c .before .first-with .ensures .0 .1) (c .before .first-with .ensures .1)
+    (c .before .first-with .ensures .0 .0) (c .before .first-with .ensures .0 .1) (c .before .first-with .ensures .1 .0)
     (c .if1 .taken)
 
 -- src/pair.rt:196:9
@@ -57,7 +57,7 @@ returns-2 c =
     (c .before .before .before .before .before .before .behind-below .ensures .0)
     (c .before .before .before .before .before .before .before .cut-name .ensures)
     (c .before .before .before .before .first-with .ensures .0 .0) (c .before .before .before .before .first-with .ensures .0 .1)
-    (c .before .before .before .before .first-with .ensures .1)
+    (c .before .before .before .before .first-with .ensures .1 .0)
     (c .before .before .before .before .before .before .before .before .before .before .before .before .pre .1 .0 .0)
     (c .before .before .before .before .before .before .before .before .before .before .before .before .pre .1 .0 .1)
     (sym (c .before .key-of .ensures) ∙ c .if2 .taken)
@@ -94,7 +94,7 @@ returns-3 c =
     (c .before .before .before .before .before .before .before .before .before .before .before .before .cut-name .ensures)
     (c .before .before .before .before .before .before .before .before .before .first-with .ensures .0 .0)
     (c .before .before .before .before .before .before .before .before .before .first-with .ensures .0 .1)
-    (c .before .before .before .before .before .before .before .before .before .first-with .ensures .1) _
+    (c .before .before .before .before .before .before .before .before .before .first-with .ensures .1 .0) _
     (c .before .before .cut-pairs .ensures)
 
 pub cut-element-spec : {M : Type 1} → statement M
