@@ -191,22 +191,27 @@ pub fn hurtful_table(full: bool) {
     }
 }
 
-/// The drawings that take the longest, each grown until its build takes a second or it is as large as can be: how long, beside the Rust,
-/// by which power of its size the time grew last, and how long the largest one would take if it grew on like that.
+/// The drawings that take the longest, each grown until its build takes a second or it is as large as can be: how long, by which power of
+/// its size the time grew last, and how long the largest one would take if it grew on like that. The Rust stands beside a smaller one
+/// where it would take too long.
 pub fn worst_table() {
     println!("the longest builds, grown until one takes a second: seconds for a call");
     println!(
-        "{:<42}{:>9}{:>9}{:>9}{:>12}{:>9}{:>7}{:>9}{:>15}",
-        "drawing", "script", "nodes", "build", "parse_tree", "ratio", "power", "most", "build of most"
+        "{:<42}{:>9}{:>9}{:>9}{:>7}{:>9}{:>15}{:>9}{:>9}{:>12}{:>9}",
+        "drawing", "script", "nodes", "build", "power", "most", "build of most", "beside", "build", "parse_tree", "ratio"
     );
-    for (name, make, most) in drawings::WORST {
+    for (name, make, most, beside) in drawings::WORST {
         let largest = make(most);
         assert_eq!(host::check::check(&largest.script, &largest.characters), 0, "the largest drawing is in order");
-        let (mut n, mut before) = (1, None);
-        let (d, nodes, build, power) = loop {
+        let built = |n: usize| {
             let d = make(n);
             let (mut tables, nodes) = exact(&d).expect("a drawing to measure is built");
             let time = took(|| library::plain::build(&d.script, &d.characters, tables.lent())).as_secs_f64();
+            (d, nodes, time)
+        };
+        let (mut n, mut before) = (1, None);
+        let (d, nodes, build, power) = loop {
+            let (d, nodes, time) = built(n);
             if time > 1.0 || n == most {
                 let (smaller, less) = before.unwrap_or((n, time));
                 break (d, nodes, time, (time / less).ln() / (n as f64 / smaller as f64).ln());
@@ -214,18 +219,22 @@ pub fn worst_table() {
             before = Some((n, time));
             n = most.min(2 * n);
         };
-        let rust = parsed(&d, |parse| parse().0.as_secs_f64());
+        let smaller = n.min(beside);
+        let (small, _, time) = built(smaller);
+        let rust = parsed(&small, |parse| parse().0.as_secs_f64());
         println!(
-            "{:<42}{:>9}{:>9}{:>9}{:>12}{:>9}{:>7.1}{:>9}{:>15.0}",
+            "{:<42}{:>9}{:>9}{:>9}{:>7.1}{:>9}{:>15.0}{:>9}{:>9}{:>12}{:>9}",
             format!("{n} {name}"),
             d.script.len(),
             nodes,
             shown(build, library::BUILD),
-            shown(rust, RUST),
-            ratio(build, rust, library::BUILD && RUST),
             power,
             most,
-            build * (most as f64 / n as f64).powf(power)
+            build * (most as f64 / n as f64).powf(power),
+            smaller,
+            shown(time, library::BUILD),
+            shown(rust, RUST),
+            ratio(time, rust, library::BUILD && RUST),
         );
     }
 }
@@ -234,7 +243,7 @@ pub fn worst_table() {
 pub fn write_lines() {
     let hex = |bytes: &[u8]| bytes.iter().map(|b| format!("{b:02x}")).collect::<String>();
     let hurtful = drawings::HURTFUL.map(|(name, make, usual, _)| (name, make(usual / 10)));
-    let worst = drawings::WORST.map(|(name, make, most)| (name, make(most / 200 + 2)));
+    let worst = drawings::WORST.map(|(name, make, most, _)| (name, make(most / 200 + 2)));
     for (name, d) in drawings::large(Size(1 << 14)).into_iter().chain(hurtful).chain(worst) {
         println!(r#"{{"name": "{name}", "script": "{}", "characters": "{}"}}"#, hex(&d.script), hex(&d.characters));
     }
