@@ -4,8 +4,6 @@ use mathlib.Core.List.{List}
 use Prim.Native.Nat.{ℕ, _+_, _<_, _≤_}
 use native.Mathlib.Omega.{arith}
 use borrow.Author.Tests.{eq-eqb, ne-eqb, le-leb, lt-leb}
-use lib.Dec.{eqb}
-use Rattle.model.specs.Base.{pick}
 use Rattle.model.specs.AId
 use Rattle.model.specs.Tables.{Tree, entryAt, attributeId, lastWithId, elementById}
 use Rattle.model.specs.Repair.{elementId}

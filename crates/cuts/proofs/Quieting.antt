@@ -16,7 +16,7 @@ use Rattle.model.specs.Tables.{Tree, word, parentOf, attributeId, setNone}
 use Rattle.model.specs.Repair.{upFrom, belowFrom, descendants, cutName, cutAt, applyCut, applied}
 use Rattle.model.specs.Theorems.Kept.{Tidy}
 use Rattle.model.specs.Theorems.Agree.{set-cases}
-use Rattle.model.specs.Theorems.GoingOn.{passing, leadsTo, cutsAlong}
+use Rattle.model.specs.Theorems.GoingOn.{passing, cutsAlong}
 use Rattle.cuts.specs.Seen.{Below, Still, Quiet, Covered, Hushed, cutNodes}
 use Rattle.cuts.proofs.Turning.{cut-tidy, cut-leads}
 

@@ -12,7 +12,7 @@ use lib.ListN.{length}
 use Rattle.model.specs.Base.{pick, given}
 use Rattle.model.specs.AId
 use Rattle.model.specs.Drawing.{Part, Value, events, readingOf, readingsOf}
-use Rattle.model.specs.Tables.{Tree, entryWord, entryAt, attributeId, attributeOf, elementById, setNone}
+use Rattle.model.specs.Tables.{Tree, entryAt, attributeId, attributeOf, elementById, setNone}
 use Rattle.model.specs.Repair.{upFrom, descendants, linkKind, elementId, readingsOfAttribute, linkOf, paintsWith, nodeAttribute}
 use Rattle.model.specs.Repair.{Cut, cutName, cutAt, applyCut, applied}
 use Rattle.model.specs.Theorems.Inside.{all-inside}
@@ -24,7 +24,7 @@ use Rattle.model.specs.Theorems.Cuts.{by-id-kept, element-id-kept}
 use Rattle.model.specs.Theorems.GoingOn.{passing, Without, leadsTo, cutsAlong, cut-is, leads-without}
 use Rattle.tree.specs.declared.Counts.{Counts}
 use Rattle.tree.specs.Lent.{readOf, entriesOf}
-use Rattle.tree.proofs.Alike.{id-same, attribute-same}
+use Rattle.tree.proofs.Alike.{id-same}
 use Rattle.leads.specs.Links.{valuesOf, Stands}
 use Rattle.targets.specs.Targets.{seenOf, markOf}
 use Rattle.targets.proofs.Passes.{no-id}

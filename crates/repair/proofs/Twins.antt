@@ -2,23 +2,22 @@
 use mathlib.Core.Path.{_≡_, refl, sym, ap, _∙_, subst, fun-ext}
 use mathlib.Core.Bool.{Bool, true, false}
 use mathlib.Core.List.{List, [], _∷_, _++_}
-use mathlib.Core.Option.{Option}
 use Prim.Native.Nat.{ℕ, zero, suc, _+_, _-_, _*_, _/_, _%_, _<_, _≤_}
 use native.Mathlib.Omega.{arith}
 use native.Mathlib.Nat.{div-add-mod'}
 use native.Mathlib.Decide.{ℕ-discrete, decLt}
 use lib.Dec.{eqb, leb}
-use lib.ListN.{length, getD}
+use lib.ListN.{getD}
 use lib.Seq.{sets, length-sets, ext-getD}
-use Rattle.model.specs.Base.{pick, given, sameBytes, Pair}
+use Rattle.model.specs.Base.{pick, given, Pair}
 use Rattle.model.specs.EId
 use Rattle.model.specs.AId
-use Rattle.model.specs.Drawing.{Part, Value, readingOf}
+use Rattle.model.specs.Drawing.{Value, readingOf}
 use Rattle.model.specs.Tables.{Tree, word, entryAt, valueOf, entryWord, attributeId, attributeOf, hasIdBytes, lastWithId, elementById, setNone, parentOf}
-use Rattle.model.specs.Repair.{upFrom, allNamed, descendants, linkKind, linkOf, elementId, readingsOfAttribute, paintsWith, nodeAttribute}
-use Rattle.model.specs.Repair.{recursiveFeImage, anyReading, Cut, cutName, cutAt, applyCut, applied}
-use Rattle.model.specs.Theorems.Agree.{Agree, agree-sets, sets-out}
-use Rattle.model.specs.Theorems.GoingOn.{given-both, passing, leadsTo, targetOf, nodesAt, cutsAlong, goingOn, elementOf, pairsOf}
+use Rattle.model.specs.Repair.{upFrom, allNamed, linkKind, linkOf, elementId, readingsOfAttribute, paintsWith, nodeAttribute}
+use Rattle.model.specs.Repair.{recursiveFeImage, Cut, cutName, cutAt, applyCut, applied}
+use Rattle.model.specs.Theorems.Agree.{agree-sets, sets-out}
+use Rattle.model.specs.Theorems.GoingOn.{given-both, leadsTo, targetOf, nodesAt, cutsAlong, goingOn, elementOf, pairsOf}
 use Rattle.model.specs.Theorems.Images.{imagesOn, passOn, passesOn}
 use Rattle.model.specs.Theorems.Kept.{Tidy, withAttributes}
 use Rattle.tree.specs.declared.Counts.{Counts}

@@ -1,17 +1,12 @@
 use native.Mathlib.Omega.{arith}
-use mathlib.Core.Path.{_≡_, refl, sym, ap, _∙_}
+use mathlib.Core.Path.{_∙_}
 use borrow.Author.Tests.{eq-eqb, ne-eqb}
 use Rattle.tree.proofs.Facts.{readable}
 use Rattle.cuts.proofs.Turning.{back-told, back-cut, back-kept}
 use borrow.Author.Needs.{needs}
 use Rattle.cuts.proofs.back.cut_back.Statement.{statement}
 use Rattle.cuts.proofs.back.cut_back.Tie as tie
-use Rattle.cuts.proofs.back.cut_back.Reads as reads
-use Rattle.cuts.proofs.back.cut_back.Lts as lts
-use Rattle.cuts.proofs.cut.cut.Reads as cut-reads
-use Rattle.targets.proofs.mark.mark_of.Reads as mark-of-reads
 
--- src/back.rt:34:9
 mark-of-requires : tie.Need-mark-of-requires
 mark-of-requires c κs = (
   c .before .before .before .before .before .pre .0 .mendable .drawn .checked,
@@ -30,7 +25,6 @@ mark-of-requires c κs = (
   ),
 )
 
--- src/back.rt:46:9
 cut-requires : tie.Need-cut-requires
 cut-requires c κs = (
   (
@@ -41,11 +35,9 @@ cut-requires c κs = (
       (c .before .before .before .before .before .before .before .before .before .pre .1 .1),
 )
 
--- src/back.rt:16:1
 same-length : tie.Need-same-length
 same-length c = search needs
 
--- src/back.rt:16:1
 returns : tie.Need-returns
 returns c =
     let told = back-told _ _ _ _ _ _
@@ -55,11 +47,9 @@ returns c =
     (c .before .before .before .before .before .before .before .before .before .before .before .before .pre .1 .0) _
     (told ∙ eq-eqb _ _ (c .before .before .before .before .if1 .taken)) _ (c .before .before .cut .ensures)
 
--- src/back.rt:16:1
 same-length-2 : tie.Need-same-length-2
 same-length-2 c = search needs
 
--- src/back.rt:16:1
 returns-2 : tie.Need-returns-2
 returns-2 c =
     let told = back-told _ _ _ _ _ _ (c .before .before .before .before .before .before .before .before .pre .1 .0) _ _

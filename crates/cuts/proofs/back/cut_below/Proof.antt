@@ -4,10 +4,6 @@ use Prim.Native.Nat.{_-_}
 use Rattle.cuts.proofs.Turning.{Cutting, cutting-first, cutting-turn, cutting-done, below-seen, cutting-still}
 use Rattle.cuts.proofs.back.cut_below.Statement.{statement}
 use Rattle.cuts.proofs.back.cut_below.Tie as tie
-use Rattle.cuts.proofs.back.cut_below.Reads as reads
-use Rattle.cuts.proofs.back.cut_below.Lts as lts
-use Rattle.cuts.proofs.back.cut_back.Reads as cut-back-reads
-use Rattle.cuts.proofs.below.behind_below.Reads as behind-below-reads
 
 abbrev Inv-loop : tie.InvT-loop
 Inv-loop script characters marks heads nodes attributes₀ counts aim w end m₀ attributes m =
@@ -16,45 +12,37 @@ Inv-loop script characters marks heads nodes attributes₀ counts aim w end m₀
 abbrev μ-loop : tie.MeasureT-loop
 μ-loop script characters marks heads nodes attributes₀ counts aim w end m₀ attributes m = end - m
 
--- src/back.rt:74:9
 behind-below-requires : tie.Need-behind-below-requires Inv-loop μ-loop
 behind-below-requires c κs = (
   c .before .before .before .before .pre .1 .1,
   omega (arith, c .before .before .before .before .pre .0 .mendable .tidy .kept .fits .nodes),
 )
 
--- src/back.rt:76:5
 loop-holds : tie.Need-loop-holds Inv-loop μ-loop
 loop-holds c =
     cutting-first _ _ _ _ _ _ _ _ _ _ (c .before .before .before .before .before .pre .0)
     (c .before .before .before .before .before .pre .1 .0) (c .behind-below .ensures .1 .0 .0) (c .behind-below .ensures .1 .0 .1)
 
--- src/back.rt:77:9
 cut-back-requires : tie.Need-cut-back-requires Inv-loop μ-loop
 cut-back-requires c κs = (
   c .before .before .loop .inv .cuttable,
   (c .before .before .loop .inv .aimed, omega (arith, c .before .before .loop .inv .inside, c .before .loop-test .taken)),
 )
 
--- src/back.rt:88:9
 add-m : tie.Need-add-m Inv-loop μ-loop
 add-m c = omega arith
 
--- src/back.rt:76:5
 loop-less : tie.Need-loop-less Inv-loop μ-loop
 loop-less c = omega arith
 
--- src/back.rt:76:5
 loop-again : tie.Need-loop-again Inv-loop μ-loop
 loop-again c =
     cutting-turn _ _ _ _ _ _ _ _ _ _ _ _ (c .before .before .before .before .before .loop .inv)
     (c .before .before .before .before .loop-test .taken) _ (c .before .before .cut-back .ensures)
 
--- src/back.rt:51:1
 same-length : tie.Need-same-length Inv-loop μ-loop
 same-length c = c .before .loop .inv .long
 
--- src/back.rt:51:1
 returns : tie.Need-returns Inv-loop μ-loop
 returns c = (
   cutting-done _ _ _ _ _ _ _ _ _ _ _ _ (c .before .loop .inv) (c .loop-test .left)

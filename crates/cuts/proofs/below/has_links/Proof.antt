@@ -3,23 +3,16 @@ use Rattle.cuts.proofs.Descending.{links-found}
 use borrow.Author.Needs.{needs}
 use Rattle.cuts.proofs.below.has_links.Statement.{statement}
 use Rattle.cuts.proofs.below.has_links.Tie as tie
-use Rattle.cuts.proofs.below.has_links.Reads as reads
-use Rattle.cuts.proofs.below.has_links.Lts as lts
-use Rattle.cuts.proofs.below.behind_below.Reads as behind-below-reads
-use Rattle.cuts.proofs.below.first_with.Reads as first-with-reads
 
--- src/below.rt:57:9
 behind-below-requires : tie.Need-behind-below-requires
 behind-below-requires c κs = search needs
 
--- src/below.rt:58:5
 first-with-requires : tie.Need-first-with-requires
 first-with-requires c κs = (
   omega (arith, c .behind-below .ensures .1 .0 .0),
   λ m l. c .before .before .before .pre .0 m (omega (arith, c .behind-below .ensures .1 .0 .1)),
 )
 
--- src/below.rt:52:1
 returns : tie.Need-returns
 returns c =
     links-found _ _ (c .before .before .before .before .args .counts) _ _ _ _ (c .before .behind-below .ensures .0)

@@ -4,59 +4,44 @@ use Rattle.cuts.proofs.Aiming.{known-in, key-here, key-absent, key-empt
 use borrow.Author.Needs.{needs}
 use Rattle.cuts.proofs.key.key_of.Statement.{statement}
 use Rattle.cuts.proofs.key.key_of.Tie as tie
-use Rattle.cuts.proofs.key.key_of.Reads as reads
-use Rattle.cuts.proofs.key.key_of.Lts as lts
-use Rattle.cuts.proofs.key.wide.Reads as wide-reads
-use Rattle.leads.proofs.last.last_of.Reads as last-of-reads
-use Rattle.tree.proofs.read.attribute_id.Reads as attribute-id-reads
 
--- src/key.rt:37:12
 attribute-id-requires : tie.Need-attribute-id-requires
 attribute-id-requires c κs = readable _ _ (c .before .before .before .before .pre .0) _ (c .before .before .before .before .pre .1 .1)
 
--- src/key.rt:38:13
 returns : tie.Need-returns
 returns c =
     key-absent _ _ (c .before .before .before .before .before .before .args .pass) _
     (omega (arith, c .before .before .if1 .taken)) _ (c .before .attribute-id .ensures .0) (c .if2 .taken)
 
--- src/key.rt:40:16
 wide-requires : tie.Need-wide-requires
 wide-requires c κs = search needs
 
--- src/key.rt:40:16
 add-result : tie.Need-add-result
 add-result c = search needs
 
--- src/key.rt:40:9
 returns-2 : tie.Need-returns-2
 returns-2 c =
     key-here _ _ (c .before .before .before .before .before .before .before .args .pass) _
     (omega (arith, c .before .before .before .if1 .taken)) _ (c .before .before .attribute-id .ensures .0) (c .before .if2 .left)
     _ (c .wide .ensures .0)
 
--- src/key.rt:42:9
 last-of-requires : tie.Need-last-of-requires
 last-of-requires c κs = (
   λ k l. known-in _ _ (c .before .before .before .before .pre .0) k l,
   (c .before .before .before .before .pre .1 .0, c .before .before .before .before .pre .1 .1),
 )
 
--- src/key.rt:44:9
 returns-3 : tie.Need-returns-3
 returns-3 c =
     key-empty _ _ (c .before .before .before .before .before .before .args .pass) _ (omega (arith, c .before .before .if1 .left))
     _ (c .before .last-of .ensures .0) (c .if3 .taken)
 
--- src/key.rt:46:5
 wide-requires-2 : tie.Need-wide-requires-2
 wide-requires-2 c κs = search needs
 
--- src/key.rt:46:5
 add-result-2 : tie.Need-add-result-2
 add-result-2 c = search needs
 
--- src/key.rt:22:1
 returns-4 : tie.Need-returns-4
 returns-4 c =
     key-some _ _ (c .before .before .before .before .before .before .before .args .pass) _

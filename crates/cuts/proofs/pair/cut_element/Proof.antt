@@ -1,27 +1,17 @@
 use native.Mathlib.Omega.{arith}
-use mathlib.Core.Path.{refl, sym, _∙_}
+use mathlib.Core.Path.{sym, _∙_}
 use Rattle.tree.proofs.Facts.{readable}
 use Rattle.cuts.proofs.Pairing.{element-bare, element-unled, element-pairs}
 use borrow.Author.Needs.{needs}
 use Rattle.cuts.proofs.pair.cut_element.Statement.{statement}
 use Rattle.cuts.proofs.pair.cut_element.Tie as tie
-use Rattle.cuts.proofs.pair.cut_element.Reads as reads
-use Rattle.cuts.proofs.pair.cut_element.Lts as lts
-use Rattle.cuts.proofs.below.behind_below.Reads as behind-below-reads
-use Rattle.cuts.proofs.below.first_with.Reads as first-with-reads
-use Rattle.cuts.proofs.key.key_of.Reads as key-of-reads
-use Rattle.cuts.proofs.pair.cut_pairs.Reads as cut-pairs-reads
-use Rattle.targets.proofs.name.cut_name.Reads as cut-name-reads
 
--- src/pair.rt:190:9
 cut-name-requires : tie.Need-cut-name-requires
 cut-name-requires c κs = search needs
 
--- src/pair.rt:191:9
 behind-below-requires : tie.Need-behind-below-requires
 behind-below-requires c κs = search needs
 
--- src/pair.rt:192:9
 first-with-requires : tie.Need-first-with-requires
 first-with-requires c κs = (
   omega (arith, c .before .behind-below .ensures .1 .0 .0),
@@ -29,11 +19,9 @@ first-with-requires c κs = (
       (omega (arith, c .before .behind-below .ensures .1 .0 .1)),
 )
 
--- src/pair.rt:194:9
 same-length : tie.Need-same-length
 same-length c = search needs
 
--- src/pair.rt:194:9
 returns : tie.Need-returns
 returns c =
     element-bare _ _ _ _ (c .before .before .before .before .before .before .before .before .before .args .counts) _ _ _ _ _
@@ -41,15 +29,12 @@ returns c =
     (c .before .first-with .ensures .0 .0) (c .before .first-with .ensures .0 .1) (c .before .first-with .ensures .1 .0)
     (c .if1 .taken)
 
--- src/pair.rt:196:9
 key-of-requires : tie.Need-key-of-requires
 key-of-requires c κs = search needs
 
--- src/pair.rt:198:9
 same-length-2 : tie.Need-same-length-2
 same-length-2 c = search needs
 
--- src/pair.rt:198:9
 returns-2 : tie.Need-returns-2
 returns-2 c =
     element-unled _ _ _ _
@@ -62,7 +47,6 @@ returns-2 c =
     (c .before .before .before .before .before .before .before .before .before .before .before .before .pre .1 .0 .1)
     (sym (c .before .key-of .ensures) ∙ c .if2 .taken)
 
--- src/pair.rt:205:5
 cut-pairs-requires : tie.Need-cut-pairs-requires
 cut-pairs-requires c κs = (
   c .before .before .before .before .before .before .before .before .before .before .before .before .before .before .pre .0,
@@ -81,11 +65,9 @@ cut-pairs-requires c κs = (
   ),
 )
 
--- src/pair.rt:170:1
 same-length-3 : tie.Need-same-length-3
 same-length-3 c = search needs
 
--- src/pair.rt:170:1
 returns-3 : tie.Need-returns-3
 returns-3 c =
     element-pairs _ _ _ _ (c .before .before .before .before .before .before .before .before .before .before .before .before

@@ -1,5 +1,5 @@
 use native.Mathlib.Omega.{arith}
-use mathlib.Core.Path.{_≡_, refl, sym, ap, _∙_}
+use mathlib.Core.Path.{_∙_}
 use borrow.Author.Tests.{eq-eqb, ne-eqb}
 use Rattle.tree.proofs.Facts.{readable}
 use Rattle.cuts.proofs.Turning.{back-told, back-cut}
@@ -7,13 +7,7 @@ use Rattle.cuts.proofs.Pairing.{target-nowhere, target-on, target-insid
 use borrow.Author.Needs.{needs}
 use Rattle.cuts.proofs.pair.cut_pair.Statement.{statement}
 use Rattle.cuts.proofs.pair.cut_pair.Tie as tie
-use Rattle.cuts.proofs.pair.cut_pair.Reads as reads
-use Rattle.cuts.proofs.pair.cut_pair.Lts as lts
-use Rattle.cuts.proofs.cut.cut.Reads as cut-reads
-use Rattle.cuts.proofs.pair.cut_target.Reads as cut-target-reads
-use Rattle.targets.proofs.mark.mark_of.Reads as mark-of-reads
 
--- src/pair.rt:94:9
 mark-of-requires : tie.Need-mark-of-requires
 mark-of-requires c κs =
     let a = c .before .before .before .before .before .pre .1 .0 in (
@@ -33,7 +27,6 @@ mark-of-requires c κs =
       ),
     )
 
--- src/pair.rt:106:9
 cut-requires : tie.Need-cut-requires
 cut-requires c κs =
     let a = c .before .before .before .before .before .before .before .before .before .pre .1 .0 in (
@@ -43,11 +36,9 @@ cut-requires c κs =
           (c .before .before .before .before .before .before .before .before .before .pre .1 .1 .1),
     )
 
--- src/pair.rt:107:9
 same-length : tie.Need-same-length
 same-length c = search needs
 
--- src/pair.rt:107:9
 returns : tie.Need-returns
 returns c =
     let a = c .before .before .before .before .before .before .before .before .before .before .before .before .pre .1 .0 in
@@ -66,11 +57,9 @@ returns c =
           ∙ pair-back _ _ _ _ _ _ a _ (told ∙ eq-eqb _ _ (c .before .before .before .before .if1 .taken))),
     )
 
--- src/pair.rt:110:9
 same-length-2 : tie.Need-same-length-2
 same-length-2 c = search needs
 
--- src/pair.rt:110:9
 returns-2 : tie.Need-returns-2
 returns-2 c =
     let a = c .before .before .before .before .before .before .before .before .before .pre .1 .0 in
@@ -81,7 +70,6 @@ returns-2 c =
       c .before .before .before .before .before .before .before .before .before .pre .1 .1 .0,
     )
 
--- src/pair.rt:112:13
 cast-w : tie.Need-cast-w
 cast-w c =
     let a = c .before .before .before .before .before .before .before .before .before .pre .1 .0 in
@@ -91,7 +79,6 @@ cast-w c =
           _ a _ _ (c .before .before .before .mark-of .ensures) (omega (arith, c .if2 .left)),
     )
 
--- src/pair.rt:113:5
 cut-target-requires : tie.Need-cut-target-requires
 cut-target-requires c κs =
     let a = c .before .before .before .before .before .before .before .before .before .before .before .pre .1 .0 in (
@@ -110,11 +97,9 @@ cut-target-requires c κs =
       ),
     )
 
--- src/pair.rt:69:1
 same-length-3 : tie.Need-same-length-3
 same-length-3 c = search needs
 
--- src/pair.rt:69:1
 returns-3 : tie.Need-returns-3
 returns-3 c =
     let a = c .before .before .before .before .before .before .before .before .before .before .before .before .before .before .pre

@@ -4,10 +4,6 @@ use Prim.Native.Nat.{_-_}
 use Rattle.cuts.proofs.Pairing.{Pairs, pairs-start, pairs-turn, pairs-done}
 use Rattle.cuts.proofs.pair.cut_pairs.Statement.{statement}
 use Rattle.cuts.proofs.pair.cut_pairs.Tie as tie
-use Rattle.cuts.proofs.pair.cut_pairs.Reads as reads
-use Rattle.cuts.proofs.pair.cut_pairs.Lts as lts
-use Rattle.cuts.proofs.pair.cut_pair.Reads as cut-pair-reads
-use Rattle.cuts.proofs.quiet.forget.Reads as forget-reads
 
 abbrev Inv-loop : tie.InvT-loop
 Inv-loop script characters marks heads quiet₀ nodes attributes₀ counts aim first end j₀ quiet attributes j =
@@ -17,18 +13,15 @@ abbrev μ-loop : tie.MeasureT-loop
 μ-loop script characters marks heads quiet₀ nodes attributes₀ counts aim first end j₀ quiet attributes j =
     end - j
 
--- src/pair.rt:149:5
 forget-requires : tie.Need-forget-requires Inv-loop μ-loop
 forget-requires c κs = search needs
 
--- src/pair.rt:151:5
 loop-holds : tie.Need-loop-holds Inv-loop μ-loop
 loop-holds c =
     pairs-start _ _ _ _ _ _ _ _ _ _ _ (c .before .before .before .before .before .before .pre .0)
     (c .before .before .before .before .before .before .pre .1 .0) (c .before .before .before .before .before .before .pre .1 .1)
     (c .forget .ensures)
 
--- src/pair.rt:152:9
 cut-pair-requires : tie.Need-cut-pair-requires Inv-loop μ-loop
 cut-pair-requires c κs = (
   c .before .before .before .loop .inv .cuttable,
@@ -41,26 +34,21 @@ cut-pair-requires c κs = (
   ),
 )
 
--- src/pair.rt:164:9
 add-j : tie.Need-add-j Inv-loop μ-loop
 add-j c = search needs
 
--- src/pair.rt:151:5
 loop-less : tie.Need-loop-less Inv-loop μ-loop
 loop-less c = search needs
 
--- src/pair.rt:151:5
 loop-again : tie.Need-loop-again Inv-loop μ-loop
 loop-again c =
     pairs-turn _ _ _ _ _ _ _ _ _ _ _ _ _ (c .before .before .before .before .before .before .loop .inv)
     (c .before .before .before .before .before .loop-test .taken) _ _ (c .before .before .cut-pair .ensures .0)
     (c .before .before .cut-pair .ensures .1)
 
--- src/pair.rt:128:1
 same-length : tie.Need-same-length Inv-loop μ-loop
 same-length c = c .before .loop .inv .long
 
--- src/pair.rt:128:1
 returns : tie.Need-returns Inv-loop μ-loop
 returns c = pairs-done _ _ _ _ _ _ _ _ _ _ _ _ _ (c .before .loop .inv) (c .loop-test .left)
 

@@ -1,21 +1,12 @@
-use native.Mathlib.Omega.{arith}
-use mathlib.Core.Path.{refl, _∙_}
 use Rattle.cuts.proofs.Pairing.{covered-kept, quiet-on}
 use Rattle.cuts.proofs.Quieting.{quiet-more}
 use borrow.Author.Needs.{needs}
 use Rattle.cuts.proofs.pair.cut_target.Statement.{statement}
 use Rattle.cuts.proofs.pair.cut_target.Tie as tie
-use Rattle.cuts.proofs.pair.cut_target.Reads as reads
-use Rattle.cuts.proofs.pair.cut_target.Lts as lts
-use Rattle.cuts.proofs.back.cut_below.Reads as cut-below-reads
-use Rattle.cuts.proofs.quiet.hush.Reads as hush-reads
-use Rattle.cuts.proofs.quiet.is_quiet.Reads as is-quiet-reads
 
--- src/pair.rt:51:8
 is-quiet-requires : tie.Need-is-quiet-requires
 is-quiet-requires c κs = search needs
 
--- src/pair.rt:52:9
 returns : tie.Need-returns
 returns c =
     let q = c .before .before .before .before .before .before .before .pre .1 .1 .0 in (
@@ -25,19 +16,15 @@ returns c =
       q,
     )
 
--- src/pair.rt:54:9
 cut-below-requires : tie.Need-cut-below-requires
 cut-below-requires c κs = search needs
 
--- src/pair.rt:65:5
 hush-requires : tie.Need-hush-requires
 hush-requires c κs = search needs
 
--- src/pair.rt:25:1
 same-length : tie.Need-same-length
 same-length c = search needs
 
--- src/pair.rt:25:1
 returns-2 : tie.Need-returns-2
 returns-2 c =
     let q = c .before .before .before .before .before .before .before .before .before .before .before .before .before .pre .1 .1

@@ -4,9 +4,6 @@ use Prim.Native.Nat.{_≤_, _-_}
 use Rattle.cuts.proofs.Quieting.{Forgotten, forgotten-more}
 use Rattle.cuts.proofs.quiet.forget.Statement.{statement}
 use Rattle.cuts.proofs.quiet.forget.Tie as tie
-use Rattle.cuts.proofs.quiet.forget.Reads as reads
-use Rattle.cuts.proofs.quiet.forget.Lts as lts
-use Rattle.cuts.proofs.quiet.blocks.Reads as blocks-reads
 
 abbrev Inv-loop : tie.InvT-loop
 Inv-loop quiet₀ count end b₀ quiet b = (b ≤ end) × Forgotten quiet b
@@ -14,35 +11,27 @@ Inv-loop quiet₀ count end b₀ quiet b = (b ≤ end) × Forgotten quiet b
 abbrev μ-loop : tie.MeasureT-loop
 μ-loop quiet₀ count end b₀ quiet b = end - b
 
--- src/quiet.rt:33:9
 blocks-requires : tie.Need-blocks-requires Inv-loop μ-loop
 blocks-requires c κs = search needs
 
--- src/quiet.rt:35:5
 loop-holds : tie.Need-loop-holds Inv-loop μ-loop
 loop-holds c = (omega arith, record { zero = λ x l. absurd (omega arith) })
 
--- src/quiet.rt:36:9
 mul-quiet : tie.Need-mul-quiet Inv-loop μ-loop
 mul-quiet c = search needs
 
--- src/quiet.rt:36:9
 element-write-quiet : tie.Need-element-write-quiet Inv-loop μ-loop
 element-write-quiet c = omega (arith, c .before .before .blocks2 .ensures .0, c .loop-test .taken)
 
--- src/quiet.rt:37:9
 add-b : tie.Need-add-b Inv-loop μ-loop
 add-b c = search needs
 
--- src/quiet.rt:35:5
 loop-less : tie.Need-loop-less Inv-loop μ-loop
 loop-less c = search needs
 
--- src/quiet.rt:35:5
 loop-again : tie.Need-loop-again Inv-loop μ-loop
 loop-again c = (omega arith, forgotten-more _ _ (c .before .loop .inv .1))
 
--- src/quiet.rt:30:1
 returns : tie.Need-returns Inv-loop μ-loop
 returns c = λ x l m. c .before .loop .inv .1 .zero x (omega (arith, c .loop-test .left, c .before .before .blocks2 .ensures .1 x l m))
 

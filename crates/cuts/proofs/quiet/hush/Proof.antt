@@ -1,44 +1,32 @@
-use Rattle.cuts.proofs.Quieting.{hushed-set, hushed-none}
+use Rattle.cuts.proofs.Quieting.{hushed-set}
 use borrow.Author.Needs.{needs}
 use Rattle.cuts.proofs.quiet.hush.Statement.{statement}
 use Rattle.cuts.proofs.quiet.hush.Tie as tie
-use Rattle.cuts.proofs.quiet.hush.Reads as reads
-use Rattle.cuts.proofs.quiet.hush.Lts as lts
-use Rattle.cuts.proofs.quiet.wide.Reads as wide-reads
 
--- src/quiet.rt:74:9
 wide-requires : tie.Need-wide-requires
 wide-requires c κs = search needs
 
--- src/quiet.rt:76:9
 returns : tie.Need-returns
 returns c = search needs
 
--- src/quiet.rt:78:14
 mul-if2 : tie.Need-mul-if2
 mul-if2 c = search needs
 
--- src/quiet.rt:78:14
 element-copy-out-if2 : tie.Need-element-copy-out-if2
 element-copy-out-if2 c = search needs
 
--- src/quiet.rt:79:9
 returns-2 : tie.Need-returns-2
 returns-2 c = search needs
 
--- src/quiet.rt:81:16
 add-quiet : tie.Need-add-quiet
 add-quiet c = search needs
 
--- src/quiet.rt:81:5
 mul-quiet : tie.Need-mul-quiet
 mul-quiet c = search needs
 
--- src/quiet.rt:81:5
 element-write-quiet : tie.Need-element-write-quiet
 element-write-quiet c = search needs
 
--- src/quiet.rt:70:1
 returns-3 : tie.Need-returns-3
 returns-3 c = hushed-set _ _ _
 

@@ -5,44 +5,31 @@ use Rattle.cuts.proofs.Quieting.{covered-by}
 use borrow.Author.Needs.{needs}
 use Rattle.cuts.proofs.quiet.is_quiet.Statement.{statement}
 use Rattle.cuts.proofs.quiet.is_quiet.Tie as tie
-use Rattle.cuts.proofs.quiet.is_quiet.Reads as reads
-use Rattle.cuts.proofs.quiet.is_quiet.Lts as lts
-use Rattle.cuts.proofs.quiet.stands_below.Reads as stands-below-reads
-use Rattle.cuts.proofs.quiet.wide.Reads as wide-reads
 
--- src/quiet.rt:55:9
 wide-requires : tie.Need-wide-requires
 wide-requires c κs = search needs
 
--- src/quiet.rt:57:9
 returns : tie.Need-returns
 returns c = λ e. absurd (false≢true e)
 
--- src/quiet.rt:59:13
 mul-q : tie.Need-mul-q
 mul-q c = search needs
 
--- src/quiet.rt:59:13
 element-copy-out-q : tie.Need-element-copy-out-q
 element-copy-out-q c = search needs
 
--- src/quiet.rt:61:9
 returns-2 : tie.Need-returns-2
 returns-2 c = λ e. absurd (false≢true e)
 
--- src/quiet.rt:63:8
 add-if3 : tie.Need-add-if3
 add-if3 c = search needs
 
--- src/quiet.rt:64:9
 returns-3 : tie.Need-returns-3
 returns-3 c = λ e. absurd (false≢true e)
 
--- src/quiet.rt:66:5
 stands-below-requires : tie.Need-stands-below-requires
 stands-below-requires c κs = search needs
 
--- src/quiet.rt:50:1
 returns-4 : tie.Need-returns-4
 returns-4 c =
     λ e. covered-by _ _ _ _ _ (c .before .before .before .before .before .wide .ensures .0)

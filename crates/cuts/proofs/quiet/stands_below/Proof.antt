@@ -3,9 +3,6 @@ use mathlib.Core.Bool.{false≢true}
 use Rattle.cuts.proofs.Quieting.{Climbed, climbed-more}
 use Rattle.cuts.proofs.quiet.stands_below.Statement.{statement}
 use Rattle.cuts.proofs.quiet.stands_below.Tie as tie
-use Rattle.cuts.proofs.quiet.stands_below.Reads as reads
-use Rattle.cuts.proofs.quiet.stands_below.Lts as lts
-use Rattle.tree.proofs.word.node_word.Reads as node-word-reads
 
 abbrev Inv-loop : tie.InvT-loop
 Inv-loop nodes q w n₀ n = Climbed nodes q w n
@@ -13,41 +10,32 @@ Inv-loop nodes q w n₀ n = Climbed nodes q w n
 abbrev μ-loop : tie.MeasureT-loop
 μ-loop nodes q w n₀ n = n
 
--- src/quiet.rt:39:17
 add-n : tie.Need-add-n Inv-loop μ-loop
 add-n c = omega arith
 
--- src/quiet.rt:40:5
 loop-holds : tie.Need-loop-holds Inv-loop μ-loop
 loop-holds c = record { high = omega arith; between = λ y a b. absurd (omega arith) }
 
--- src/quiet.rt:41:29
 sub-node-word : tie.Need-sub-node-word Inv-loop μ-loop
 sub-node-word c = omega arith
 
--- src/quiet.rt:41:12
 node-word-requires : tie.Need-node-word-requires Inv-loop μ-loop
 node-word-requires c κs = omega (arith, c .before .before .before .pre .0, c .before .loop .inv .high, c .loop-test .taken)
 
--- src/quiet.rt:42:13
 returns : tie.Need-returns Inv-loop μ-loop
 returns c = λ e. absurd (false≢true e)
 
--- src/quiet.rt:44:9
 sub-n : tie.Need-sub-n Inv-loop μ-loop
 sub-n c = omega arith
 
--- src/quiet.rt:40:5
 loop-less : tie.Need-loop-less Inv-loop μ-loop
 loop-less c = omega arith
 
--- src/quiet.rt:40:5
 loop-again : tie.Need-loop-again Inv-loop μ-loop
 loop-again c =
     climbed-more _ _ _ _ (c .before .before .before .loop .inv) (c .before .before .loop-test .taken)
     (omega (arith, c .before .node-word .ensures, c .if1 .left))
 
--- src/quiet.rt:34:1
 returns-2 : tie.Need-returns-2 Inv-loop μ-loop
 returns-2 c = λ e y a b. c .before .loop .inv .between y (omega (arith, c .loop-test .left)) b
 

@@ -1,34 +1,22 @@
 use native.Mathlib.Omega.{arith}
-use mathlib.Core.Path.{_≡_, refl, sym, ap, _∙_}
 use Rattle.model.specs.Tables.{entryAt}
 use Rattle.leads.proofs.Lasting.{known-entry, known-readable, last-part, last-entry, last-none}
 use borrow.Author.Needs.{needs}
 use Rattle.leads.proofs.last.last_of.Statement.{statement}
 use Rattle.leads.proofs.last.last_of.Tie as tie
-use Rattle.leads.proofs.last.last_of.Reads as reads
-use Rattle.leads.proofs.last.last_of.Lts as lts
-use Rattle.ids.proofs.find.find_id.Reads as find-id-reads
-use Rattle.leads.proofs.last.last_same.Reads as last-same-reads
-use Rattle.tree.proofs.read.attribute_id.Reads as attribute-id-reads
-use Rattle.tree.proofs.word.entry_word.Reads as entry-word-reads
-use Rattle.walk.proofs.value.part_at.Reads as part-at-reads
 
--- src/last.rt:95:9
 attribute-id-requires : tie.Need-attribute-id-requires
 attribute-id-requires c κs = (c .before .before .before .pre .0 _ (c .before .before .before .pre .1 .1)) .readable
 
--- src/last.rt:97:13
 part-at-requires : tie.Need-part-at-requires
 part-at-requires c κs = search needs
 
--- src/last.rt:98:9
 find-id-requires : tie.Need-find-id-requires
 find-id-requires c κs = (
   λ k l. known-readable _ _ k (c .before .before .before .before .before .before .pre .0 k l),
   c .before .before .before .before .before .before .pre .1 .0,
 )
 
--- src/last.rt:98:9
 returns : tie.Need-returns
 returns c = (
   last-none _ _ _ _ _ (c .before .before .before .attribute-id .ensures .0) (c .before .before .if1 .taken) _
@@ -36,11 +24,9 @@ returns c = (
   c .find-id .ensures .1,
 )
 
--- src/last.rt:100:31
 sub-entry-word : tie.Need-sub-entry-word
 sub-entry-word c = search needs
 
--- src/last.rt:100:8
 entry-word-requires : tie.Need-entry-word-requires
 entry-word-requires c κs =
     let known = known-entry _ _ _ _
@@ -48,11 +34,9 @@ entry-word-requires c κs =
     (c .before .attribute-id .ensures .1) (c .if1 .left) in
     known .inside
 
--- src/last.rt:101:64
 sub-last-same : tie.Need-sub-last-same
 sub-last-same c = search needs
 
--- src/last.rt:101:9
 last-same-requires : tie.Need-last-same-requires
 last-same-requires c κs =
     let known = known-entry _ _ _ _ (c .before .before .before .before .before .before .before .pre .0 _
@@ -60,7 +44,6 @@ last-same-requires c κs =
     (c .before .before .if1 .left) in
     (c .before .before .before .before .before .before .before .pre .0, known)
 
--- src/last.rt:101:9
 returns-2 : tie.Need-returns-2
 unfolding entryAt
 returns-2 c = (
@@ -69,11 +52,9 @@ returns-2 c = (
   c .last-same .ensures .1,
 )
 
--- src/last.rt:103:40
 sub-entry-word-2 : tie.Need-sub-entry-word-2
 sub-entry-word-2 c = search needs
 
--- src/last.rt:103:9
 entry-word-requires-2 : tie.Need-entry-word-requires-2
 entry-word-requires-2 c κs =
     let known = known-entry _ _ _ _ (c .before .before .before .before .before .before .before .pre .0 _
@@ -81,11 +62,9 @@ entry-word-requires-2 c κs =
     (c .before .before .if1 .left) in
     omega (arith, known .inside)
 
--- src/last.rt:104:39
 sub-entry-word-3 : tie.Need-sub-entry-word-3
 sub-entry-word-3 c = search needs
 
--- src/last.rt:104:9
 entry-word-requires-3 : tie.Need-entry-word-requires-3
 entry-word-requires-3 c κs =
     let known = known-entry _ _ _ _ (c .before .before .before .before .before .before .before .before .pre .0 _
@@ -93,22 +72,18 @@ entry-word-requires-3 c κs =
     (c .before .before .before .before .attribute-id .ensures .1) (c .before .before .before .if1 .left) in
     omega (arith, known .inside)
 
--- src/last.rt:105:34
 cast-part-at : tie.Need-cast-part-at
 cast-part-at c = search needs
 
--- src/last.rt:105:9
 part-at-requires-2 : tie.Need-part-at-requires-2
 part-at-requires-2 c κs = search needs
 
--- src/last.rt:106:5
 find-id-requires-2 : tie.Need-find-id-requires-2
 find-id-requires-2 c κs = (
   λ k l. known-readable _ _ k (c .before .before .before .before .before .before .before .before .before .before .pre .0 k l),
   c .before .before .before .before .before .before .before .before .before .before .pre .1 .0,
 )
 
--- src/last.rt:80:1
 returns-3 : tie.Need-returns-3
 returns-3 c = (
   last-part _ _ _ _ _ (c .before .before .before .before .before .before .before .attribute-id .ensures .0)

@@ -7,9 +7,6 @@ use Rattle.tree.proofs.Alike.{last-end}
 use Rattle.leads.proofs.Lasting.{seek-found, seek-on}
 use Rattle.leads.proofs.last.last_same.Statement.{statement}
 use Rattle.leads.proofs.last.last_same.Tie as tie
-use Rattle.leads.proofs.last.last_same.Reads as reads
-use Rattle.leads.proofs.last.last_same.Lts as lts
-use Rattle.leads.proofs.last.has_same_id.Reads as has-same-id-reads
 
 abbrev Inv-loop : tie.InvT-loop
 Inv-loop nodes attributes characters count j n₀ n =
@@ -19,22 +16,18 @@ Inv-loop nodes attributes characters count j n₀ n =
 abbrev μ-loop : tie.MeasureT-loop
 μ-loop nodes attributes characters count j n₀ n = n
 
--- src/last.rt:69:5
 loop-holds : tie.Need-loop-holds Inv-loop μ-loop
 loop-holds c = (omega arith, refl)
 
--- src/last.rt:70:55
 sub-has-same-id : tie.Need-sub-has-same-id Inv-loop μ-loop
 sub-has-same-id c = omega arith
 
--- src/last.rt:70:12
 has-same-id-requires : tie.Need-has-same-id-requires Inv-loop μ-loop
 has-same-id-requires c κs = (
   c .before .before .before .before .before .pre .0 _ (omega (arith, c .before .loop .inv .0)),
   c .before .before .before .before .before .pre .1,
 )
 
--- src/last.rt:71:13
 returns : tie.Need-returns Inv-loop μ-loop
 returns c = (
   seek-found _ _ _ _ _ (c .before .before .before .loop .inv .1) (omega arith)
@@ -42,15 +35,12 @@ returns c = (
   c .before .before .before .loop .inv .0,
 )
 
--- src/last.rt:73:9
 sub-n : tie.Need-sub-n Inv-loop μ-loop
 sub-n c = omega arith
 
--- src/last.rt:69:5
 loop-less : tie.Need-loop-less Inv-loop μ-loop
 loop-less c = omega arith
 
--- src/last.rt:69:5
 loop-again : tie.Need-loop-again Inv-loop μ-loop
 loop-again c = (
   omega (arith, c .before .before .before .loop .inv .0),
@@ -58,7 +48,6 @@ loop-again c = (
       (sym (c .before .has-same-id .ensures) ∙ c .if1 .left),
 )
 
--- src/last.rt:61:1
 returns-2 : tie.Need-returns-2 Inv-loop μ-loop
 returns-2 c = (last-end _ _ _ _ (c .loop-test .left) ∙ c .before .loop .inv .1, omega arith)
 

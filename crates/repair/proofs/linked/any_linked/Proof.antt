@@ -7,9 +7,6 @@ use Rattle.tree.specs.Lent.{nodesRead}
 use Rattle.repair.proofs.Mending.{Unlinked, unlinked-more}
 use Rattle.repair.proofs.linked.any_linked.Statement.{statement}
 use Rattle.repair.proofs.linked.any_linked.Tie as tie
-use Rattle.repair.proofs.linked.any_linked.Reads as reads
-use Rattle.repair.proofs.linked.any_linked.Lts as lts
-use Rattle.repair.proofs.linked.is_linked.Reads as is-linked-reads
 
 abbrev Inv-loop : tie.InvT-loop
 Inv-loop nodes count i₀ i = Unlinked (nodesRead nodes) count i
@@ -17,33 +14,26 @@ Inv-loop nodes count i₀ i = Unlinked (nodesRead nodes) count i
 abbrev μ-loop : tie.MeasureT-loop
 μ-loop nodes count i₀ i = count - i
 
--- src/linked.rt:37:5
 loop-holds : tie.Need-loop-holds Inv-loop μ-loop
 loop-holds c = record { high = omega arith; none = λ m l. absurd (omega arith) }
 
--- src/linked.rt:38:12
 is-linked-requires : tie.Need-is-linked-requires Inv-loop μ-loop
 is-linked-requires c κs = omega (arith, c .before .before .before .pre, c .loop-test .taken)
 
--- src/linked.rt:39:13
 returns : tie.Need-returns Inv-loop μ-loop
 returns c = λ e. absurd (true≢false e)
 
--- src/linked.rt:41:9
 add-i : tie.Need-add-i Inv-loop μ-loop
 add-i c = search needs
 
--- src/linked.rt:37:5
 loop-less : tie.Need-loop-less Inv-loop μ-loop
 loop-less c = search needs
 
--- src/linked.rt:37:5
 loop-again : tie.Need-loop-again Inv-loop μ-loop
 loop-again c =
     unlinked-more _ _ _ (c .before .before .before .loop .inv) (c .before .before .loop-test .taken)
     (sym (c .before .is-linked .ensures) ∙ c .if1 .left)
 
--- src/linked.rt:32:1
 returns-2 : tie.Need-returns-2 Inv-loop μ-loop
 returns-2 c = λ e i l. c .before .loop .inv .none i (omega (arith, c .loop-test .left))
 

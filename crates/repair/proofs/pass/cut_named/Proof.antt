@@ -1,32 +1,21 @@
 use native.Mathlib.Omega.{arith}
-use mathlib.Core.Path.{_∙_, sym, ap, _≡_}
-use borrow.Author.Tests.{not-true, not-false}
+use mathlib.Core.Path.{_∙_}
 use Rattle.tree.proofs.Bools.{fails, passes}
 use Rattle.tree.proofs.Facts.{readable}
 use Rattle.repair.proofs.Passing.{named-here, unnamed-here, linkless-here}
 use borrow.Author.Needs.{needs}
 use Rattle.repair.proofs.pass.cut_named.Statement.{statement}
 use Rattle.repair.proofs.pass.cut_named.Tie as tie
-use Rattle.repair.proofs.pass.cut_named.Reads as reads
-use Rattle.repair.proofs.pass.cut_named.Lts as lts
-use Rattle.cuts.proofs.below.has_links.Reads as has-links-reads
-use Rattle.cuts.proofs.pair.cut_element.Reads as cut-element-reads
-use Rattle.repair.proofs.pass.is_named.Reads as is-named-reads
-use Rattle.targets.proofs.name.cut_name.Reads as cut-name-reads
 
--- src/pass.rt:73:9
 is-named-requires : tie.Need-is-named-requires
 is-named-requires c κs = search needs
 
--- src/pass.rt:74:9
 returns : tie.Need-returns
 returns c = unnamed-here _ _ _ _ _ _ (fails (c .before .is-named .ensures) (c .if1 .taken))
 
--- src/pass.rt:76:9
 cut-name-requires : tie.Need-cut-name-requires
 cut-name-requires c κs = search needs
 
--- src/pass.rt:77:9
 has-links-requires : tie.Need-has-links-requires
 has-links-requires c κs = (
   λ m l. readable _ _ (c .before .before .before .before .before .before .before .before .pre .0 .mendable .tidy .kept) m l,
@@ -36,11 +25,9 @@ has-links-requires c κs = (
   ),
 )
 
--- src/pass.rt:78:9
 same-length : tie.Need-same-length
 same-length c = search needs
 
--- src/pass.rt:78:9
 returns-2 : tie.Need-returns-2
 returns-2 c =
     let named = passes (c .before .before .before .before .before .is-named .ensures)
@@ -48,7 +35,6 @@ returns-2 c =
     linkless-here _ _ _ _ _ _ _ (c .before .before .before .cut-name .ensures) named
     (fails (c .before .has-links .ensures) (c .if2 .taken))
 
--- src/pass.rt:80:5
 cut-element-requires : tie.Need-cut-element-requires
 cut-element-requires c κs =
     let named = passes (c .before .before .before .before .before .before .before .is-named .ensures)
@@ -69,11 +55,9 @@ cut-element-requires c κs =
       ),
     )
 
--- src/pass.rt:51:1
 same-length-2 : tie.Need-same-length-2
 same-length-2 c = search needs
 
--- src/pass.rt:51:1
 returns-3 : tie.Need-returns-3
 returns-3 c =
     let named = passes (c .before .before .before .before .before .before .before .before .before .before .is-named .ensures)

@@ -10,10 +10,6 @@ use Rattle.repair.specs.Passes.{linkCuts, Sought}
 use Rattle.repair.proofs.Passing.{links-each, links-all, Pass, pass-start, pass-turn, pass-done, sought-on}
 use Rattle.repair.proofs.pass.cut_pass.Statement.{statement}
 use Rattle.repair.proofs.pass.cut_pass.Tie as tie
-use Rattle.repair.proofs.pass.cut_pass.Reads as reads
-use Rattle.repair.proofs.pass.cut_pass.Lts as lts
-use Rattle.repair.proofs.pass.cut_named.Reads as cut-named-reads
-use Rattle.repair.proofs.pass.element_code.Reads as element-code-reads
 
 abbrev Inv-loop : tie.InvT-loop
 Inv-loop script characters marks heads quiet₀ nodes attributes₀ counts pass code i₀ quiet attributes i =
@@ -24,18 +20,15 @@ abbrev μ-loop : tie.MeasureT-loop
 μ-loop script characters marks heads quiet₀ nodes attributes₀ counts pass code i₀ quiet attributes i =
     counts .nodes - i
 
--- src/pass.rt:107:9
 element-code-requires : tie.Need-element-code-requires Inv-loop μ-loop
 element-code-requires c κs = c .before .before .before .before .pre .1
 
--- src/pass.rt:109:5
 loop-holds : tie.Need-loop-holds Inv-loop μ-loop
 loop-holds c = (
   pass-start _ _ _ _ _ _ _ _ _ (c .before .before .before .before .before .pre .0 .mendable),
   c .before .before .before .before .before .pre .0 .sought,
 )
 
--- src/pass.rt:110:9
 cut-named-requires : tie.Need-cut-named-requires Inv-loop μ-loop
 cut-named-requires c κs = (
   record {
@@ -48,15 +41,12 @@ cut-named-requires c κs = (
   ),
 )
 
--- src/pass.rt:123:9
 add-i : tie.Need-add-i Inv-loop μ-loop
 add-i c = omega arith
 
--- src/pass.rt:109:5
 loop-less : tie.Need-loop-less Inv-loop μ-loop
 loop-less c = omega arith
 
--- src/pass.rt:109:5
 loop-again : tie.Need-loop-again Inv-loop μ-loop
 loop-again c = (
   pass-turn _ _ _ _ _ _ _ (links-each _ _ _ _) _ _ _ _
@@ -70,11 +60,9 @@ loop-again c = (
       (c .before .before .before .before .before .before .before .loop .inv .1 z),
 )
 
--- src/pass.rt:89:1
 same-length : tie.Need-same-length Inv-loop μ-loop
 same-length c = c .before .before .loop .inv .0 .long
 
--- src/pass.rt:89:1
 returns : tie.Need-returns Inv-loop μ-loop
 returns c =
     pass-done _ _ _ _ _ _ _ (links-each _ _ _ _) _ _ _ _ (c .before .before .loop .inv .0) (c .if1 .left)

@@ -6,9 +6,6 @@ use Rattle.targets.specs.Targets.{seenOf}
 use Rattle.repair.proofs.Preparing.{Unsought, unsought-more}
 use Rattle.repair.proofs.prepare.any_sought.Statement.{statement}
 use Rattle.repair.proofs.prepare.any_sought.Tie as tie
-use Rattle.repair.proofs.prepare.any_sought.Reads as reads
-use Rattle.repair.proofs.prepare.any_sought.Lts as lts
-use Rattle.repair.proofs.prepare.is_sought.Reads as is-sought-reads
 
 abbrev Inv-loop : tie.InvT-loop
 Inv-loop nodes attributes counts code name i₀ i = (i ≤ counts .nodes) × Unsought (seenOf nodes attributes counts) code name i
@@ -16,35 +13,28 @@ Inv-loop nodes attributes counts code name i₀ i = (i ≤ counts .nodes) × Uns
 abbrev μ-loop : tie.MeasureT-loop
 μ-loop nodes attributes counts code name i₀ i = counts .nodes - i
 
--- src/prepare.rt:62:5
 loop-holds : tie.Need-loop-holds Inv-loop μ-loop
 loop-holds c = (omega arith, record { none = λ m l. absurd (omega arith) })
 
--- src/prepare.rt:63:12
 is-sought-requires : tie.Need-is-sought-requires Inv-loop μ-loop
 is-sought-requires c κs =
     (c .before .before .before .before .before .pre .0, (c .if1 .taken, c .before .before .before .before .before .pre .1))
 
--- src/prepare.rt:64:13
 returns : tie.Need-returns Inv-loop μ-loop
 returns c = λ e. absurd (true≢false e)
 
--- src/prepare.rt:66:9
 add-i : tie.Need-add-i Inv-loop μ-loop
 add-i c = omega arith
 
--- src/prepare.rt:62:5
 loop-less : tie.Need-loop-less Inv-loop μ-loop
 loop-less c = omega arith
 
--- src/prepare.rt:62:5
 loop-again : tie.Need-loop-again Inv-loop μ-loop
 loop-again c = (
   omega arith,
   unsought-more _ _ _ _ (c .before .before .before .before .loop .inv .1) (sym (c .before .is-sought .ensures) ∙ c .if2 .left),
 )
 
--- src/prepare.rt:55:1
 returns-2 : tie.Need-returns-2 Inv-loop μ-loop
 returns-2 c = λ e i l. c .before .before .loop .inv .1 .none i (omega (arith, c .if1 .left))
 

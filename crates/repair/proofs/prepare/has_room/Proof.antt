@@ -3,19 +3,13 @@ use mathlib.Core.Bool.{false≢true}
 use borrow.Author.Needs.{needs}
 use Rattle.repair.proofs.prepare.has_room.Statement.{statement}
 use Rattle.repair.proofs.prepare.has_room.Tie as tie
-use Rattle.repair.proofs.prepare.has_room.Reads as reads
-use Rattle.repair.proofs.prepare.has_room.Lts as lts
-use Rattle.ids.proofs.plain.is_plain.Reads as is-plain-reads
 
--- src/prepare.rt:29:9
 returns : tie.Need-returns
 returns c = λ e. absurd (false≢true e)
 
--- src/prepare.rt:31:5
 is-plain-requires : tie.Need-is-plain-requires
 is-plain-requires c κs = search needs
 
--- src/prepare.rt:23:1
 returns-2 : tie.Need-returns-2
 returns-2 c = λ e. (omega (arith, c .before .if1 .left), c .is-plain .ensures e)
 

@@ -3,16 +3,10 @@ use Rattle.repair.proofs.Preparing.{sought-unnamed, sought-named}
 use borrow.Author.Needs.{needs}
 use Rattle.repair.proofs.prepare.is_sought.Statement.{statement}
 use Rattle.repair.proofs.prepare.is_sought.Tie as tie
-use Rattle.repair.proofs.prepare.is_sought.Reads as reads
-use Rattle.repair.proofs.prepare.is_sought.Lts as lts
-use Rattle.cuts.proofs.below.has_links.Reads as has-links-reads
-use Rattle.repair.proofs.pass.is_named.Reads as is-named-reads
 
--- src/prepare.rt:48:9
 is-named-requires : tie.Need-is-named-requires
 is-named-requires c κs = search needs
 
--- src/prepare.rt:49:9
 returns : tie.Need-returns
 returns c =
     sought-unnamed (seenOf (c .before .before .before .before .args .nodes .now)
@@ -20,11 +14,9 @@ returns c =
     (c .before .before .before .before .args .code) (c .before .before .before .before .args .name)
     (c .before .before .before .before .args .i) _ (c .before .is-named .ensures) (c .if1 .taken)
 
--- src/prepare.rt:51:5
 has-links-requires : tie.Need-has-links-requires
 has-links-requires c κs = search needs
 
--- src/prepare.rt:36:1
 returns-2 : tie.Need-returns-2
 returns-2 c = sought-named _ _ _ _ _ (c .before .before .is-named .ensures) (c .before .if1 .left) _ (c .has-links .ensures)
 

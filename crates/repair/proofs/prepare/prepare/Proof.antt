@@ -1,34 +1,24 @@
-use native.Mathlib.Omega.{arith}
 use Rattle.ids.proofs.Likeness.{like-tidy}
 use Rattle.repair.proofs.Preparing.{like-on}
 use borrow.Author.Needs.{needs}
 use Rattle.repair.proofs.prepare.prepare.Statement.{statement}
 use Rattle.repair.proofs.prepare.prepare.Tie as tie
-use Rattle.repair.proofs.prepare.prepare.Reads as reads
-use Rattle.repair.proofs.prepare.prepare.Lts as lts
-use Rattle.ids.proofs.chain.chain.Reads as chain-reads
-use Rattle.repair.proofs.prepare.resolve_all.Reads as resolve-all-reads
 
--- src/prepare.rt:147:5
 chain-requires : tie.Need-chain-requires
 chain-requires c κs = search needs
 
--- src/prepare.rt:148:8
 element-copy-out-if1 : tie.Need-element-copy-out-if1
 element-copy-out-if1 c = search needs
 
--- src/prepare.rt:149:9
 same-length : tie.Need-same-length
 same-length c = search needs
 
--- src/prepare.rt:149:9
 returns : tie.Need-returns
 returns c = (
   c .before .before .before .before .chain .ensures .0,
   (c .before .before .before .before .chain .ensures .1, λ z. absurd (z (c .if1 .taken))),
 )
 
--- src/prepare.rt:151:5
 resolve-all-requires : tie.Need-resolve-all-requires
 resolve-all-requires c κs = (
   c .before .before .before .before .before .before .before .before .before .before .before .before .before .pre .0,
@@ -45,11 +35,9 @@ resolve-all-requires c κs = (
   ),
 )
 
--- src/prepare.rt:126:1
 same-length-2 : tie.Need-same-length-2
 same-length-2 c = search needs
 
--- src/prepare.rt:126:1
 returns-2 : tie.Need-returns-2
 returns-2 c = (
   like-on _ _ _ _ (c .before .before .before .before .before .before .before .before .before .chain .ensures .0)

@@ -4,9 +4,6 @@ use Rattle.ids.proofs.Likeness.{like-tidy}
 use Rattle.repair.proofs.Preparing.{Resolving, resolving-first, resolving-more, resolving-done}
 use Rattle.repair.proofs.prepare.resolve_all.Statement.{statement}
 use Rattle.repair.proofs.prepare.resolve_all.Tie as tie
-use Rattle.repair.proofs.prepare.resolve_all.Reads as reads
-use Rattle.repair.proofs.prepare.resolve_all.Lts as lts
-use Rattle.repair.proofs.prepare.resolve_named.Reads as resolve-named-reads
 
 abbrev Inv-loop : tie.InvT-loop
 Inv-loop script characters marks heads nodes attributes₀ counts pass₀ attributes pass = Resolving script characters heads nodes attributes₀ counts attributes pass
@@ -14,11 +11,9 @@ Inv-loop script characters marks heads nodes attributes₀ counts pass₀ attrib
 abbrev μ-loop : tie.MeasureT-loop
 μ-loop script characters marks heads nodes attributes₀ counts pass₀ attributes pass = 6 - pass
 
--- src/prepare.rt:110:5
 loop-holds : tie.Need-loop-holds Inv-loop μ-loop
 loop-holds c = resolving-first _ _ _ _ _ _ (c .before .before .before .before .pre .1 .1 .1 .0)
 
--- src/prepare.rt:111:9
 resolve-named-requires : tie.Need-resolve-named-requires Inv-loop μ-loop
 resolve-named-requires c κs = (
   c .before .before .before .before .before .before .before .pre .0,
@@ -38,26 +33,21 @@ resolve-named-requires c κs = (
   ),
 )
 
--- src/prepare.rt:121:9
 add-pass : tie.Need-add-pass Inv-loop μ-loop
 add-pass c = omega arith
 
--- src/prepare.rt:110:5
 loop-less : tie.Need-loop-less Inv-loop μ-loop
 loop-less c = omega arith
 
--- src/prepare.rt:110:5
 loop-again : tie.Need-loop-again Inv-loop μ-loop
 loop-again c =
     resolving-more _ _ _ _ _ _ _ _ (c .before .before .before .before .before .loop .inv)
     (omega (arith, c .before .before .before .before .loop-test .taken)) _ (c .before .before .resolve-named .ensures .0)
     (c .before .before .resolve-named .ensures .1 .0) (c .before .before .resolve-named .ensures .1 .1)
 
--- src/prepare.rt:89:1
 same-length : tie.Need-same-length Inv-loop μ-loop
 same-length c = c .before .loop .inv .like .long
 
--- src/prepare.rt:89:1
 returns : tie.Need-returns Inv-loop μ-loop
 returns c = (
   c .before .loop .inv .like,

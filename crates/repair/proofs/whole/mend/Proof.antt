@@ -12,11 +12,6 @@ use Rattle.repair.proofs.Passing.{resolved-on}
 use Rattle.repair.proofs.Mending.{Before, before-first, before-turn, before-last, before-none}
 use Rattle.repair.proofs.whole.mend.Statement.{statement}
 use Rattle.repair.proofs.whole.mend.Tie as tie
-use Rattle.repair.proofs.whole.mend.Reads as reads
-use Rattle.repair.proofs.whole.mend.Lts as lts
-use Rattle.repair.proofs.images.cut_images.Reads as cut-images-reads
-use Rattle.repair.proofs.pass.cut_pass.Reads as cut-pass-reads
-use Rattle.script.proofs.cursor.Cursor.start.Reads as start-reads
 
 abbrev Inv-loop : tie.InvT-loop
 Inv-loop script characters marks heads quiet₀ nodes attributes₀ counts pass₀ quiet attributes pass =
@@ -27,7 +22,6 @@ abbrev μ-loop : tie.MeasureT-loop
 μ-loop script characters marks heads quiet₀ nodes attributes₀ counts pass₀ quiet attributes pass =
     6 - pass
 
--- src/whole.rt:48:5
 loop-holds : tie.Need-loop-holds Inv-loop μ-loop
 loop-holds c = (
   omega arith,
@@ -42,7 +36,6 @@ loop-holds c = (
   ),
 )
 
--- src/whole.rt:49:9
 cut-pass-requires : tie.Need-cut-pass-requires Inv-loop μ-loop
 cut-pass-requires c κs =
     let before = c .before .before .before .loop .inv .1 .1 .0 in (
@@ -54,15 +47,12 @@ cut-pass-requires c κs =
       (c .before .before .before .loop .inv .0, omega (arith, c .before .before .loop-test .taken)),
     )
 
--- src/whole.rt:60:9
 add-pass : tie.Need-add-pass Inv-loop μ-loop
 add-pass c = omega arith
 
--- src/whole.rt:48:5
 loop-less : tie.Need-loop-less Inv-loop μ-loop
 loop-less c = omega arith
 
--- src/whole.rt:48:5
 loop-again : tie.Need-loop-again Inv-loop μ-loop
 loop-again c =
     let before = c .before .before .before .before .before .before .loop .inv .1 .1 .0 in (
@@ -78,17 +68,14 @@ loop-again c =
       ),
     )
 
--- src/whole.rt:70:9
 start-requires : tie.Need-start-requires Inv-loop μ-loop
 start-requires c κs = omega arith
 
--- src/whole.rt:62:5
 cut-images-requires : tie.Need-cut-images-requires Inv-loop μ-loop
 cut-images-requires c κs =
     let before = c .before .before .before .loop .inv .1 .1 .0 in
     subst (Mendable _ _ _ _ _ _ _) (sym (c .start .ensures)) (before .mendable)
 
--- src/whole.rt:26:1
 same-length : tie.Need-same-length Inv-loop μ-loop
 same-length c =
     let before = c .before .before .before .before .before .before .loop .inv .1 .1 .0 in
@@ -96,7 +83,6 @@ same-length c =
     (c .before .before .before .before .before .before .loop .inv .1 .0) before _ (c .before .before .cut-images .ensures .0) in
     end .long
 
--- src/whole.rt:26:1
 returns : tie.Need-returns Inv-loop μ-loop
 returns c =
     let before = c .before .before .before .before .before .before .loop .inv .1 .1 .0 in

@@ -10,35 +10,22 @@ use Rattle.repair.proofs.Twins.{unchained}
 use borrow.Author.Needs.{needs}
 use Rattle.repair.proofs.whole.repair.Statement.{statement}
 use Rattle.repair.proofs.whole.repair.Tie as tie
-use Rattle.repair.proofs.whole.repair.Reads as reads
-use Rattle.repair.proofs.whole.repair.Lts as lts
-use Rattle.ids.proofs.plain.unchain.Reads as unchain-reads
-use Rattle.places.proofs.marks.set_marks.Reads as set-marks-reads
-use Rattle.repair.proofs.linked.any_linked.Reads as any-linked-reads
-use Rattle.repair.proofs.prepare.has_room.Reads as has-room-reads
-use Rattle.repair.proofs.prepare.prepare.Reads as prepare-reads
-use Rattle.repair.proofs.whole.mend.Reads as mend-reads
 
--- src/whole.rt:89:9
 any-linked-requires : tie.Need-any-linked-requires
 any-linked-requires c κs = search needs
 
--- src/whole.rt:90:9
 returns : tie.Need-returns
 returns c =
     mended _ _ _ _ _ (c .before .before .before .before .before .before .args .counts)
     (c .before .before .before .before .before .before .pre .0) (c .before .before .before .before .before .before .pre .1)
     (unlinked _ _ _ (c .before .any-linked .ensures (not-true _ (c .if1 .taken))))
 
--- src/whole.rt:93:5
 set-marks-requires : tie.Need-set-marks-requires
 set-marks-requires c κs = marked-none _ (small _ _ (c .before .before .before .before .before .before .before .pre .0))
 
--- src/whole.rt:96:9
 has-room-requires : tie.Need-has-room-requires
 has-room-requires c κs = search needs
 
--- src/whole.rt:97:9
 mend-requires : tie.Need-mend-requires
 mend-requires c κs = (
   c .before .before .before .before .before .before .before .before .before .before .before .before .before .before .before
@@ -53,11 +40,9 @@ mend-requires c κs = (
   ),
 )
 
--- src/whole.rt:107:9
 same-length : tie.Need-same-length
 same-length c = search needs
 
--- src/whole.rt:107:9
 returns-2 : tie.Need-returns-2
 returns-2 c =
     mended _ _ _ _ _ (c .before .before .before .before .before .before .before .before .before .before .before .before .before
@@ -66,7 +51,6 @@ returns-2 c =
     .before .before .before .pre .0) (c .before .before .before .before .before .before .before .before .before .before .before
     .before .before .before .before .before .before .before .pre .1) (c .before .before .mend .ensures)
 
--- src/whole.rt:109:5
 prepare-requires : tie.Need-prepare-requires
 prepare-requires c κs = (
   c .before .before .before .before .before .before .before .before .before .before .before .before .before .before .pre .0,
@@ -82,7 +66,6 @@ prepare-requires c κs = (
   ),
 )
 
--- src/whole.rt:118:5
 mend-requires-2 : tie.Need-mend-requires-2
 mend-requires-2 c κs = (
   c .before .before .before .before .before .before .before .before .before .before .before .before .before .before .before
@@ -102,7 +85,6 @@ mend-requires-2 c κs = (
   ),
 )
 
--- src/whole.rt:128:5
 unchain-requires : tie.Need-unchain-requires
 unchain-requires c κs =
     omega (
@@ -115,11 +97,9 @@ unchain-requires c κs =
           (c .before .before .before .mend2 .ensures),
     )
 
--- src/whole.rt:76:1
 same-length-2 : tie.Need-same-length-2
 same-length-2 c = search needs
 
--- src/whole.rt:76:1
 returns-3 : tie.Need-returns-3
 returns-3 c =
     mended _ _ _ _ _ (c .before .before .before .before .before .before .before .before .before .before .before .before .before
