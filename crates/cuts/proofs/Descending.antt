@@ -1,7 +1,7 @@
 -- The nodes below a node follow it: they are a range of the table. Assumes nothing.
 use mathlib.Core.Path.{_≡_, refl, sym, ap, _∙_}
 use mathlib.Core.Bool.{true, false}
-use mathlib.Core.List.{List, [], _∷_, _++_, append-assoc, append-nil}
+use mathlib.Core.List.{List, [], _∷_}
 use Prim.Native.Nat.{ℕ, zero, suc, _+_, _-_, _<_, _≤_}
 use native.Mathlib.Omega.{arith}
 use native.Mathlib.Decide.{ℕ-discrete, decLt}
@@ -14,15 +14,7 @@ use Rattle.tree.specs.declared.Counts.{Counts}
 use Rattle.tree.specs.Lent.{readOf}
 use Rattle.tree.proofs.Alike.{id-same}
 use Rattle.targets.specs.Targets.{seenOf}
-use Rattle.cuts.specs.Seen.{counted, anyWith, hasLinks, Below}
-
--- One more node at the end.
-pub up-more : (n i : ℕ) → upFrom i (suc n) ≡ upFrom i n ++ ((i + n) ∷ [])
-unfolding upFrom
-up-more zero i = let e : i ≡ i + 0 = omega arith in ap (λ (x : ℕ). x ∷ []) e
-up-more (suc n) i =
-    let e : i + 1 + n ≡ i + suc n = omega arith in
-    ap (λ (l : List ℕ). i ∷ l) (up-more n (i + 1) ∙ ap (λ (x : ℕ). upFrom (i + 1) n ++ (x ∷ [])) e)
+use Rattle.cuts.specs.Seen.{anyWith, hasLinks, Range}
 
 -- The nodes from i on, up to n, where there is one.
 pub up-step : (i n : ℕ) → i < n → upFrom i (n - i) ≡ i ∷ upFrom (i + 1) (n - (i + 1))
@@ -33,66 +25,68 @@ pub up-none : (i n : ℕ) → n ≤ i → upFrom i (n - i) ≡ []
 unfolding upFrom
 up-none i n h = let e : n - i ≡ 0 = omega arith in ap (upFrom i) e
 
--- The nodes below i are those before j, and then those from j on.
-pub record Passed (t : Tree) (i j : ℕ) : Type 0 where
+-- WHERE THE NODES BELOW END
+
+-- From i up to j all nodes stand below i.
+pub record Passed (ns : List ℕ) (n i j : ℕ) : Type 0 where
   pub low : i < j
-  pub high : j ≤ t .nodeCount
-  pub same : descendants t i ≡ upFrom i (j - i) ++ belowFrom t i (upFrom j (t .nodeCount - j))
+  pub high : j ≤ n
+  pub under : (y : ℕ) → i < y → y < j → i < word ns y 1
 
-pub passed-first : (t : Tree) (i : ℕ) → i < t .nodeCount → Passed t i (i + 1)
-unfolding descendants upFrom
-passed-first t i h =
-    let e : 1 ≡ i + 1 - i = omega arith in
-    record {
-      low = omega arith;
-      high = omega arith;
-      same = ap (λ (n : ℕ). upFrom i n ++ belowFrom t i (upFrom (i + 1) (t .nodeCount - (i + 1)))) e;
-    }
+pub passed-first : (ns : List ℕ) (n i : ℕ) → i < n → Passed ns n i (i + 1)
+passed-first ns n i h = record { low = omega arith; high = omega arith; under = λ y a b. absurd (omega arith) }
 
-module _ (t : Tree) (i j : ℕ) (p : Passed t i j) where
-  -- What comes next is below i too.
-  pub passed-more : j < t .nodeCount → i < parentOf t j → Passed t i (j + 1)
-  unfolding belowFrom
-  passed-more h w =
-      let n : ℕ = t .nodeCount in
-      let low : i < j = p .low in
-      let e : i + (j - i) ≡ j = omega arith in
-      let d : suc (j - i) ≡ j + 1 - i = omega arith in
-      let next : belowFrom t i (upFrom j (n - j)) ≡ j ∷ belowFrom t i (upFrom (j + 1) (n - (j + 1))) =
-      rw (up-step j n h, le-leb (i + 1) (parentOf t j) (omega arith)) refl in
-      let rest : List ℕ = belowFrom t i (upFrom (j + 1) (n - (j + 1))) in
-      record {
-        low = omega arith;
-        high = omega arith;
-        same = p .same ∙ ap (λ (l : List ℕ). upFrom i (j - i) ++ l) next ∙ sym (append-assoc (upFrom i (j - i)) (j ∷ []) rest)
-            ∙ ap (λ (l : List ℕ). l ++ rest)
-            (ap (λ (x : ℕ). upFrom i (j - i) ++ (x ∷ [])) (sym e) ∙ sym (up-more (j - i) i) ∙ ap (upFrom i) d);
-      }
+module _ (ns : List ℕ) (n i j : ℕ) (p : Passed ns n i j) where
+  -- What comes next is below i too, with all that is below that.
+  pub passed-range : i < word ns j 1 → (end : ℕ) → Range ns n j end → Passed ns n i end
+  passed-range w end r = record {
+    low = omega (arith, p .low, r .low);
+    high = r .high;
+    under = λ y a b. go y a b (decLt y j) (ℕ-discrete y j);
+  }
+    where
+      go : (y : ℕ) → i < y → y < end → Dec (y < j) → Dec (y ≡ j) → i < word ns y 1
+      go y a b (yes d) e = p .under y a d
+      go y a b (no d) (yes e) = rw e w
+      go y a b (no d) (no e) = omega (arith, p .low, r .under y (omega arith) b)
+
+  -- It is below i.
+  pub passed-more : j < n → i < word ns j 1 → Passed ns n i (j + 1)
+  passed-more h w = record { low = omega (arith, p .low); high = omega arith; under = λ y a b. go y a b (ℕ-discrete y j) }
+    where
+      go : (y : ℕ) → i < y → y < j + 1 → Dec (y ≡ j) → i < word ns y 1
+      go y a b (yes e) = rw e w
+      go y a b (no e) = p .under y a (omega arith)
 
   -- It is not.
-  pub passed-stop : j < t .nodeCount → parentOf t j ≤ i → descendants t i ≡ upFrom i (j - i)
-  unfolding belowFrom
-  passed-stop h w =
-      let n : ℕ = t .nodeCount in
-      let next : belowFrom t i (upFrom j (n - j)) ≡ [] = rw (up-step j n h, lt-leb (i + 1) (parentOf t j) (omega arith)) refl in
-      p .same ∙ ap (λ (l : List ℕ). upFrom i (j - i) ++ l) next ∙ append-nil (upFrom i (j - i))
+  pub passed-stop : word ns j 1 ≤ i → Range ns n i j
+  passed-stop w = record { low = p .low; high = p .high; under = p .under; closed = λ h. w }
 
   -- Nothing comes.
-  pub passed-all : t .nodeCount ≤ j → descendants t i ≡ upFrom i (j - i)
-  unfolding belowFrom
-  passed-all h =
-      p .same ∙ ap (λ (l : List ℕ). upFrom i (j - i) ++ belowFrom t i l) (up-none j (t .nodeCount) h) ∙ append-nil (upFrom i (j - i))
+  pub passed-all : n ≤ j → Range ns n i j
+  passed-all h = record { low = p .low; high = p .high; under = p .under; closed = λ l. absurd (omega arith) }
 
--- No node from there on stands below i.
-pub below-stop : (t : Tree) (i j : ℕ) → i < j → parentOf t j ≤ i → (x : ℕ) → Below t i x → x < j
-below-stop t i j l w x b = go (decLt x j)
+-- The nodes below a node, from a on.
+below-up : (t : Tree) (i end : ℕ) → Range (t .nodes) (t .nodeCount) i end → (n a : ℕ) → i < a → a ≤ end → a + n ≡ t .nodeCount
+    → belowFrom t i (upFrom a n) ≡ upFrom a (end - a)
+unfolding belowFrom upFrom
+below-up t i end r zero a l h e = sym (up-none a end (omega (arith, r .high)))
+below-up t i end r (suc n) a l h e = go (decLt a end) (λ m. below-up t i end r n (a + 1) (omega arith) m (omega arith))
   where
-    go : Dec (x < j) → x < j
-    go (yes d) = d
-    go (no d) = absurd (omega (arith, b .between j l (omega arith)))
+    go : Dec (a < end) → (a + 1 ≤ end → belowFrom t i (upFrom (a + 1) n) ≡ upFrom (a + 1) (end - (a + 1)))
+        → pick (leb (i + 1) (parentOf t a)) (λ u. a ∷ belowFrom t i (upFrom (a + 1) n)) (λ u. []) ≡ upFrom a (end - a)
+    go (yes d) f =
+        rw (le-leb (i + 1) (parentOf t a) (omega (arith, r .under a l d)), up-step a end d) (ap (λ (xs : List ℕ). a ∷ xs) (f (omega arith)))
+    go (no d) f =
+        let q : a ≡ end = omega arith in
+        rw (lt-leb (i + 1) (parentOf t a) (omega (arith, r .closed (omega arith), ap (parentOf t) q)), up-none a end (omega arith)) refl
 
-pub below-all : (t : Tree) (i j : ℕ) → t .nodeCount ≤ j → (x : ℕ) → Below t i x → x < j
-below-all t i j l x b = omega (arith, b .high)
+pub range-same : (t : Tree) (i end : ℕ) → Range (t .nodes) (t .nodeCount) i end → descendants t i ≡ upFrom i (end - i)
+unfolding descendants
+range-same t i end r =
+    ap (λ (xs : List ℕ). i ∷ xs)
+    (below-up t i end r (t .nodeCount - (i + 1)) (i + 1) (omega arith) (omega (arith, r .low)) (omega (arith, r .low, r .high)))
+    ∙ sym (up-step i end (r .low))
 
 -- Only the nodes and their count are read.
 below-alike : (t u : Tree) → t .nodes ≡ u .nodes → (i : ℕ) (js : List ℕ) → belowFrom t i js ≡ belowFrom u i js
@@ -153,17 +147,14 @@ with-some t a (suc n) i x l m h = go (ℕ-discrete (attributeId t i a) 0) (λ d.
         later (no d) = omega arith
 
 -- What was found by a search for the first one.
-pub links-found : (ns es : List ℕ) (c : Counts) (a i end r : ℕ) → descendants (counted ns (c .nodes)) i ≡ upFrom i (end - i)
-    → i < end → (i ≤ r) × (r ≤ end) → ((m : ℕ) → i ≤ m → m < r → attributeId (readOf ns es) m a ≡ 0)
-    → (r < end → attributeId (readOf ns es) r a ≡ 0 → ⊥) → ltb r end ≡ hasLinks (seenOf ns es c) a i
+pub links-found : (ns es : List ℕ) (c : Counts) (a i end r : ℕ) → Range ns (c .nodes) i end → (i ≤ r) × (r ≤ end)
+    → ((m : ℕ) → i ≤ m → m < r → attributeId (readOf ns es) m a ≡ 0) → (r < end → attributeId (readOf ns es) r a ≡ 0 → ⊥)
+    → ltb r end ≡ hasLinks (seenOf ns es c) a i
 unfolding hasLinks
-links-found ns es c a i end r d l b none some = go (decLt r end) ∙ sym whole
+links-found ns es c a i end r d b none some = go (decLt r end) ∙ sym (ap (anyWith t a) (range-same t i end d))
   where
     t : Tree
     t = seenOf ns es c
-
-    whole : anyWith t a (descendants t i) ≡ anyWith t a (upFrom i (end - i))
-    whole = ap (anyWith t a) (sym (descendants-alike (counted ns (c .nodes)) t refl refl i) ∙ d)
 
     go : Dec (r < end) → ltb r end ≡ anyWith t a (upFrom i (end - i))
     go (yes h) =
@@ -171,4 +162,4 @@ links-found ns es c a i end r d l b none some = go (decLt r end) ∙ sym whole
         ∙ sym (with-some t a (end - i) i r (b .0) (omega (arith, b .1)) (λ z. some h (id-same t r a ∙ z)))
     go (no h) =
         le-ltb r end (omega arith)
-        ∙ sym (with-none t a (end - i) i (λ x p q. sym (id-same t x a) ∙ none x p (omega (arith, b .1))))
+        ∙ sym (with-none t a (end - i) i (λ x p q. sym (id-same t x a) ∙ none x p (omega (arith, d .low, b .1))))

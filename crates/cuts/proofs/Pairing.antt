@@ -27,11 +27,11 @@ use Rattle.targets.specs.Targets.{seenOf, passKind, markFor, markOf}
 use Rattle.targets.proofs.Passes.{no-id}
 use Rattle.targets.proofs.Marks.{mark-target}
 use Rattle.cuts.specs.declared.Aim.{Aim}
-use Rattle.cuts.specs.Seen.{counted, anyWith, hasLinks, Cuttable, keyOf, Aimed, Quiet, Covered, cutBack, cutNodes, cutPairs}
+use Rattle.cuts.specs.Seen.{anyWith, hasLinks, Cuttable, keyOf, Aimed, cutBack, cutNodes, cutPairs, Range, Quiet, Covered}
 use Rattle.cuts.proofs.Writing.{applied-more, cuttable-on, long-on}
 use Rattle.cuts.proofs.Turning.{never-led, leads-entry, cut-tidy, cut-aimed}
-use Rattle.cuts.proofs.Descending.{up-step, up-none, descendants-alike}
-use Rattle.cuts.proofs.Quieting.{quiet-first, covered-still, still-none, nodes-quiet}
+use Rattle.cuts.proofs.Descending.{up-step, up-none, range-same}
+use Rattle.cuts.proofs.Quieting.{quiet-first, covered-none, nodes-quiet}
 
 -- No mark is larger than the count of nodes, and 1.
 last-most : (chars : List ℕ) (t : Tree) (id : List ℕ) (n : ℕ) → lastWithId chars t id n ≤ n
@@ -202,7 +202,7 @@ unled-nodes chars values k f l t i h j = rw (never j) (go (eqb (targetOf chars v
 
 -- THE LOOP
 
--- In the middle of the nodes from `first` up to the node `end`: j is next, the nodes that are remembered are still, and what is still to do
+-- In the middle of the nodes from `first` up to the node `end`: j is next, the words tell ranges of nodes that do not lead back, and what is still to do
 -- leaves what all of it leaves.
 pub record Pairs (script chars marks heads ns : List ℕ) (c : Counts) (aim : Aim) (first end : ℕ) (es₀ es ws : List ℕ) (j : ℕ) : Type 0 where
   pub cuttable : Cuttable script chars marks heads ns es c (aim .pass)
@@ -265,8 +265,8 @@ module _ (script chars marks heads ns : List ℕ) (c : Counts) (aim : Aim) (firs
 
 -- THE ELEMENT
 
-module _ (script chars ns es : List ℕ) (c : Counts) (k i end first n : ℕ) (d : descendants (counted ns (c .nodes)) i ≡ upFrom i (end - i))
-    (e : n ≡ cutName k) (low : i ≤ first) (high : first ≤ end)
+module _ (script chars ns es : List ℕ) (c : Counts) (k i end first n : ℕ) (d : Range ns (c .nodes) i end) (e : n ≡ cutName k)
+    (low : i ≤ first) (high : first ≤ end)
     (h : (m : ℕ) → i ≤ m → m < first → attributeId (readOf ns es) m n ≡ 0) where
   abbrev own : Tree
   own = seenOf ns es c
@@ -280,7 +280,7 @@ module _ (script chars ns es : List ℕ) (c : Counts) (k i end first n : ℕ) (d
       ∙ skipped chars (valuesOf script chars) k i own (first - i) i end (omega arith)
       (λ m x y. sym (id-same own m (cutName k)) ∙ sym (ap (attributeId (readOf ns es) m) e) ∙ h m x (omega arith))
       ∙ ap (λ (xs : List ℕ). cutPairs chars (valuesOf script chars) k own (withEach i xs []))
-      (sym d ∙ descendants-alike (counted ns (c .nodes)) own refl refl i)
+      (sym (range-same own i end d))
 
   -- None has a link.
   pub element-bare : first ≡ end → own ≡ cutPairs chars (valuesOf script chars) k own (withEach i (descendants own i) [])
@@ -304,13 +304,12 @@ module _ (script chars ns es : List ℕ) (c : Counts) (k i end first n : ℕ) (d
 module _ (script chars marks heads ns es : List ℕ) (c : Counts) (aim : Aim) (g : Cuttable script chars marks heads ns es c (aim .pass))
     (ws : List ℕ) (q : Quiet chars (valuesOf script chars) (aim .pass) (seenOf ns es c) (aim .element) ws) where
   -- A node that is covered: nothing is cut.
-  pub covered-kept : (w : ℕ) → w < c .nodes → Covered ns ws w
+  pub covered-kept : (a w r : ℕ) → w < c .nodes → w < r → Covered ws a w r
       → seenOf ns es c ≡ cutNodes chars (valuesOf script chars) (aim .pass) (seenOf ns es c)
       (passing (leadsTo chars (valuesOf script chars) (aim .pass) (seenOf ns es c) (aim .element)) (descendants (seenOf ns es c) w))
   unfolding cutsAlong applied
-  covered-kept w l h =
-      let e = still-none (seenOf ns es c) (leadsTo chars (valuesOf script chars) (aim .pass) (seenOf ns es c) (aim .element)) w l
-      (covered-still chars (valuesOf script chars) (aim .pass) (seenOf ns es c) (aim .element) ws q w l h) in
+  covered-kept a w r l h o =
+      let e = covered-none chars (valuesOf script chars) (aim .pass) (seenOf ns es c) (aim .element) ws q a w r l h o in
       rw e refl
 
   -- What is remembered is still behind cuts.

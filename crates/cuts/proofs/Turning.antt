@@ -8,15 +8,12 @@ use native.Mathlib.Omega.{arith}
 use native.Mathlib.Decide.{ℕ-discrete}
 use borrow.Author.Tests.{eqb-true, eq-eqb, ne-eqb, leb-true, leb-false}
 use lib.Dec.{eqb, leb}
-use lib.ListN.{length}
 use Rattle.model.specs.Base.{pick, given}
 use Rattle.model.specs.AId
-use Rattle.model.specs.Drawing.{Part, Value, events, readingOf, readingsOf}
+use Rattle.model.specs.Drawing.{Part, Value, readingOf, readingsOf}
 use Rattle.model.specs.Tables.{Tree, entryAt, attributeId, attributeOf, elementById, setNone}
-use Rattle.model.specs.Repair.{upFrom, descendants, linkKind, elementId, readingsOfAttribute, linkOf, paintsWith, nodeAttribute}
-use Rattle.model.specs.Repair.{Cut, cutName, cutAt, applyCut, applied}
-use Rattle.model.specs.Theorems.Inside.{all-inside}
-use Rattle.model.specs.Theorems.Images.{values-bare}
+use Rattle.model.specs.Repair.{upFrom, linkKind, elementId, readingsOfAttribute, linkOf, paintsWith, nodeAttribute}
+use Rattle.model.specs.Repair.{cutName, cutAt, applyCut, applied}
 use Rattle.model.specs.Theorems.Whole.{cuts-tidy}
 use Rattle.model.specs.Theorems.Kept.{Tidy, attribute-any}
 use Rattle.model.specs.Theorems.Cuts as cuts
@@ -27,13 +24,10 @@ use Rattle.tree.specs.Lent.{readOf, entriesOf}
 use Rattle.tree.proofs.Alike.{id-same}
 use Rattle.leads.specs.Links.{valuesOf, Stands}
 use Rattle.targets.specs.Targets.{seenOf, markOf}
-use Rattle.targets.proofs.Passes.{no-id}
 use Rattle.targets.proofs.Marks.{mark-leads-link, mark-leads-paint}
 use Rattle.cuts.specs.declared.Aim.{Aim}
-use Rattle.cuts.specs.Seen.{counted, Cuttable, keyOf, Aimed, cutBack, cutNodes, Below, Still}
-use Rattle.cuts.proofs.Writing.{cuttable-on, long-on}
+use Rattle.cuts.specs.Seen.{keyOf, Aimed, cutBack, cutNodes}
 use Rattle.leads.proofs.Lasting.{last-absent}
-use Rattle.cuts.proofs.Descending.{up-step, up-none, descendants-alike}
 
 -- WHAT IS READ
 
@@ -267,95 +261,3 @@ module _ (size : ℕ) (chars : List ℕ) (values : List Value) (bare : readingsO
           let s = above-same _ _ m (leads-without size chars values bare k other t g m h i) n (m + 1) (omega arith) in
           ap (λ (ms : List ℕ). cutNodes chars values k (applyCut t (cutAt t k m)) ms)
           (sym s ∙ ap (λ (u : Tree). passing (f u) xs) (sym c))
-
--- THE LOOP
-
--- In the middle of the nodes from w up to the node `end`: m is next, those before it do not lead back, and what is still to do leaves what
--- all of it leaves.
-pub record Cutting (script chars marks heads ns : List ℕ) (c : Counts) (aim : Aim) (w end : ℕ) (es₀ es : List ℕ) (m : ℕ) : Type 0 where
-  pub cuttable : Cuttable script chars marks heads ns es c (aim .pass)
-  pub aimed : Aimed chars (seenOf ns es c) aim
-  pub high : m ≤ end
-  pub inside : end ≤ c .nodes
-  pub long : length es ≡ length es₀
-  pub still : (x : ℕ) → w ≤ x → x < m → leadsTo chars (valuesOf script chars) (aim .pass) (seenOf ns es c) (aim .element) x ≡ false
-  pub same : cutNodes chars (valuesOf script chars) (aim .pass) (seenOf ns es c)
-      (passing (leadsTo chars (valuesOf script chars) (aim .pass) (seenOf ns es c) (aim .element)) (upFrom m (end - m)))
-      ≡ cutNodes chars (valuesOf script chars) (aim .pass) (seenOf ns es₀ c)
-      (passing (leadsTo chars (valuesOf script chars) (aim .pass) (seenOf ns es₀ c) (aim .element)) (upFrom w (end - w)))
-
-pub cutting-first : (script chars marks heads ns : List ℕ) (c : Counts) (aim : Aim) (w end : ℕ) (es : List ℕ)
-    → Cuttable script chars marks heads ns es c (aim .pass) → Aimed chars (seenOf ns es c) aim → w < end → end ≤ c .nodes
-    → Cutting script chars marks heads ns c aim w end es es w
-cutting-first script chars marks heads ns c aim w end es g a l h = record {
-  cuttable = g;
-  aimed = a;
-  high = omega arith;
-  inside = h;
-  long = refl;
-  still = λ x p q. absurd (omega arith);
-  same = refl;
-}
-
-module _ (script chars marks heads ns : List ℕ) (c : Counts) (aim : Aim) (w end : ℕ) (es₀ es : List ℕ) (m : ℕ)
-    (q : Cutting script chars marks heads ns c aim w end es₀ es m) where
-  pub cutting-turn : m < end → (es′ : List ℕ)
-      → seenOf ns es′ c ≡ cutBack chars (valuesOf script chars) (aim .pass) (aim .element) (seenOf ns es c) m
-      → Cutting script chars marks heads ns c aim w end es₀ es′ (m + 1)
-  cutting-turn l es′ e =
-      let t : Tree = seenOf ns es c in
-      let vs : List Value = valuesOf script chars in
-      let bare = values-bare (length chars) (events script chars) (all-inside script chars (q .cuttable .mendable .drawn .checked)) in
-      let other = no-id (aim .pass) in
-      let g = q .cuttable .mendable .tidy in
-      let cs : List Cut = pick (leadsTo chars vs (aim .pass) t (aim .element) m) (λ u. cutAt t (aim .pass) m ∷ []) (λ u. []) in
-      let d : seenOf ns es′ c ≡ applied t cs = e ∙ back-cuts (length chars) chars vs bare (aim .pass) (aim .element) other t g m in
-      record {
-        cuttable = cuttable-on script chars marks heads ns es c cs es′ d (aim .pass) (q .aimed .first) (q .aimed .last) (q .cuttable);
-        aimed = subst (λ (u : Tree). Aimed chars u aim) (sym e)
-            (back-aimed (length chars) chars vs bare (aim .pass) (aim .element) other t g m aim (q .aimed));
-        high = omega arith;
-        inside = q .inside;
-        long = long-on script chars marks heads ns es c cs es′ d ∙ q .long;
-        still = λ x a b. ap (λ (u : Tree). leadsTo chars vs (aim .pass) u (aim .element) x) e
-            ∙ back-still (length chars) chars vs bare (aim .pass) (aim .element) other t g m x (before x a b (ℕ-discrete x m));
-        same =
-            ap (λ (u : Tree). cutNodes chars vs (aim .pass) u
-            (passing (leadsTo chars vs (aim .pass) u (aim .element)) (upFrom (m + 1) (end - (m + 1))))) e
-            ∙ sym (back-turn (length chars) chars vs bare (aim .pass) (aim .element) other t g m (end - (m + 1)))
-            ∙ ap (λ (xs : List ℕ). cutNodes chars vs (aim .pass) t (passing (leadsTo chars vs (aim .pass) t (aim .element)) xs))
-            (sym (up-step m end l))
-            ∙ q .same;
-      }
-    where
-      before : (x : ℕ) → w ≤ x → x < m + 1 → Dec (x ≡ m)
-          → (x ≡ m → ⊥) → leadsTo chars (valuesOf script chars) (aim .pass) (seenOf ns es c) (aim .element) x ≡ false
-      before x a b (yes d) n = absurd (n d)
-      before x a b (no d) n = q .still x a (omega arith)
-
-  pub cutting-done : end ≤ m
-      → seenOf ns es c ≡ cutNodes chars (valuesOf script chars) (aim .pass) (seenOf ns es₀ c)
-      (passing (leadsTo chars (valuesOf script chars) (aim .pass) (seenOf ns es₀ c) (aim .element)) (upFrom w (end - w)))
-  unfolding passing cutsAlong applied
-  cutting-done l =
-      sym (ap (λ (xs : List ℕ). cutNodes chars (valuesOf script chars) (aim .pass) (seenOf ns es c)
-      (passing (leadsTo chars (valuesOf script chars) (aim .pass) (seenOf ns es c) (aim .element)) xs)) (up-none m end l))
-      ∙ q .same
-
--- The range is that of the nodes below w.
-pub below-seen : (script chars ns es : List ℕ) (c : Counts) (aim : Aim) (w n : ℕ) → descendants (counted ns (c .nodes)) w ≡ upFrom w n
-    → cutNodes chars (valuesOf script chars) (aim .pass) (seenOf ns es c)
-    (passing (leadsTo chars (valuesOf script chars) (aim .pass) (seenOf ns es c) (aim .element)) (upFrom w n))
-    ≡ cutNodes chars (valuesOf script chars) (aim .pass) (seenOf ns es c)
-    (passing (leadsTo chars (valuesOf script chars) (aim .pass) (seenOf ns es c) (aim .element)) (descendants (seenOf ns es c) w))
-below-seen script chars ns es c aim w n e =
-    ap (λ (xs : List ℕ). cutNodes chars (valuesOf script chars) (aim .pass) (seenOf ns es c)
-    (passing (leadsTo chars (valuesOf script chars) (aim .pass) (seenOf ns es c) (aim .element)) xs))
-    (sym e ∙ descendants-alike (counted ns (c .nodes)) (seenOf ns es c) refl refl w)
-
--- Behind all of them nothing at or below w leads back.
-pub cutting-still : (script chars marks heads ns : List ℕ) (c : Counts) (aim : Aim) (w end : ℕ) (es₀ es : List ℕ) (m : ℕ)
-    → Cutting script chars marks heads ns c aim w end es₀ es m → end ≤ m → ((x : ℕ) → Below (counted ns (c .nodes)) w x → x < end)
-    → Still chars (valuesOf script chars) (aim .pass) (seenOf ns es c) (aim .element) w
-cutting-still script chars marks heads ns c aim w end es₀ es m q l h x b =
-    q .still x (b .low) (omega (arith, h x (record { low = b .low; high = b .high; between = b .between })))

@@ -1,29 +1,26 @@
 -- The tables as the repairs see them, and what a step at one element leaves in them.
 use mathlib.Core.Path.{_≡_}
-use Prim.Native.Nat.{ℕ, _+_, _*_, _/_, _<_, _≤_}
+use Prim.Native.Nat.{ℕ, _+_, _*_, _/_, _%_, _<_, _≤_}
 use mathlib.Core.Bool.{Bool, true, false}
 use mathlib.Core.List.{List, [], _∷_}
+use mathlib.Core.Logic.{_⊎_}
 use lib.Dec.{eqb, leb}
 use lib.ListN.{length, getD}
 use Rattle.model.specs.Base.{pick, Pair}
 use Rattle.model.specs.Drawing.{Value}
 use Rattle.model.specs.AId
-use Rattle.model.specs.Tables.{Tree, word, parentOf, attributeId, elementById}
+use Rattle.model.specs.Tables.{Tree, word, attributeId, elementById}
 use Rattle.model.specs.Repair.{descendants, elementId, cutAt, applyCut, applied}
 use Rattle.model.specs.Theorems.Kept.{Tidy}
 use Rattle.model.specs.Theorems.GoingOn.{leadsTo, cutsAlong, goingOn}
 use Rattle.script.specs.declared.cursor.Cursor.{Cursor}
 use Rattle.script.specs.Step.{atStart}
 use Rattle.tree.specs.declared.Counts.{Counts}
-use Rattle.tree.specs.Lent.{treeOf, readOf}
+use Rattle.tree.specs.Lent.{readOf}
 use Rattle.ids.specs.Chains.{Indexed}
 use Rattle.leads.specs.Links.{Drawn, valuesOf}
 use Rattle.targets.specs.Targets.{seenOf, Targeted}
 use Rattle.cuts.specs.declared.Aim.{Aim}
-
--- What a function sees that is lent the nodes and their count.
-abbrev pub counted : List ℕ → ℕ → Tree
-counted ns n = treeOf ns [] [] (record { nodes = n; attributes = 0; text = 0 })
 
 -- What the repairs ask: a drawing that check takes, marks of its script, a cursor in it, tables that are tidy beside its characters, and
 -- heads of the chains of their ids.
@@ -79,29 +76,48 @@ cutNodes chars values k t ms = applied t (cutsAlong chars values k t ms)
 abbrev pub cutPairs : List ℕ → List Value → ℕ → Tree → List Pair → Tree
 cutPairs chars values k t ps = applied t (goingOn chars values k t ps)
 
--- NODES THAT ARE LOOKED THROUGH
+-- RANGES THAT ARE REMEMBERED
 
--- Node x is node i, or stands below it.
-pub record Below (t : Tree) (i x : ℕ) : Type 0 where
-  pub low : i ≤ x
-  pub high : x < t .nodeCount
-  pub between : (y : ℕ) → i < y → y ≤ x → i < parentOf t y
+-- Node q and the nodes below it, in a table of n nodes: those from q up to the node `end`.
+pub record Range (ns : List ℕ) (n q end : ℕ) : Type 0 where
+  pub low : q < end
+  pub high : end ≤ n
+  pub under : (y : ℕ) → q < y → y < end → q < word ns y 1
+  pub closed : end < n → word ns end 1 ≤ q
 
--- Neither node w nor a node below it leads to the element i in pass k.
-abbrev pub Still : List ℕ → List Value → ℕ → Tree → ℕ → ℕ → Type 0
-Still chars values k t i w = (x : ℕ) → Below t w x → leadsTo chars values k t i x ≡ false
+-- Of every 256 nodes at most one is remembered, in one word: 0 is none. The node, and the node behind the last one below it.
+abbrev pub toldFirst : List ℕ → ℕ → ℕ
+toldFirst ws b = 256 * b + getD ws b 0 / 2097152
 
--- Of every 256 nodes at most one is remembered, as its index plus 1: it is still.
+abbrev pub toldEnd : List ℕ → ℕ → ℕ
+toldEnd ws b = getD ws b 0 % 2097152
+
+-- The words tell ranges.
+pub record Ranges (ns : List ℕ) (n : ℕ) (ws : List ℕ) : Type 0 where
+  pub range : (b : ℕ) → 256 * b < n → b < 4096 → (getD ws b 0 ≡ 0 → ⊥) → Range ns n (toldFirst ws b) (toldEnd ws b)
+
+-- None of the nodes from q up to the node `end` leads to the element i in pass k.
+pub record Silent (chars : List ℕ) (values : List Value) (k : ℕ) (t : Tree) (i q end : ℕ) : Type 0 where
+  pub none : (x : ℕ) → q ≤ x → x < end → leadsTo chars values k t i x ≡ false
+
+-- The words tell ranges of nodes that do not lead back.
 pub record Quiet (chars : List ℕ) (values : List Value) (k : ℕ) (t : Tree) (i : ℕ) (ws : List ℕ) : Type 0 where
-  pub still : (b q : ℕ) → 256 * b < t .nodeCount → b < 4096 → getD ws b 0 ≡ q + 1 → Still chars values k t i q
+  pub ranges : Ranges (t .nodes) (t .nodeCount) ws
+  pub silent : (b : ℕ) → 256 * b < t .nodeCount → b < 4096 → Silent chars values k t i (toldFirst ws b) (toldEnd ws b)
 
--- The remembered one of node w's block is w, or w stands below it.
-pub record Covered (ns ws : List ℕ) (w : ℕ) : Type 0 where
-  pub block : w / 256 < 4096
-  pub some : getD ws (w / 256) 0 ≡ 0 → ⊥
-  pub low : getD ws (w / 256) 0 ≤ w + 1
-  pub between : (y : ℕ) → getD ws (w / 256) 0 ≤ y → y ≤ w → getD ws (w / 256) 0 ≤ word ns y 1
+-- Node m stands in the range that the word of its block tells, which starts at node a or later, and r is the node behind it.
+pub record Covered (ws : List ℕ) (a m r : ℕ) : Type 0 where
+  pub block : m / 256 < 4096
+  pub low : a ≤ toldFirst ws (m / 256)
+  pub here : toldFirst ws (m / 256) ≤ m
+  pub last : r ≡ toldEnd ws (m / 256)
 
--- Any other node than w that is remembered was remembered before.
-pub record Hushed (ws : List ℕ) (w : ℕ) (ws′ : List ℕ) : Type 0 where
-  pub others : (b q : ℕ) → getD ws′ b 0 ≡ q + 1 → (q ≡ w → ⊥) → getD ws b 0 ≡ q + 1
+-- Each word is as it was, or tells the range from w up to the node `end`.
+pub record Hushed (ws : List ℕ) (w end : ℕ) (ws′ : List ℕ) : Type 0 where
+  pub words : (b : ℕ) → (getD ws′ b 0 ≡ getD ws b 0) ⊎ ((toldFirst ws′ b ≡ w) × (toldEnd ws′ b ≡ end))
+
+-- The search goes on from node m at node r, at `end` at the latest: none of the nodes between them leads back.
+pub record Onward (chars : List ℕ) (values : List Value) (k : ℕ) (t : Tree) (i m end r : ℕ) : Type 0 where
+  pub low : m < r
+  pub high : r ≤ end
+  pub none : (x : ℕ) → m < x → x < r → leadsTo chars values k t i x ≡ false

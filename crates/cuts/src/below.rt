@@ -1,23 +1,21 @@
 // The nodes below a node follow it in the table.
+use crate::quiet::behind_quiet;
 use tree::Counts;
 use tree::read::attribute_id;
 use tree::word;
 use tree::word::node_word;
 ghost use mathlib.Core.Path.{_≡_};
-ghost use Prim.Native.Nat.{ℕ, _+_, _-_, _*_, _≤_, _<_};
+ghost use Prim.Native.Nat.{ℕ, _*_, _≤_, _<_};
 ghost use lib.ListN.{length};
 ghost use Rattle.model.specs.Tables.{attributeId};
-ghost use Rattle.model.specs.Repair.{upFrom, descendants};
 ghost use Rattle.tree.specs.Lent.{readOf, Readable};
 ghost use Rattle.targets.specs.Targets.{seenOf};
-ghost use Rattle.cuts.specs.Seen.{counted, Below, hasLinks};
+ghost use Rattle.cuts.specs.Seen.{hasLinks, Range, Ranges};
 
-// `descendants` of node i: from i up to the node that is answered, the first behind i whose parent comes before i.
+// Behind node i and the nodes below it: the first node behind i whose parent comes before i.
 pub fn behind_below(nodes: &[u32], count: u32, i: u32) -> u32
     requires { ⌜ (i < count) × (8 * count ≤ length (now nodes)) ⌝ }
-    ensures same { λ r. ⌜ descendants (counted (now (nodes .entry)) count) i ≡ upFrom i (r - i) ⌝ }
-    ensures within { λ r. ⌜ (i < r) × (r ≤ count) ⌝ }
-    ensures all { λ r. ⌜ ((x : ℕ) → Below (counted (now (nodes .entry)) count) i x → x < r) ⌝ }
+    ensures { λ r. ⌜ Range (now (nodes .entry)) count i r ⌝ }
 {
     let mut j = i + 1;
     while j < count {
@@ -25,6 +23,27 @@ pub fn behind_below(nodes: &[u32], count: u32, i: u32) -> u32
             return j;
         }
         j += 1;
+    }
+    j
+}
+
+// The same, where ranges are remembered: the nodes below a remembered one are passed over.
+pub fn behind_target(quiet: &[u32; 4096], nodes: &[u32], count: u32, i: u32) -> u32
+    requires { ⌜ (i < count) × (8 * count ≤ length (now nodes)) ⌝ }
+    requires { ⌜ Ranges (now nodes) count (now quiet) ⌝ }
+    ensures { λ r. ⌜ Range (now (nodes .entry)) count i r ⌝ }
+{
+    let mut j = i + 1;
+    while j < count {
+        if node_word(nodes, j, word::PARENT) <= i {
+            return j;
+        }
+        let n = behind_quiet(quiet, j, j);
+        if n > j {
+            j = n;
+        } else {
+            j += 1;
+        }
     }
     j
 }

@@ -1,12 +1,9 @@
 // Nodes below which nothing leads back to the element that is aimed at, so that none of them is looked through twice. Of every 256 nodes
-// one is remembered; a node that stands behind it among these and below it is known too, and any other one before it has few nodes below.
-use tree::word;
-use tree::word::node_word;
+// one is remembered, with the node behind the last one below it, in one word: how far behind the first of the 256 it stands, times
+// 2097152, and the node behind. A word that is 0 remembers none.
 ghost use mathlib.Core.Path.{_≡_};
-ghost use mathlib.Core.Bool.{true};
-ghost use Prim.Native.Nat.{ℕ, _+_, _*_, _<_, _≤_};
-ghost use lib.ListN.{length, getD};
-ghost use Rattle.model.specs.Tables.{word};
+ghost use Prim.Native.Nat.{ℕ, _+_, _*_, _/_, _<_, _≤_};
+ghost use lib.ListN.{getD};
 ghost use Rattle.cuts.specs.Seen.{Covered, Hushed};
 
 fn wide(n: u32) -> usize
@@ -38,53 +35,50 @@ pub fn forget(quiet: &mut [u32; 4096], count: u32)
     }
 }
 
-// Is node w the node whose index plus 1 is q, or does it stand below it?
-fn stands_below(nodes: &[u32], q: u32, w: u32) -> bool
-    requires { ⌜ 8 * w + 7 < length (now nodes) ⌝ }
-    requires { ⌜ w < 4294967295 ⌝ }
-    ensures { λ r. ⌜ (r ≡ true → (y : ℕ) → q ≤ y → y ≤ w → q ≤ word (now (nodes .entry)) y 1) ⌝ }
+// The node that word e of block b remembers.
+fn told_first(b: u32, e: u32) -> u32
+    requires { ⌜ b < 4096 ⌝ }
+    ensures { λ r. ⌜ r ≡ 256 * b + e / 2097152 ⌝ }
 {
-    let mut n = w + 1;
-    while q < n {
-        if node_word(nodes, n - 1, word::PARENT) < q {
-            return false;
-        }
-        n -= 1;
-    }
-    true
+    256 * b + e / 2097152
 }
 
-// Is it known that nothing at or below node w leads back?
-pub fn is_quiet(nodes: &[u32], quiet: &[u32; 4096], w: u32) -> bool
-    requires { ⌜ 8 * w + 7 < length (now nodes) ⌝ }
-    requires { ⌜ w < 4294967295 ⌝ }
-    ensures { λ r. ⌜ (r ≡ true → Covered (now (nodes .entry)) (now (quiet .entry)) w) ⌝ }
+// The node behind the remembered range in which node m stands, if the range starts at the node `low` or later; m where there is none.
+pub fn behind_quiet(quiet: &[u32; 4096], low: u32, m: u32) -> u32
+    ensures { λ r. ⌜ (m ≤ r) × (m < r → Covered (now (quiet .entry)) low m r) ⌝ }
 {
-    let b = wide(w / 256);
+    let b = wide(m / 256);
     if b >= 4096 {
-        return false;
+        return m;
     }
-    let q = quiet[b];
-    if q == 0 {
-        return false;
+    let e = quiet[b];
+    let q = told_first(m / 256, e);
+    if q < low {
+        return m;
     }
-    if w + 1 < q {
-        return false;
+    if m < q {
+        return m;
     }
-    stands_below(nodes, q, w)
+    if e % 2097152 < m {
+        return m;
+    }
+    e % 2097152
 }
 
-// Node w is remembered, whose last node stands before `end`; not where a node behind these is remembered, since w is a small one then.
+// The range from node w up to the node `end` is remembered, if a word holds it; not where the remembered one ends behind it: then this
+// one ends before that starts, and has few nodes.
 pub fn hush(quiet: &mut [u32; 4096], w: u32, end: u32)
-    requires { ⌜ w < 4294967295 ⌝ }
-    ensures { λ _. ⌜ Hushed (now (quiet .entry)) w (now (quiet .exit)) ⌝ }
+    ensures { λ _. ⌜ Hushed (now (quiet .entry)) w end (now (quiet .exit)) ⌝ }
 {
     let b = wide(w / 256);
     if b >= 4096 {
         return;
     }
-    if end < quiet[b] {
+    if end >= 2097152 {
         return;
     }
-    quiet[b] = w + 1;
+    if end < quiet[b] % 2097152 {
+        return;
+    }
+    quiet[b] = w % 256 * 2097152 + end;
 }

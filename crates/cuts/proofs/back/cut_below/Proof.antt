@@ -1,56 +1,71 @@
 use native.Mathlib.Omega.{arith}
-use mathlib.Core.Path.{_∙_}
+use borrow.Author.Needs.{needs}
 use Prim.Native.Nat.{_-_}
-use Rattle.cuts.proofs.Turning.{Cutting, cutting-first, cutting-turn, cutting-done, below-seen, cutting-still}
+use Rattle.cuts.proofs.Looking.{Cutting, cutting-first, cutting-turn, cutting-done, cutting-silent}
 use Rattle.cuts.proofs.back.cut_below.Statement.{statement}
 use Rattle.cuts.proofs.back.cut_below.Tie as tie
+use Rattle.cuts.proofs.back.cut_below.Reads as reads
+use Rattle.cuts.proofs.back.cut_below.Lts as lts
+use Rattle.cuts.proofs.back.cut_next.Reads as cut-next-reads
+use Rattle.cuts.proofs.below.behind_target.Reads as behind-target-reads
 
 abbrev Inv-loop : tie.InvT-loop
-Inv-loop script characters marks heads nodes attributes₀ counts aim w end m₀ attributes m =
-    Cutting script characters marks heads nodes counts aim w end attributes₀ attributes m
+Inv-loop script characters marks heads quiet nodes attributes₀ counts aim w end m₀ attributes m =
+    Cutting script characters marks heads nodes counts aim w end quiet attributes₀ attributes m
 
 abbrev μ-loop : tie.MeasureT-loop
-μ-loop script characters marks heads nodes attributes₀ counts aim w end m₀ attributes m = end - m
+μ-loop script characters marks heads quiet nodes attributes₀ counts aim w end m₀ attributes m = end - m
 
-behind-below-requires : tie.Need-behind-below-requires Inv-loop μ-loop
-behind-below-requires c κs = (
-  c .before .before .before .before .pre .1 .1,
-  omega (arith, c .before .before .before .before .pre .0 .mendable .tidy .kept .fits .nodes),
+-- src/back.rt:125:9
+behind-target-requires : tie.Need-behind-target-requires Inv-loop μ-loop
+behind-target-requires c κs = (
+  (
+    c .before .before .before .before .pre .1 .1 .1,
+    omega (arith, c .before .before .before .before .pre .0 .mendable .tidy .kept .fits .nodes),
+  ),
+  c .before .before .before .before .pre .1 .1 .0 .ranges,
 )
 
+-- src/back.rt:127:5
 loop-holds : tie.Need-loop-holds Inv-loop μ-loop
 loop-holds c =
-    cutting-first _ _ _ _ _ _ _ _ _ _ (c .before .before .before .before .before .pre .0)
-    (c .before .before .before .before .before .pre .1 .0) (c .behind-below .ensures .1 .0 .0) (c .behind-below .ensures .1 .0 .1)
+    cutting-first _ _ _ _ _ _ _ _ _ _ _ (c .before .before .before .before .before .pre .0)
+    (c .before .before .before .before .before .pre .1 .0) (c .before .before .before .before .before .pre .1 .1 .0)
+    (c .behind-target .ensures)
 
-cut-back-requires : tie.Need-cut-back-requires Inv-loop μ-loop
-cut-back-requires c κs = (
+-- src/back.rt:128:9
+cut-next-requires : tie.Need-cut-next-requires Inv-loop μ-loop
+cut-next-requires c κs = (
   c .before .before .loop .inv .cuttable,
-  (c .before .before .loop .inv .aimed, omega (arith, c .before .before .loop .inv .inside, c .before .loop-test .taken)),
+  (
+    c .before .before .loop .inv .aimed,
+    (c .before .before .loop .inv .quiet, (c .before .loop-test .taken, c .before .before .loop .inv .inside)),
+  ),
 )
 
-add-m : tie.Need-add-m Inv-loop μ-loop
-add-m c = omega arith
-
+-- src/back.rt:127:5
 loop-less : tie.Need-loop-less Inv-loop μ-loop
-loop-less c = omega arith
+loop-less c = omega (arith, c .before .before .cut-next .ensures .1 .low, c .before .before .before .before .loop-test .taken)
 
+-- src/back.rt:127:5
 loop-again : tie.Need-loop-again Inv-loop μ-loop
 loop-again c =
-    cutting-turn _ _ _ _ _ _ _ _ _ _ _ _ (c .before .before .before .before .before .loop .inv)
-    (c .before .before .before .before .loop-test .taken) _ (c .before .before .cut-back .ensures)
+    cutting-turn _ _ _ _ _ _ _ _ _ _ _ _ _ (c .before .before .before .before .before .loop .inv) _
+    (c .before .before .cut-next .ensures .0) _ (c .before .before .cut-next .ensures .1)
 
+-- src/back.rt:98:1
 same-length : tie.Need-same-length Inv-loop μ-loop
 same-length c = c .before .loop .inv .long
 
+-- src/back.rt:98:1
 returns : tie.Need-returns Inv-loop μ-loop
 returns c = (
-  cutting-done _ _ _ _ _ _ _ _ _ _ _ _ (c .before .loop .inv) (c .loop-test .left)
-      ∙ below-seen _ _ _ _ (c .before .before .before .before .before .before .before .args .counts)
-      (c .before .before .before .before .before .before .before .args .aim)
-      (c .before .before .before .before .before .before .before .args .w) _ (c .before .before .behind-below .ensures .0),
-  cutting-still _ _ _ _ _ _ _ _ _ _ _ _ (c .before .loop .inv) (c .loop-test .left)
-      (c .before .before .behind-below .ensures .1 .1),
+  cutting-done _ _ _ _ _ _ _ _ _ _ _ _ _ (c .before .loop .inv) (c .loop-test .left)
+      (c .before .before .behind-target .ensures),
+  (
+    c .before .before .behind-target .ensures,
+    cutting-silent _ _ _ _ _ _ _ _ _ _ _ _ _ (c .before .loop .inv) (c .loop-test .left),
+  ),
 )
 
 pub cut-below-spec : {M : Type 1} → statement M
@@ -59,10 +74,9 @@ cut-below-spec =
     (tie.spec
     Inv-loop
     μ-loop
-    behind-below-requires
+    behind-target-requires
     loop-holds
-    cut-back-requires
-    add-m
+    cut-next-requires
     loop-less
     loop-again
     same-length

@@ -14,9 +14,9 @@ behind-below-requires c κs = search needs
 
 first-with-requires : tie.Need-first-with-requires
 first-with-requires c κs = (
-  omega (arith, c .before .behind-below .ensures .1 .0 .0),
+  omega (arith, c .before .behind-below .ensures .low),
   λ m l. readable _ _ (c .before .before .before .before .before .before .before .pre .0 .mendable .tidy .kept) m
-      (omega (arith, c .before .behind-below .ensures .1 .0 .1)),
+      (omega (arith, c .before .behind-below .ensures .high)),
 )
 
 same-length : tie.Need-same-length
@@ -25,7 +25,7 @@ same-length c = search needs
 returns : tie.Need-returns
 returns c =
     element-bare _ _ _ _ (c .before .before .before .before .before .before .before .before .before .args .counts) _ _ _ _ _
-    (c .before .before .before .behind-below .ensures .0) (c .before .before .before .before .cut-name .ensures)
+    (c .before .before .before .behind-below .ensures) (c .before .before .before .before .cut-name .ensures)
     (c .before .first-with .ensures .0 .0) (c .before .first-with .ensures .0 .1) (c .before .first-with .ensures .1 .0)
     (c .if1 .taken)
 
@@ -39,7 +39,7 @@ returns-2 : tie.Need-returns-2
 returns-2 c =
     element-unled _ _ _ _
     (c .before .before .before .before .before .before .before .before .before .before .before .before .args .counts) _ _ _ _ _
-    (c .before .before .before .before .before .before .behind-below .ensures .0)
+    (c .before .before .before .before .before .before .behind-below .ensures)
     (c .before .before .before .before .before .before .before .cut-name .ensures)
     (c .before .before .before .before .first-with .ensures .0 .0) (c .before .before .before .before .first-with .ensures .0 .1)
     (c .before .before .before .before .first-with .ensures .1 .0)
@@ -61,7 +61,7 @@ cut-pairs-requires c κs = (
       key = c .before .before .before .key-of .ensures;
       some = c .before .before .if2 .left;
     },
-    c .before .before .before .before .before .before .before .before .behind-below .ensures .1 .0 .1,
+    c .before .before .before .before .before .before .before .before .behind-below .ensures .high,
   ),
 )
 
@@ -72,7 +72,7 @@ returns-3 : tie.Need-returns-3
 returns-3 c =
     element-pairs _ _ _ _ (c .before .before .before .before .before .before .before .before .before .before .before .before
     .before .before .before .before .before .args .counts) _ _ _ _ _
-    (c .before .before .before .before .before .before .before .before .before .before .before .behind-below .ensures .0)
+    (c .before .before .before .before .before .before .before .before .before .before .before .behind-below .ensures)
     (c .before .before .before .before .before .before .before .before .before .before .before .before .cut-name .ensures)
     (c .before .before .before .before .before .before .before .before .before .first-with .ensures .0 .0)
     (c .before .before .before .before .before .before .before .before .before .first-with .ensures .0 .1)

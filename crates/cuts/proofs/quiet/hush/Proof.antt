@@ -1,34 +1,55 @@
-use Rattle.cuts.proofs.Quieting.{hushed-set}
+use native.Mathlib.Omega.{arith}
+use Rattle.cuts.proofs.Quieting.{hushed-none, hushed-set}
 use borrow.Author.Needs.{needs}
 use Rattle.cuts.proofs.quiet.hush.Statement.{statement}
 use Rattle.cuts.proofs.quiet.hush.Tie as tie
+use Rattle.cuts.proofs.quiet.hush.Reads as reads
+use Rattle.cuts.proofs.quiet.hush.Lts as lts
+use Rattle.cuts.proofs.quiet.wide.Reads as wide-reads
 
+-- src/quiet.rt:65:9
 wide-requires : tie.Need-wide-requires
 wide-requires c κs = search needs
 
+-- src/quiet.rt:67:9
 returns : tie.Need-returns
-returns c = search needs
+returns c = hushed-none _ _ _
 
-mul-if2 : tie.Need-mul-if2
-mul-if2 c = search needs
-
-element-copy-out-if2 : tie.Need-element-copy-out-if2
-element-copy-out-if2 c = search needs
-
+-- src/quiet.rt:70:9
 returns-2 : tie.Need-returns-2
-returns-2 c = search needs
+returns-2 c = hushed-none _ _ _
 
-add-quiet : tie.Need-add-quiet
-add-quiet c = search needs
+-- src/quiet.rt:72:14
+mul-if3 : tie.Need-mul-if3
+mul-if3 c = search needs
 
+-- src/quiet.rt:72:14
+element-copy-out-if3 : tie.Need-element-copy-out-if3
+element-copy-out-if3 c = search needs
+
+-- src/quiet.rt:73:9
+returns-3 : tie.Need-returns-3
+returns-3 c = hushed-none _ _ _
+
+-- src/quiet.rt:75:16
 mul-quiet : tie.Need-mul-quiet
 mul-quiet c = search needs
 
+-- src/quiet.rt:75:16
+add-quiet : tie.Need-add-quiet
+add-quiet c = search needs
+
+-- src/quiet.rt:75:5
+mul-quiet-2 : tie.Need-mul-quiet-2
+mul-quiet-2 c = search needs
+
+-- src/quiet.rt:75:5
 element-write-quiet : tie.Need-element-write-quiet
 element-write-quiet c = search needs
 
-returns-3 : tie.Need-returns-3
-returns-3 c = hushed-set _ _ _
+-- src/quiet.rt:62:1
+returns-4 : tie.Need-returns-4
+returns-4 c = hushed-set _ _ _ _ (c .before .before .before .before .wide .ensures .0) (omega (arith, c .before .before .if2 .left))
 
 pub hush-spec : {M : Type 1} → statement M
 hush-spec =
@@ -36,10 +57,12 @@ hush-spec =
     (tie.spec
     wide-requires
     returns
-    mul-if2
-    element-copy-out-if2
     returns-2
-    add-quiet
+    mul-if3
+    element-copy-out-if3
+    returns-3
     mul-quiet
+    add-quiet
+    mul-quiet-2
     element-write-quiet
-    returns-3)
+    returns-4)

@@ -1,0 +1,104 @@
+use native.Mathlib.Omega.{arith}
+use borrow.Author.Needs.{needs}
+use Rattle.cuts.proofs.Looking.{onward-one, range-kept, onward-range}
+use Rattle.cuts.proofs.back.cut_next.Statement.{statement}
+use Rattle.cuts.proofs.back.cut_next.Tie as tie
+use Rattle.cuts.proofs.back.cut_next.Reads as reads
+use Rattle.cuts.proofs.back.cut_next.Lts as lts
+use Rattle.cuts.proofs.back.cut_back.Reads as cut-back-reads
+use Rattle.cuts.proofs.quiet.behind_quiet.Reads as behind-quiet-reads
+
+-- src/back.rt:76:9
+behind-quiet-requires : tie.Need-behind-quiet-requires
+behind-quiet-requires c κs = search needs
+
+-- src/back.rt:78:9
+cut-back-requires : tie.Need-cut-back-requires
+cut-back-requires c κs = (
+  c .before .before .before .before .before .before .before .pre .0,
+  (
+    c .before .before .before .before .before .before .before .pre .1 .0,
+    omega (
+      arith,
+      c .before .before .before .before .before .before .before .pre .1 .1 .1 .0,
+      c .before .before .before .before .before .before .before .pre .1 .1 .1 .1,
+    ),
+  ),
+)
+
+-- src/back.rt:89:16
+add-result : tie.Need-add-result
+add-result c = omega (arith, c .before .before .before .before .before .before .before .before .before .before .pre .1 .1 .1 .0)
+
+-- src/back.rt:89:9
+same-length : tie.Need-same-length
+same-length c = search needs
+
+-- src/back.rt:89:9
+returns : tie.Need-returns
+returns c = (
+  c .before .before .cut-back .ensures,
+  onward-one _ _ _ _
+      (c .before .before .before .before .before .before .before .before .before .before .args .counts)
+      (c .before .before .before .before .before .before .before .before .before .before .args .aim) _ _
+      (c .before .before .before .before .before .before .before .before .before .before .pre .1 .1 .1 .0),
+)
+
+-- src/back.rt:92:9
+returns-2 : tie.Need-returns-2
+returns-2 c = (
+  range-kept _ _ _ _ (c .before .before .before .before .before .before .before .args .counts)
+      (c .before .before .before .before .before .before .before .args .aim) _ _
+      (c .before .before .before .before .before .before .before .pre .1 .1 .1 .0) _
+      (c .before .before .before .before .before .before .before .pre .1 .1 .0)
+      (c .before .before .before .before .before .before .before .pre .1 .1 .1 .1) _
+      (omega (arith, c .before .if1 .left, c .before .before .behind-quiet .ensures .0))
+      (c .before .before .behind-quiet .ensures .1
+      (omega (arith, c .before .if1 .left, c .before .before .behind-quiet .ensures .0)))
+      (c .before .before .before .before .before .before .before .pre .1 .0),
+  onward-range _ _ _ _ (c .before .before .before .before .before .before .before .args .counts)
+      (c .before .before .before .before .before .before .before .args .aim) _ _
+      (c .before .before .before .before .before .before .before .pre .1 .1 .1 .0) _
+      (c .before .before .before .before .before .before .before .pre .1 .1 .0)
+      (c .before .before .before .before .before .before .before .pre .1 .1 .1 .1) _
+      (omega (arith, c .before .if1 .left, c .before .before .behind-quiet .ensures .0))
+      (c .before .before .behind-quiet .ensures .1
+      (omega (arith, c .before .if1 .left, c .before .before .behind-quiet .ensures .0))) _
+      (omega (arith, c .before .if1 .left, c .before .before .behind-quiet .ensures .0)) (omega arith)
+      (omega (arith, c .if2 .taken)),
+)
+
+-- src/back.rt:52:1
+returns-3 : tie.Need-returns-3
+returns-3 c = (
+  range-kept _ _ _ _ (c .before .before .before .before .before .before .before .args .counts)
+      (c .before .before .before .before .before .before .before .args .aim) _ _
+      (c .before .before .before .before .before .before .before .pre .1 .1 .1 .0) _
+      (c .before .before .before .before .before .before .before .pre .1 .1 .0)
+      (c .before .before .before .before .before .before .before .pre .1 .1 .1 .1) _
+      (omega (arith, c .before .if1 .left, c .before .before .behind-quiet .ensures .0))
+      (c .before .before .behind-quiet .ensures .1
+      (omega (arith, c .before .if1 .left, c .before .before .behind-quiet .ensures .0)))
+      (c .before .before .before .before .before .before .before .pre .1 .0),
+  onward-range _ _ _ _ (c .before .before .before .before .before .before .before .args .counts)
+      (c .before .before .before .before .before .before .before .args .aim) _ _
+      (c .before .before .before .before .before .before .before .pre .1 .1 .1 .0) _
+      (c .before .before .before .before .before .before .before .pre .1 .1 .0)
+      (c .before .before .before .before .before .before .before .pre .1 .1 .1 .1) _
+      (omega (arith, c .before .if1 .left, c .before .before .behind-quiet .ensures .0))
+      (c .before .before .behind-quiet .ensures .1
+      (omega (arith, c .before .if1 .left, c .before .before .behind-quiet .ensures .0))) _
+      (c .before .before .before .before .before .before .before .pre .1 .1 .1 .0) (omega (arith, c .if2 .left)) (omega arith),
+)
+
+pub cut-next-spec : {M : Type 1} → statement M
+cut-next-spec =
+    tie.close
+    (tie.spec
+    behind-quiet-requires
+    cut-back-requires
+    add-result
+    same-length
+    returns
+    returns-2
+    returns-3)
