@@ -27,15 +27,15 @@ pub fn behind_below(nodes: &[u32], count: u32, i: u32) -> u32
     j
 }
 
-// The same, where ranges are remembered: the nodes below a remembered one are passed over.
-pub fn behind_target(quiet: &[u32; 4096], nodes: &[u32], count: u32, i: u32) -> u32
-    requires { ⌜ (i < count) × (8 * count ≤ length (now nodes)) ⌝ }
+// Behind node w and the nodes below it, where ranges are remembered: what stands below a remembered node is passed over.
+pub fn behind_target(quiet: &[u32; 4096], nodes: &[u32], count: u32, w: u32) -> u32
+    requires { ⌜ (w < count) × (8 * count ≤ length (now nodes)) ⌝ }
     requires { ⌜ Ranges (now nodes) count (now quiet) ⌝ }
-    ensures { λ r. ⌜ Range (now (nodes .entry)) count i r ⌝ }
+    ensures { λ r. ⌜ Range (now (nodes .entry)) count w r ⌝ }
 {
-    let mut j = i + 1;
+    let mut j = w + 1;
     while j < count {
-        if node_word(nodes, j, word::PARENT) <= i {
+        if node_word(nodes, j, word::PARENT) <= w {
             return j;
         }
         let n = behind_quiet(quiet, j, j);

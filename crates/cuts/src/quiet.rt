@@ -59,10 +59,11 @@ pub fn behind_quiet(quiet: &[u32; 4096], low: u32, m: u32) -> u32
     if m < q {
         return m;
     }
-    if e % 2097152 < m {
+    let end = e % 2097152;
+    if end < m {
         return m;
     }
-    e % 2097152
+    end
 }
 
 // The range from node w up to the node `end` is remembered, if a word holds it; not where the remembered one ends behind it: then this

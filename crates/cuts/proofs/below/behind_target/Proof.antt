@@ -11,10 +11,10 @@ use Rattle.cuts.proofs.quiet.behind_quiet.Reads as behind-quiet-reads
 use Rattle.tree.proofs.word.node_word.Reads as node-word-reads
 
 abbrev Inv-loop : tie.InvT-loop
-Inv-loop quiet nodes count i j₀ j = Passed nodes count i j
+Inv-loop quiet nodes count w j₀ j = Passed nodes count w j
 
 abbrev μ-loop : tie.MeasureT-loop
-μ-loop quiet nodes count i j₀ j = count - j
+μ-loop quiet nodes count w j₀ j = count - j
 
 -- src/below.rt:36:17
 add-j : tie.Need-add-j Inv-loop μ-loop
