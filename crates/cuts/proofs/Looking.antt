@@ -18,11 +18,11 @@ use Rattle.leads.specs.Links.{valuesOf}
 use Rattle.targets.specs.Targets.{seenOf}
 use Rattle.targets.proofs.Passes.{no-id}
 use Rattle.cuts.specs.declared.Aim.{Aim}
-use Rattle.cuts.specs.Seen.{Cuttable, Aimed, cutBack, cutNodes, Range, Silent, Quiet, Covered, Onward}
+use Rattle.cuts.specs.Seen.{Cuttable, Aimed, cutBack, cutNodes, Range, Silent, Quiet, Remembered, Onward}
 use Rattle.cuts.proofs.Writing.{cuttable-on, long-on}
 use Rattle.cuts.proofs.Descending.{up-step, up-none, range-same}
 use Rattle.cuts.proofs.Turning.{back-kept, back-cuts, back-aimed, back-still, back-turn}
-use Rattle.cuts.proofs.Quieting.{covered-silent, back-quiet}
+use Rattle.cuts.proofs.Quieting.{remembered-silent, back-quiet}
 
 -- Numbers that do not pass are passed over.
 passing-over : (f : ℕ → Bool) (end n a : ℕ) → a + n ≤ end → ((x : ℕ) → a ≤ x → x < a + n → f x ≡ false)
@@ -47,18 +47,18 @@ module _ (script chars ns es : List ℕ) (c : Counts) (aim : Aim) (m end : ℕ) 
 
   -- Behind a range.
   module _ (ws : List ℕ) (g : Quiet chars values (aim .pass) (seenOf ns es c) (aim .element) ws) (h : end ≤ c .nodes) (n : ℕ)
-      (o : m < n) (k : Covered ws m m n) where
+      (o : m < n) (k : Remembered ws m n) where
     pub range-kept : Aimed chars (seenOf ns es c) aim
         → seenOf ns es c ≡ cutBack chars values (aim .pass) (aim .element) (seenOf ns es c) m
     range-kept a =
         back-kept script chars ns es c aim a m
-        (covered-silent chars values (aim .pass) (seenOf ns es c) (aim .element) ws g m m n (omega arith) k m (omega arith) o)
+        (remembered-silent chars values (aim .pass) (seenOf ns es c) (aim .element) ws g m n (omega arith) k m (omega arith) o)
 
     pub onward-range : (r : ℕ) → m < r → r ≤ n → r ≤ end → Onward chars values (aim .pass) (seenOf ns es c) (aim .element) m end r
     onward-range r p q e = record {
       low = p;
       high = e;
-      none = λ x y z. covered-silent chars values (aim .pass) (seenOf ns es c) (aim .element) ws g m m n (omega arith) k x (omega arith) (omega arith);
+      none = λ x y z. remembered-silent chars values (aim .pass) (seenOf ns es c) (aim .element) ws g m n (omega arith) k x (omega arith) (omega arith);
     }
 
 -- THE LOOP

@@ -304,12 +304,12 @@ module _ (script chars ns es : List ℕ) (c : Counts) (k i end first n : ℕ) (d
 module _ (script chars marks heads ns es : List ℕ) (c : Counts) (aim : Aim) (g : Cuttable script chars marks heads ns es c (aim .pass))
     (ws : List ℕ) (q : Quiet chars (valuesOf script chars) (aim .pass) (seenOf ns es c) (aim .element) ws) where
   -- A node that is covered: nothing is cut.
-  pub covered-kept : (a w r : ℕ) → w < c .nodes → w < r → Covered ws a w r
+  pub covered-kept : (w : ℕ) → w < c .nodes → Covered ws w
       → seenOf ns es c ≡ cutNodes chars (valuesOf script chars) (aim .pass) (seenOf ns es c)
       (passing (leadsTo chars (valuesOf script chars) (aim .pass) (seenOf ns es c) (aim .element)) (descendants (seenOf ns es c) w))
   unfolding cutsAlong applied
-  covered-kept a w r l h o =
-      let e = covered-none chars (valuesOf script chars) (aim .pass) (seenOf ns es c) (aim .element) ws q a w r l h o in
+  covered-kept w l h =
+      let e = covered-none chars (valuesOf script chars) (aim .pass) (seenOf ns es c) (aim .element) ws q w l h in
       rw e refl
 
   -- What is remembered is still behind cuts.

@@ -12,12 +12,12 @@ use lib.ListN.{getD, set}
 use Rattle.model.specs.Base.{pick}
 use Rattle.model.specs.AId
 use Rattle.model.specs.Drawing.{Value, readingsOf}
-use Rattle.model.specs.Tables.{Tree, parentOf, attributeId, setNone}
+use Rattle.model.specs.Tables.{Tree, word, parentOf, attributeId, setNone}
 use Rattle.model.specs.Repair.{upFrom, belowFrom, descendants, cutName, cutAt, applyCut, applied}
 use Rattle.model.specs.Theorems.Kept.{Tidy}
 use Rattle.model.specs.Theorems.Agree.{set-cases}
 use Rattle.model.specs.Theorems.GoingOn.{passing, leadsTo, cutsAlong}
-use Rattle.cuts.specs.Seen.{cutBack, cutNodes, Range, toldFirst, toldEnd, Ranges, Silent, Quiet, Covered, Hushed}
+use Rattle.cuts.specs.Seen.{cutBack, cutNodes, Range, toldFirst, toldEnd, Ranges, Silent, Quiet, Covered, Remembered, Told, Hushed, Spread}
 use Rattle.cuts.proofs.Turning.{cut-tidy, cut-leads}
 
 -- WHAT IS SILENT GIVES NOTHING
@@ -48,60 +48,69 @@ module _ (t : Tree) (f : ℕ → Bool) (i end : ℕ) (closed : end < t .nodeCoun
 
 -- WHAT IS REMEMBERED
 
--- The range in which a node stands.
-pub covered-range : (ns : List ℕ) (n : ℕ) (ws : List ℕ) → Ranges ns n ws → (a m r : ℕ) → m < n → m < r → Covered ws a m r
-    → Range ns n (toldFirst ws (m / 256)) r
-covered-range ns n ws g a m r l h c =
-    subst (Range ns n (toldFirst ws (m / 256))) (sym (c .last)) (g .range (m / 256) (omega arith) (c .block) (λ z. omega (arith, c .last, z)))
-
--- It is the range of the node, where it starts there.
-pub covered-first : (ns : List ℕ) (n : ℕ) (ws : List ℕ) → Ranges ns n ws → (m r : ℕ) → m < n → m < r → Covered ws m m r → Range ns n m r
-covered-first ns n ws g m r l h c =
-    let e : toldFirst ws (m / 256) ≡ m = omega (arith, c .low, c .here) in
-    subst (λ (q : ℕ). Range ns n q r) e (covered-range ns n ws g m m r l h c)
+-- The range of a node that is remembered.
+pub remembered-range : (ns : List ℕ) (n : ℕ) (ws : List ℕ) → Ranges ns n ws → (m r : ℕ) → m < n → m < r → Remembered ws m r → Range ns n m r
+remembered-range ns n ws g m r l h c =
+    let e : toldFirst ws (m / 256) ≡ m = omega (arith, c .own) in
+    subst (λ (q : ℕ). Range ns n q r) e (subst (Range ns n (toldFirst ws (m / 256))) (sym (c .last))
+    (g .range (m / 256) (omega arith) (c .block) (λ z. omega (arith, c .last, z)) (omega (arith, c .own))))
 
 module _ (chars : List ℕ) (values : List Value) (k : ℕ) (t : Tree) (i : ℕ) where
   -- Nothing.
   pub quiet-first : (ws : List ℕ) → ((b : ℕ) → 256 * b < t .nodeCount → b < 4096 → getD ws b 0 ≡ 0) → Quiet chars values k t i ws
   quiet-first ws h = record {
-    ranges = record { range = λ b l m z. absurd (z (h b l m)) };
+    ranges = record { range = λ b l m z o. absurd (z (h b l m)); closed = λ b l m z o. absurd (z (h b l m)) };
     silent = λ b l m. record { none = λ x p q. absurd (omega (arith, h b l m)) };
   }
 
-  -- None of the nodes of its range from it on leads back.
-  pub covered-silent : (ws : List ℕ) → Quiet chars values k t i ws → (a m r : ℕ) → m < t .nodeCount → Covered ws a m r
+  -- The nodes below one that is remembered do not lead back.
+  pub remembered-silent : (ws : List ℕ) → Quiet chars values k t i ws → (m r : ℕ) → m < t .nodeCount → Remembered ws m r
       → (x : ℕ) → m ≤ x → x < r → leadsTo chars values k t i x ≡ false
-  covered-silent ws g a m r l c x p q =
-      g .silent (m / 256) (omega arith) (c .block) .none x (omega (arith, c .here)) (omega (arith, c .last))
+  remembered-silent ws g m r l c x p q =
+      g .silent (m / 256) (omega arith) (c .block) .none x (omega (arith, c .own)) (omega (arith, c .last))
 
-  -- Nothing at or below it does.
-  pub covered-none : (ws : List ℕ) → Quiet chars values k t i ws → (a m r : ℕ) → m < t .nodeCount → m < r → Covered ws a m r
-      → passing (leadsTo chars values k t i) (descendants t m) ≡ []
-  covered-none ws g a m r l h c =
-      silent-none t (leadsTo chars values k t i) m r
-      (λ o. omega (arith, covered-range (t .nodes) (t .nodeCount) ws (g .ranges) a m r l h c .closed o, c .here))
-      (covered-silent ws g a m r l c) h l
+  -- Nothing at or below a node that is covered does.
+  pub covered-none : (ws : List ℕ) → Quiet chars values k t i ws → (w : ℕ) → w < t .nodeCount → Covered ws w
+      → passing (leadsTo chars values k t i) (descendants t w) ≡ []
+  covered-none ws g w l c =
+      silent-none t (leadsTo chars values k t i) w (toldEnd ws (w / 256))
+      (λ o. omega (arith, g .ranges .closed (w / 256) (omega arith) (c .block) (λ z. omega (arith, c .high, z)) o, c .low))
+      (λ x p q. g .silent (w / 256) (omega arith) (c .block) .none x (omega (arith, c .low)) q) (c .high) l
 
   -- One more range.
   pub quiet-more : (ws : List ℕ) → Quiet chars values k t i ws → (w end : ℕ) → Range (t .nodes) (t .nodeCount) w end
       → Silent chars values k t i w end → (ws′ : List ℕ) → Hushed ws w end ws′ → Quiet chars values k t i ws′
   quiet-more ws g w end r s ws′ h = record {
-    ranges = record { range = λ b l m z. range b l m z (h .words b) };
+    ranges = record { range = λ b l m z o. range b l m z o (h .words b); closed = λ b l m z o. closed b l m z o (h .words b) };
     silent = λ b l m. silent b l m (h .words b);
   }
     where
-      range : (b : ℕ) → 256 * b < t .nodeCount → b < 4096 → (getD ws′ b 0 ≡ 0 → ⊥)
-          → (getD ws′ b 0 ≡ getD ws b 0) ⊎ ((toldFirst ws′ b ≡ w) × (toldEnd ws′ b ≡ end))
-          → Range (t .nodes) (t .nodeCount) (toldFirst ws′ b) (toldEnd ws′ b)
-      range b l m z (inl e) =
-          subst (λ (x : ℕ). Range (t .nodes) (t .nodeCount) (256 * b + x / 2097152) (x % 2097152)) (sym e) (g .ranges .range b l m (λ o. z (e ∙ o)))
-      range b l m z (inr e) = rw (e .0, e .1) r
+      ns : List ℕ
+      ns = t .nodes
 
-      silent : (b : ℕ) → 256 * b < t .nodeCount → b < 4096 → (getD ws′ b 0 ≡ getD ws b 0) ⊎ ((toldFirst ws′ b ≡ w) × (toldEnd ws′ b ≡ end))
+      n : ℕ
+      n = t .nodeCount
+
+      range : (b : ℕ) → 256 * b < n → b < 4096 → (getD ws′ b 0 ≡ 0 → ⊥) → getD ws′ b 0 < 536870912
+          → (getD ws′ b 0 ≡ getD ws b 0) ⊎ Told ws′ w end b → Range ns n (toldFirst ws′ b) (toldEnd ws′ b)
+      range b l m z o (inl e) =
+          subst (λ (x : ℕ). Range ns n (256 * b + x / 2097152 % 256) (x % 2097152)) (sym e)
+          (g .ranges .range b l m (λ y. z (e ∙ y)) (omega (arith, e)))
+      range b l m z o (inr e) = rw (e .own o, e .last) r
+
+      closed : (b : ℕ) → 256 * b < n → b < 4096 → (getD ws′ b 0 ≡ 0 → ⊥) → toldEnd ws′ b < n
+          → (getD ws′ b 0 ≡ getD ws b 0) ⊎ Told ws′ w end b → word ns (toldEnd ws′ b) 1 ≤ toldFirst ws′ b
+      closed b l m z o (inl e) =
+          subst (λ (x : ℕ). word ns (x % 2097152) 1 ≤ 256 * b + x / 2097152 % 256) (sym e)
+          (g .ranges .closed b l m (λ y. z (e ∙ y)) (omega (arith, e)))
+      closed b l m z o (inr e) =
+          omega (arith, ap (λ (x : ℕ). word ns x 1) (e .last), r .closed (omega (arith, e .last)), e .low)
+
+      silent : (b : ℕ) → 256 * b < n → b < 4096 → (getD ws′ b 0 ≡ getD ws b 0) ⊎ Told ws′ w end b
           → Silent chars values k t i (toldFirst ws′ b) (toldEnd ws′ b)
       silent b l m (inl e) =
-          subst (λ (x : ℕ). Silent chars values k t i (256 * b + x / 2097152) (x % 2097152)) (sym e) (g .silent b l m)
-      silent b l m (inr e) = rw (e .0, e .1) s
+          subst (λ (x : ℕ). Silent chars values k t i (256 * b + x / 2097152 % 256) (x % 2097152)) (sym e) (g .silent b l m)
+      silent b l m (inr e) = record { none = λ x p q. s .none x (omega (arith, e .low)) (omega (arith, e .last)) }
 
 -- CUTS KEEP IT
 
@@ -165,23 +174,63 @@ forgotten-more ws b h = record { zero = λ x l. go x l (set-cases ws b 0 x) }
         at (no d) = e ∙ h .zero x (omega arith)
         at (yes d) = rw d (zero-set ws b)
 
--- A word tells another range.
-pub hushed-set : (ws : List ℕ) (b w end : ℕ) → b ≡ w / 256 → end < 2097152 → Hushed ws w end (set ws b (w % 256 * 2097152 + end))
-hushed-set ws b w end d l = record { words = λ x. go x (set-cases ws b (w % 256 * 2097152 + end) x) }
-  where
-    ws′ : List ℕ
-    ws′ = set ws b (w % 256 * 2097152 + end)
+-- Words that tell last parts of a range: none, one, and some behind others.
+pub spread-none : (ws : List ℕ) (a end : ℕ) → Spread ws a end ws
+spread-none ws a end = record { words = λ x. inl refl }
 
-    go : (x : ℕ) → (getD ws′ x 0 ≡ getD ws x 0) ⊎ ((x ≡ b) × (getD ws′ x 0 ≡ w % 256 * 2097152 + end))
-        → (getD ws′ x 0 ≡ getD ws x 0) ⊎ ((toldFirst ws′ x ≡ w) × (toldEnd ws′ x ≡ end))
+pub spread-one : (ws : List ℕ) (b end : ℕ) → Spread ws b end (set ws b (536870912 + end))
+spread-one ws b end = record { words = λ x. go x (set-cases ws b (536870912 + end) x) }
+  where
+    go : (x : ℕ) → (getD (set ws b (536870912 + end)) x 0 ≡ getD ws x 0) ⊎ ((x ≡ b) × (getD (set ws b (536870912 + end)) x 0 ≡ 536870912 + end))
+        → (getD (set ws b (536870912 + end)) x 0 ≡ getD ws x 0) ⊎ ((b ≤ x) × (getD (set ws b (536870912 + end)) x 0 ≡ 536870912 + end))
     go x (inl e) = inl e
-    go x (inr e) = inr (omega (arith, e .0, e .1, d), omega (arith, e .1))
+    go x (inr e) = inr (omega (arith, e .0), e .1)
+
+pub spread-more : (ws : List ℕ) (a end : ℕ) (us : List ℕ) → Spread ws a end us → (b : ℕ) → a ≤ b → (ws′ : List ℕ) → Spread us b end ws′
+    → Spread ws a end ws′
+spread-more ws a end us h b l ws′ k = record { words = λ x. go x (h .words x) (k .words x) }
+  where
+    go : (x : ℕ) → (getD us x 0 ≡ getD ws x 0) ⊎ ((a ≤ x) × (getD us x 0 ≡ 536870912 + end))
+        → (getD ws′ x 0 ≡ getD us x 0) ⊎ ((b ≤ x) × (getD ws′ x 0 ≡ 536870912 + end))
+        → (getD ws′ x 0 ≡ getD ws x 0) ⊎ ((a ≤ x) × (getD ws′ x 0 ≡ 536870912 + end))
+    go x (inl e) (inl f) = inl (f ∙ e)
+    go x (inr e) (inl f) = inr (e .0, f ∙ e .1)
+    go x e (inr f) = inr (omega (arith, f .0), f .1)
+
+-- A word tells another range, and those behind it last parts of that.
+pub hushed-spread : (ws : List ℕ) (b w end : ℕ) → b ≡ w / 256 → end < 2097152 → (ws′ : List ℕ)
+    → Spread (set ws b (w % 256 * 2097152 + end)) (b + 1) end ws′ → Hushed ws w end ws′
+hushed-spread ws b w end d l ws′ h = record { words = λ x. go x (set-cases ws b (w % 256 * 2097152 + end) x) (h .words x) }
+  where
+    us : List ℕ
+    us = set ws b (w % 256 * 2097152 + end)
+
+    go : (x : ℕ) → (getD us x 0 ≡ getD ws x 0) ⊎ ((x ≡ b) × (getD us x 0 ≡ w % 256 * 2097152 + end))
+        → (getD ws′ x 0 ≡ getD us x 0) ⊎ ((b + 1 ≤ x) × (getD ws′ x 0 ≡ 536870912 + end))
+        → (getD ws′ x 0 ≡ getD ws x 0) ⊎ Told ws′ w end x
+    go x (inl e) (inl f) = inl (f ∙ e)
+    go x (inr e) (inl f) = inr (record {
+      low = omega (arith, e .0, e .1, f, d);
+      last = omega (arith, e .1, f);
+      own = λ o. omega (arith, e .0, e .1, f, d);
+    })
+    go x e (inr f) = inr (record {
+      low = omega (arith, f .0, f .1, d);
+      last = omega (arith, f .1);
+      own = λ o. absurd (omega (arith, f .1));
+    })
 
 pub hushed-none : (ws : List ℕ) (w end : ℕ) → Hushed ws w end ws
 hushed-none ws w end = record { words = λ b. inl refl }
 
-pub covered-by : (ws : List ℕ) (a m b e : ℕ) → b ≡ m / 256 → b < 4096 → e ≡ getD ws b 0 → a ≤ 256 * (m / 256) + e / 2097152
-    → 256 * (m / 256) + e / 2097152 ≤ m → Covered ws a m (e % 2097152)
-covered-by ws a m b e d l g low here =
-    let f : e ≡ getD ws (m / 256) 0 = g ∙ ap (λ (x : ℕ). getD ws x 0) d in
-    record { block = omega (arith, d); low = omega (arith, f); here = omega (arith, f); last = ap (λ (x : ℕ). x % 2097152) f }
+-- WHAT A WORD TELLS
+
+module _ (ws : List ℕ) (m b e : ℕ) (d : b ≡ m / 256) (l : b < 4096) (g : e ≡ getD ws b 0) where
+  there : e ≡ getD ws (m / 256) 0
+  there = g ∙ ap (λ (x : ℕ). getD ws x 0) d
+
+  pub covered-by : e / 2097152 % 256 ≤ m % 256 → m < e % 2097152 → Covered ws m
+  covered-by p q = record { block = omega (arith, d); low = omega (arith, there); high = omega (arith, there) }
+
+  pub remembered-by : e / 2097152 ≡ m % 256 → Remembered ws m (e % 2097152)
+  remembered-by p = record { block = omega (arith, d); own = omega (arith, there); last = ap (λ (x : ℕ). x % 2097152) there }

@@ -85,16 +85,18 @@ pub record Range (ns : List ℕ) (n q end : ℕ) : Type 0 where
   pub under : (y : ℕ) → q < y → y < end → q < word ns y 1
   pub closed : end < n → word ns end 1 ≤ q
 
--- Of every 256 nodes at most one is remembered, in one word: 0 is none. The node, and the node behind the last one below it.
+-- What the word of each 256 nodes tells, 0 is nothing: a node of these, and the node behind the last one below it. Where the word is
+-- 536870912 or more, the first of the 256 nodes stands for a node before it: the range is the last part of that one's.
 abbrev pub toldFirst : List ℕ → ℕ → ℕ
-toldFirst ws b = 256 * b + getD ws b 0 / 2097152
+toldFirst ws b = 256 * b + getD ws b 0 / 2097152 % 256
 
 abbrev pub toldEnd : List ℕ → ℕ → ℕ
 toldEnd ws b = getD ws b 0 % 2097152
 
--- The words tell ranges.
+-- The words tell ranges, or their last parts.
 pub record Ranges (ns : List ℕ) (n : ℕ) (ws : List ℕ) : Type 0 where
-  pub range : (b : ℕ) → 256 * b < n → b < 4096 → (getD ws b 0 ≡ 0 → ⊥) → Range ns n (toldFirst ws b) (toldEnd ws b)
+  pub range : (b : ℕ) → 256 * b < n → b < 4096 → (getD ws b 0 ≡ 0 → ⊥) → getD ws b 0 < 536870912 → Range ns n (toldFirst ws b) (toldEnd ws b)
+  pub closed : (b : ℕ) → 256 * b < n → b < 4096 → (getD ws b 0 ≡ 0 → ⊥) → toldEnd ws b < n → word ns (toldEnd ws b) 1 ≤ toldFirst ws b
 
 -- None of the nodes from q up to the node `end` leads to the element i in pass k.
 pub record Silent (chars : List ℕ) (values : List Value) (k : ℕ) (t : Tree) (i q end : ℕ) : Type 0 where
@@ -105,16 +107,31 @@ pub record Quiet (chars : List ℕ) (values : List Value) (k : ℕ) (t : Tree) (
   pub ranges : Ranges (t .nodes) (t .nodeCount) ws
   pub silent : (b : ℕ) → 256 * b < t .nodeCount → b < 4096 → Silent chars values k t i (toldFirst ws b) (toldEnd ws b)
 
--- Node m stands in the range that the word of its block tells, which starts at node a or later, and r is the node behind it.
-pub record Covered (ws : List ℕ) (a m r : ℕ) : Type 0 where
+-- Node w stands in the range that the word of its 256 nodes tells.
+pub record Covered (ws : List ℕ) (w : ℕ) : Type 0 where
+  pub block : w / 256 < 4096
+  pub low : toldFirst ws (w / 256) ≤ w
+  pub high : w < toldEnd ws (w / 256)
+
+-- Node m is the one that the word of its 256 nodes tells, and r is the node behind the last one below it.
+pub record Remembered (ws : List ℕ) (m r : ℕ) : Type 0 where
   pub block : m / 256 < 4096
-  pub low : a ≤ toldFirst ws (m / 256)
-  pub here : toldFirst ws (m / 256) ≤ m
+  pub own : getD ws (m / 256) 0 / 2097152 ≡ m % 256
   pub last : r ≡ toldEnd ws (m / 256)
 
--- Each word is as it was, or tells the range from w up to the node `end`.
+-- The word of the b-th 256 nodes tells the range from w up to the node `end`, or a last part of it.
+pub record Told (ws : List ℕ) (w end b : ℕ) : Type 0 where
+  pub low : w ≤ toldFirst ws b
+  pub last : toldEnd ws b ≡ end
+  pub own : getD ws b 0 < 536870912 → toldFirst ws b ≡ w
+
+-- Each word is as it was, or tells that.
 pub record Hushed (ws : List ℕ) (w end : ℕ) (ws′ : List ℕ) : Type 0 where
-  pub words : (b : ℕ) → (getD ws′ b 0 ≡ getD ws b 0) ⊎ ((toldFirst ws′ b ≡ w) × (toldEnd ws′ b ≡ end))
+  pub words : (b : ℕ) → (getD ws′ b 0 ≡ getD ws b 0) ⊎ Told ws′ w end b
+
+-- Each word is as it was, or is one from a on, and tells a last part of a range up to the node `end`.
+pub record Spread (ws : List ℕ) (a end : ℕ) (ws′ : List ℕ) : Type 0 where
+  pub words : (b : ℕ) → (getD ws′ b 0 ≡ getD ws b 0) ⊎ ((a ≤ b) × (getD ws′ b 0 ≡ 536870912 + end))
 
 -- The search goes on from node m at node r, at `end` at the latest: none of the nodes between them leads back.
 pub record Onward (chars : List ℕ) (values : List Value) (k : ℕ) (t : Tree) (i m end r : ℕ) : Type 0 where

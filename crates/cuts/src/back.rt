@@ -48,7 +48,7 @@ fn cut_back(
     }
 }
 
-// Node m, cut where its link leads back, or the remembered range that starts at it passed over. Answers the node to go on at.
+// Node m, cut where its link leads back, or passed over with the nodes below it, if it is remembered. Answers the node to go on at.
 fn cut_next(
     script: &[u8],
     characters: &[u8],
@@ -73,7 +73,7 @@ fn cut_next(
     ensures onward { λ r. ⌜ Onward (now (characters .entry)) (valuesOf (now (script .entry)) (now (characters .entry))) (aim .pass)
         (seenOf (now (nodes .entry)) (now (attributes .entry)) counts) (aim .element) m end r ⌝ }
 {
-    let n = behind_quiet(quiet, m, m);
+    let n = behind_quiet(quiet, m);
     if n == m {
         cut_back(
             script,

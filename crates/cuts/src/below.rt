@@ -38,7 +38,7 @@ pub fn behind_target(quiet: &[u32; 4096], nodes: &[u32], count: u32, w: u32) -> 
         if node_word(nodes, j, word::PARENT) <= w {
             return j;
         }
-        let n = behind_quiet(quiet, j, j);
+        let n = behind_quiet(quiet, j);
         if n > j {
             j = n;
         } else {

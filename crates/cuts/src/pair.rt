@@ -5,9 +5,9 @@ use crate::below::behind_below;
 use crate::below::first_with;
 use crate::cut::cut;
 use crate::key::key_of;
-use crate::quiet::behind_quiet;
 use crate::quiet::forget;
 use crate::quiet::hush;
+use crate::quiet::is_quiet;
 use targets::mark::mark_of;
 use targets::name::cut_name;
 use tree::Counts;
@@ -47,7 +47,7 @@ fn cut_target(
     ensures quiet { λ _. ⌜ Quiet (now (characters .entry)) (valuesOf (now (script .entry)) (now (characters .entry))) (aim .pass)
         (seenOf (now (nodes .entry)) (now (attributes .exit)) counts) (aim .element) (now (quiet .exit)) ⌝ }
 {
-    if behind_quiet(quiet, 0, w) > w {
+    if is_quiet(quiet, w) {
         return;
     }
     let end = cut_below(

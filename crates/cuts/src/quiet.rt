@@ -1,10 +1,12 @@
 // Nodes below which nothing leads back to the element that is aimed at, so that none of them is looked through twice. Of every 256 nodes
 // one is remembered, with the node behind the last one below it, in one word: how far behind the first of the 256 it stands, times
-// 2097152, and the node behind. A word that is 0 remembers none.
+// 2097152, and the node behind. In place of how far, 256 says that they, up to the node behind, stand below a node before them. A word
+// that is 0 remembers none.
 ghost use mathlib.Core.Path.{_≡_};
-ghost use Prim.Native.Nat.{ℕ, _+_, _*_, _/_, _<_, _≤_};
+ghost use mathlib.Core.Bool.{true};
+ghost use Prim.Native.Nat.{ℕ, _*_, _<_, _≤_};
 ghost use lib.ListN.{getD};
-ghost use Rattle.cuts.specs.Seen.{Covered, Hushed};
+ghost use Rattle.cuts.specs.Seen.{Covered, Remembered, Hushed, Spread};
 
 fn wide(n: u32) -> usize
     ensures { λ r. ⌜ (r ≡ n) × (r < 4294967296) ⌝ }
@@ -35,28 +37,31 @@ pub fn forget(quiet: &mut [u32; 4096], count: u32)
     }
 }
 
-// The node that word e of block b remembers.
-fn told_first(b: u32, e: u32) -> u32
-    requires { ⌜ b < 4096 ⌝ }
-    ensures { λ r. ⌜ r ≡ 256 * b + e / 2097152 ⌝ }
+// Is it known that nothing at or below node w leads back?
+pub fn is_quiet(quiet: &[u32; 4096], w: u32) -> bool
+    ensures { λ r. ⌜ (r ≡ true → Covered (now (quiet .entry)) w) ⌝ }
 {
-    256 * b + e / 2097152
+    let b = wide(w / 256);
+    if b >= 4096 {
+        return false;
+    }
+    let e = quiet[b];
+    if w % 256 < e / 2097152 % 256 {
+        return false;
+    }
+    w < e % 2097152
 }
 
-// The node behind the remembered range in which node m stands, if the range starts at the node `low` or later; m where there is none.
-pub fn behind_quiet(quiet: &[u32; 4096], low: u32, m: u32) -> u32
-    ensures { λ r. ⌜ (m ≤ r) × (m < r → Covered (now (quiet .entry)) low m r) ⌝ }
+// The node behind the last one below node m, if m is remembered; m if not.
+pub fn behind_quiet(quiet: &[u32; 4096], m: u32) -> u32
+    ensures { λ r. ⌜ (m ≤ r) × (m < r → Remembered (now (quiet .entry)) m r) ⌝ }
 {
     let b = wide(m / 256);
     if b >= 4096 {
         return m;
     }
     let e = quiet[b];
-    let q = told_first(m / 256, e);
-    if q < low {
-        return m;
-    }
-    if m < q {
+    if e / 2097152 != m % 256 {
         return m;
     }
     let end = e % 2097152;
@@ -66,8 +71,31 @@ pub fn behind_quiet(quiet: &[u32; 4096], low: u32, m: u32) -> u32
     end
 }
 
-// The range from node w up to the node `end` is remembered, if a word holds it; not where the remembered one ends behind it: then this
-// one ends before that starts, and has few nodes.
+// Word b tells that its nodes, up to the node `end`, stand below a node before them; not where what is remembered ends behind `end`.
+fn cover(quiet: &mut [u32; 4096], b: usize, end: u32)
+    requires { ⌜ (b < 4096) × (end < 2097152) ⌝ }
+    ensures { λ _. ⌜ Spread (now (quiet .entry)) b end (now (quiet .exit)) ⌝ }
+{
+    if quiet[b] % 2097152 <= end {
+        quiet[b] = 536870912 + end;
+    }
+}
+
+// The words from word a on, of nodes before the node `end`.
+fn spread(quiet: &mut [u32; 4096], a: usize, end: u32)
+    requires { ⌜ end < 2097152 ⌝ }
+    ensures { λ _. ⌜ Spread (now (quiet .entry)) a end (now (quiet .exit)) ⌝ }
+{
+    let last = blocks(end);
+    let mut b = a;
+    while b < last {
+        cover(quiet, b, end);
+        b += 1;
+    }
+}
+
+// Node w is remembered, with `end` behind the last node below it, if a word holds it; not where what is remembered ends behind `end`: that
+// starts behind the nodes below w, and these are few.
 pub fn hush(quiet: &mut [u32; 4096], w: u32, end: u32)
     ensures { λ _. ⌜ Hushed (now (quiet .entry)) w end (now (quiet .exit)) ⌝ }
 {
@@ -82,4 +110,5 @@ pub fn hush(quiet: &mut [u32; 4096], w: u32, end: u32)
         return;
     }
     quiet[b] = w % 256 * 2097152 + end;
+    spread(quiet, b + 1, end);
 }

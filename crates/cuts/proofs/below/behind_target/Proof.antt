@@ -2,7 +2,7 @@ use native.Mathlib.Omega.{arith}
 use borrow.Author.Needs.{needs}
 use Prim.Native.Nat.{_-_}
 use Rattle.cuts.proofs.Descending.{Passed, passed-first, passed-more, passed-range, passed-stop, passed-all}
-use Rattle.cuts.proofs.Quieting.{covered-first}
+use Rattle.cuts.proofs.Quieting.{remembered-range}
 use Rattle.cuts.proofs.below.behind_target.Statement.{statement}
 use Rattle.cuts.proofs.below.behind_target.Tie as tie
 use Rattle.cuts.proofs.below.behind_target.Reads as reads
@@ -45,7 +45,7 @@ loop-again : tie.Need-loop-again Inv-loop μ-loop
 loop-again c =
     passed-range _ _ _ _ (c .before .before .before .before .before .loop .inv)
     (omega (arith, c .before .before .before .node-word .ensures, c .before .before .if1 .left)) _
-    (covered-first _ _ _ (c .before .before .before .before .before .before .before .pre .1) _ _
+    (remembered-range _ _ _ (c .before .before .before .before .before .before .before .pre .1) _ _
     (c .before .before .before .before .loop-test .taken) (c .if2 .taken) (c .before .behind-quiet .ensures .1 (c .if2 .taken)))
 
 -- src/below.rt:45:13

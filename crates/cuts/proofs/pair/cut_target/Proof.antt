@@ -6,21 +6,20 @@ use Rattle.cuts.proofs.pair.cut_target.Tie as tie
 use Rattle.cuts.proofs.pair.cut_target.Reads as reads
 use Rattle.cuts.proofs.pair.cut_target.Lts as lts
 use Rattle.cuts.proofs.back.cut_below.Reads as cut-below-reads
-use Rattle.cuts.proofs.quiet.behind_quiet.Reads as behind-quiet-reads
 use Rattle.cuts.proofs.quiet.hush.Reads as hush-reads
+use Rattle.cuts.proofs.quiet.is_quiet.Reads as is-quiet-reads
 
 -- src/pair.rt:50:8
-behind-quiet-requires : tie.Need-behind-quiet-requires
-behind-quiet-requires c κs = search needs
+is-quiet-requires : tie.Need-is-quiet-requires
+is-quiet-requires c κs = search needs
 
 -- src/pair.rt:51:9
 returns : tie.Need-returns
 returns c = (
   covered-kept _ _ _ _ _ _ _ (c .before .before .before .before .before .before .before .args .aim)
       (c .before .before .before .before .before .before .before .pre .0) _
-      (c .before .before .before .before .before .before .before .pre .1 .1 .0) _ _ _
-      (c .before .before .before .before .before .before .before .pre .1 .1 .1) (c .if1 .taken)
-      (c .before .behind-quiet .ensures .1 (c .if1 .taken)),
+      (c .before .before .before .before .before .before .before .pre .1 .1 .0) _
+      (c .before .before .before .before .before .before .before .pre .1 .1 .1) (c .before .is-quiet .ensures (c .if1 .taken)),
   c .before .before .before .before .before .before .before .pre .1 .1 .0,
 )
 
@@ -52,4 +51,4 @@ returns-2 c = (
 pub cut-target-spec : {M : Type 1} → statement M
 cut-target-spec =
     tie.close
-    (tie.spec behind-quiet-requires returns cut-below-requires hush-requires same-length returns-2)
+    (tie.spec is-quiet-requires returns cut-below-requires hush-requires same-length returns-2)
