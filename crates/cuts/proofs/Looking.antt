@@ -58,7 +58,8 @@ module _ (script chars ns es : List ℕ) (c : Counts) (aim : Aim) (m end : ℕ) 
     onward-range r p q e = record {
       low = p;
       high = e;
-      none = λ x y z. remembered-silent chars values (aim .pass) (seenOf ns es c) (aim .element) ws g m n (omega arith) k x (omega arith) (omega arith);
+      none = λ x y z. remembered-silent chars values (aim .pass) (seenOf ns es c) (aim .element) ws g m n (omega arith) k x
+          (omega arith) (omega arith);
     }
 
 -- THE LOOP
@@ -125,7 +126,8 @@ module _ (script chars marks heads ns : List ℕ) (c : Counts) (aim : Aim) (w en
             (passing (leadsTo chars vs (aim .pass) u (aim .element)) (upFrom r (end - r)))) e
             ∙ sym (ap (cutNodes chars vs (aim .pass) next)
             (passing-over (leadsTo chars vs (aim .pass) next (aim .element)) end (r - (m + 1)) (m + 1) (omega (arith, o .low, o .high))
-            (λ x a b. back-still (length chars) chars vs bare (aim .pass) (aim .element) other t g m x (λ n. o .none x (omega arith) (omega (arith, z))))
+            (λ x a b. back-still (length chars) chars vs bare (aim .pass) (aim .element) other t g m x
+            (λ n. o .none x (omega arith) (omega (arith, z))))
             ∙ ap (λ (x : ℕ). passing (leadsTo chars vs (aim .pass) next (aim .element)) (upFrom x (end - x))) z))
             ∙ sym (back-turn (length chars) chars vs bare (aim .pass) (aim .element) other t g m (end - (m + 1)))
             ∙ ap (λ (xs : List ℕ). cutNodes chars vs (aim .pass) t (passing (leadsTo chars vs (aim .pass) t (aim .element)) xs))

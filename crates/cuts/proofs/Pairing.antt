@@ -55,7 +55,8 @@ mark-low chars values k t m = go (linkOf chars values (passKind k) t (cutName k)
     go : (o : Option Part) → given o (λ v. markFor chars t (v .bytes)) (λ u. 0) ≤ t .nodeCount + 1
     go none = omega arith
     go (some v) =
-        at _ (last-most chars t (v .bytes) (t .nodeCount)) (eqb (lastWithId chars t (v .bytes) (t .nodeCount)) 0) (eqb (length (v .bytes)) 0)
+        at _ (last-most chars t (v .bytes) (t .nodeCount)) (eqb (lastWithId chars t (v .bytes) (t .nodeCount)) 0)
+        (eqb (length (v .bytes)) 0)
 
 module _ (script chars ns es : List ℕ) (c : Counts) (aim : Aim) (w : Aimed chars (seenOf ns es c) aim) (m : ℕ) where
   abbrev values : List Value
@@ -202,8 +203,8 @@ unled-nodes chars values k f l t i h j = rw (never j) (go (eqb (targetOf chars v
 
 -- THE LOOP
 
--- In the middle of the nodes from `first` up to the node `end`: j is next, the words tell ranges of nodes that do not lead back, and what is still to do
--- leaves what all of it leaves.
+-- In the middle of the nodes from `first` up to the node `end`: j is next, the words tell ranges of nodes that do not lead back, and
+-- what is still to do leaves what all of it leaves.
 pub record Pairs (script chars marks heads ns : List ℕ) (c : Counts) (aim : Aim) (first end : ℕ) (es₀ es ws : List ℕ) (j : ℕ) : Type 0 where
   pub cuttable : Cuttable script chars marks heads ns es c (aim .pass)
   pub aimed : Aimed chars (seenOf ns es c) aim

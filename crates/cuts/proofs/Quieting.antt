@@ -17,7 +17,8 @@ use Rattle.model.specs.Repair.{upFrom, belowFrom, descendants, cutName, cutAt, 
 use Rattle.model.specs.Theorems.Kept.{Tidy}
 use Rattle.model.specs.Theorems.Agree.{set-cases}
 use Rattle.model.specs.Theorems.GoingOn.{passing, leadsTo, cutsAlong}
-use Rattle.cuts.specs.Seen.{cutBack, cutNodes, Range, toldFirst, toldEnd, Ranges, Silent, Quiet, Covered, Remembered, Told, Hushed, Spread}
+use Rattle.cuts.specs.Seen.{cutBack, cutNodes, Range, toldFirst, toldEnd, Ranges, Silent, Quiet}
+use Rattle.cuts.specs.Seen.{Covered, Remembered, Told, Hushed, Spread}
 use Rattle.cuts.proofs.Turning.{cut-tidy, cut-leads}
 
 -- WHAT IS SILENT GIVES NOTHING
@@ -114,7 +115,8 @@ module _ (chars : List ℕ) (values : List Value) (k : ℕ) (t : Tree) (i : ℕ)
 
 -- CUTS KEEP IT
 
-module _ (size : ℕ) (chars : List ℕ) (values : List Value) (bare : readingsOf 0 values ≡ []) (k i : ℕ) (other : cutName k ≡ AId.Id → ⊥) where
+module _ (size : ℕ) (chars : List ℕ) (values : List Value) (bare : readingsOf 0 values ≡ []) (k i : ℕ)
+    (other : cutName k ≡ AId.Id → ⊥) where
   cut-quiet : (t : Tree) → Tidy size t → (ws : List ℕ) → Quiet chars values k t i ws → (m : ℕ)
       → Quiet chars values k (applyCut t (cutAt t k m)) i ws
   unfolding applyCut cutAt setNone
@@ -181,8 +183,11 @@ spread-none ws a end = record { words = λ x. inl refl }
 pub spread-one : (ws : List ℕ) (b end : ℕ) → Spread ws b end (set ws b (536870912 + end))
 spread-one ws b end = record { words = λ x. go x (set-cases ws b (536870912 + end) x) }
   where
-    go : (x : ℕ) → (getD (set ws b (536870912 + end)) x 0 ≡ getD ws x 0) ⊎ ((x ≡ b) × (getD (set ws b (536870912 + end)) x 0 ≡ 536870912 + end))
-        → (getD (set ws b (536870912 + end)) x 0 ≡ getD ws x 0) ⊎ ((b ≤ x) × (getD (set ws b (536870912 + end)) x 0 ≡ 536870912 + end))
+    us : List ℕ
+    us = set ws b (536870912 + end)
+
+    go : (x : ℕ) → (getD us x 0 ≡ getD ws x 0) ⊎ ((x ≡ b) × (getD us x 0 ≡ 536870912 + end))
+        → (getD us x 0 ≡ getD ws x 0) ⊎ ((b ≤ x) × (getD us x 0 ≡ 536870912 + end))
     go x (inl e) = inl e
     go x (inr e) = inr (omega (arith, e .0), e .1)
 

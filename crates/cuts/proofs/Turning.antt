@@ -85,14 +85,16 @@ never-led chars values k f l t i z m = go (leb k 2) z
     at (some v) e = sym (last-absent chars t i e (v .bytes) (t .nodeCount))
 
     unled : (b : Bool) → eqb (attributeId t i AId.Id) 0 ≡ b → pick b (λ v. 0) (λ v. i + 2) ≡ 0
-        → eqb (given (linkOf chars values (linkKind (cutName k)) t (cutName k) m) (λ v. elementById chars t (v .bytes)) (λ u. 0)) (i + 1) ≡ false
+        → eqb (given (linkOf chars values (linkKind (cutName k)) t (cutName k) m) (λ v. elementById chars t (v .bytes)) (λ u. 0)) (i + 1)
+        ≡ false
     unled true e q = at (linkOf chars values (linkKind (cutName k)) t (cutName k) m) (eqb-true (attributeId t i AId.Id) 0 e)
     unled false e q = absurd (omega (arith, q))
 
     go : (b : Bool)
         → pick b (λ u. pick (eqb n 0) (λ v. 1) (λ v. n + 1)) (λ u. pick (eqb (attributeId t i AId.Id) 0) (λ v. 0) (λ v. i + 2)) ≡ 0
         → pick b (λ u. paintsWith chars values t (cutName k) (elementId chars t i) m)
-        (λ u. eqb (given (linkOf chars values (linkKind (cutName k)) t (cutName k) m) (λ v. elementById chars t (v .bytes)) (λ u. 0)) (i + 1))
+        (λ u. eqb (given (linkOf chars values (linkKind (cutName k)) t (cutName k) m) (λ v. elementById chars t (v .bytes)) (λ u. 0))
+        (i + 1))
         ≡ false
     go true e = absurd (any (eqb n 0) e)
     go false e = unled (eqb (attributeId t i AId.Id) 0) refl e
@@ -168,11 +170,13 @@ module _ (size : ℕ) (chars : List ℕ) (values : List Value) (bare : readingsO
       → keyOf chars p (setNone (attributeId t m (cutName k) - 1) t) i ≡ keyOf chars p t i
   unfolding keyOf
   key-kept h p i =
-      let w : ℕ = elementById chars (setNone (attributeId t m (cutName k) - 1) t) (elementId chars (setNone (attributeId t m (cutName k) - 1) t) i) in
+      let u : Tree = setNone (attributeId t m (cutName k) - 1) t in
+      let w : ℕ = elementById chars u (elementId chars u i) in
       ap (λ (j : ℕ). pick (leb p 2) (λ u. pick (eqb w 0) (λ v. 1) (λ v. w + 1)) (λ u. pick (eqb j 0) (λ v. 0) (λ v. i + 2)))
       (cuts.id-same (attributeId t m (cutName k) - 1) t i AId.Id)
-      ∙ ap (λ (x : ℕ). pick (leb p 2) (λ u. pick (eqb x 0) (λ v. 1) (λ v. x + 1)) (λ u. pick (eqb (attributeId t i AId.Id) 0) (λ v. 0) (λ v. i + 2)))
-      (by-id-kept size chars values bare t g m (cutName k) h other (elementId chars (setNone (attributeId t m (cutName k) - 1) t) i)
+      ∙ ap (λ (x : ℕ). pick (leb p 2) (λ u. pick (eqb x 0) (λ v. 1) (λ v. x + 1))
+      (λ u. pick (eqb (attributeId t i AId.Id) 0) (λ v. 0) (λ v. i + 2)))
+      (by-id-kept size chars values bare t g m (cutName k) h other (elementId chars u i)
       ∙ ap (elementById chars t) (element-id-kept size chars values bare t g m (cutName k) h other i))
 
   pub cut-aimed : (aim : Aim) → Aimed chars t aim → Aimed chars (applyCut t (cutAt t k m)) aim

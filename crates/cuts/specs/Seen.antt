@@ -95,7 +95,8 @@ toldEnd ws b = getD ws b 0 % 2097152
 
 -- The words tell ranges, or their last parts.
 pub record Ranges (ns : List ℕ) (n : ℕ) (ws : List ℕ) : Type 0 where
-  pub range : (b : ℕ) → 256 * b < n → b < 4096 → (getD ws b 0 ≡ 0 → ⊥) → getD ws b 0 < 536870912 → Range ns n (toldFirst ws b) (toldEnd ws b)
+  pub range : (b : ℕ) → 256 * b < n → b < 4096 → (getD ws b 0 ≡ 0 → ⊥) → getD ws b 0 < 536870912
+      → Range ns n (toldFirst ws b) (toldEnd ws b)
   pub closed : (b : ℕ) → 256 * b < n → b < 4096 → (getD ws b 0 ≡ 0 → ⊥) → toldEnd ws b < n → word ns (toldEnd ws b) 1 ≤ toldFirst ws b
 
 -- None of the nodes from q up to the node `end` leads to the element i in pass k.

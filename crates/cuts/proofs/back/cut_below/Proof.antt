@@ -1,13 +1,8 @@
 use native.Mathlib.Omega.{arith}
-use borrow.Author.Needs.{needs}
 use Prim.Native.Nat.{_-_}
 use Rattle.cuts.proofs.Looking.{Cutting, cutting-first, cutting-turn, cutting-done, cutting-silent}
 use Rattle.cuts.proofs.back.cut_below.Statement.{statement}
 use Rattle.cuts.proofs.back.cut_below.Tie as tie
-use Rattle.cuts.proofs.back.cut_below.Reads as reads
-use Rattle.cuts.proofs.back.cut_below.Lts as lts
-use Rattle.cuts.proofs.back.cut_next.Reads as cut-next-reads
-use Rattle.cuts.proofs.below.behind_target.Reads as behind-target-reads
 
 abbrev Inv-loop : tie.InvT-loop
 Inv-loop script characters marks heads quiet nodes attributes₀ counts aim w end m₀ attributes m =
@@ -16,7 +11,6 @@ Inv-loop script characters marks heads quiet nodes attributes₀ counts aim w en
 abbrev μ-loop : tie.MeasureT-loop
 μ-loop script characters marks heads quiet nodes attributes₀ counts aim w end m₀ attributes m = end - m
 
--- src/back.rt:125:9
 behind-target-requires : tie.Need-behind-target-requires Inv-loop μ-loop
 behind-target-requires c κs = (
   (
@@ -26,14 +20,12 @@ behind-target-requires c κs = (
   c .before .before .before .before .pre .1 .1 .0 .ranges,
 )
 
--- src/back.rt:127:5
 loop-holds : tie.Need-loop-holds Inv-loop μ-loop
 loop-holds c =
     cutting-first _ _ _ _ _ _ _ _ _ _ _ (c .before .before .before .before .before .pre .0)
     (c .before .before .before .before .before .pre .1 .0) (c .before .before .before .before .before .pre .1 .1 .0)
     (c .behind-target .ensures)
 
--- src/back.rt:128:9
 cut-next-requires : tie.Need-cut-next-requires Inv-loop μ-loop
 cut-next-requires c κs = (
   c .before .before .loop .inv .cuttable,
@@ -43,21 +35,17 @@ cut-next-requires c κs = (
   ),
 )
 
--- src/back.rt:127:5
 loop-less : tie.Need-loop-less Inv-loop μ-loop
 loop-less c = omega (arith, c .before .before .cut-next .ensures .1 .low, c .before .before .before .before .loop-test .taken)
 
--- src/back.rt:127:5
 loop-again : tie.Need-loop-again Inv-loop μ-loop
 loop-again c =
     cutting-turn _ _ _ _ _ _ _ _ _ _ _ _ _ (c .before .before .before .before .before .loop .inv) _
     (c .before .before .cut-next .ensures .0) _ (c .before .before .cut-next .ensures .1)
 
--- src/back.rt:98:1
 same-length : tie.Need-same-length Inv-loop μ-loop
 same-length c = c .before .loop .inv .long
 
--- src/back.rt:98:1
 returns : tie.Need-returns Inv-loop μ-loop
 returns c = (
   cutting-done _ _ _ _ _ _ _ _ _ _ _ _ _ (c .before .loop .inv) (c .loop-test .left)

@@ -3,16 +3,10 @@ use borrow.Author.Needs.{needs}
 use Rattle.cuts.proofs.Looking.{onward-one, range-kept, onward-range}
 use Rattle.cuts.proofs.back.cut_next.Statement.{statement}
 use Rattle.cuts.proofs.back.cut_next.Tie as tie
-use Rattle.cuts.proofs.back.cut_next.Reads as reads
-use Rattle.cuts.proofs.back.cut_next.Lts as lts
-use Rattle.cuts.proofs.back.cut_back.Reads as cut-back-reads
-use Rattle.cuts.proofs.quiet.behind_quiet.Reads as behind-quiet-reads
 
--- src/back.rt:76:9
 behind-quiet-requires : tie.Need-behind-quiet-requires
 behind-quiet-requires c κs = search needs
 
--- src/back.rt:78:9
 cut-back-requires : tie.Need-cut-back-requires
 cut-back-requires c κs = (
   c .before .before .before .before .before .before .before .pre .0,
@@ -26,15 +20,12 @@ cut-back-requires c κs = (
   ),
 )
 
--- src/back.rt:89:16
 add-result : tie.Need-add-result
 add-result c = omega (arith, c .before .before .before .before .before .before .before .before .before .before .pre .1 .1 .1 .0)
 
--- src/back.rt:89:9
 same-length : tie.Need-same-length
 same-length c = search needs
 
--- src/back.rt:89:9
 returns : tie.Need-returns
 returns c = (
   c .before .before .cut-back .ensures,
@@ -44,7 +35,6 @@ returns c = (
       (c .before .before .before .before .before .before .before .before .before .before .pre .1 .1 .1 .0),
 )
 
--- src/back.rt:92:9
 returns-2 : tie.Need-returns-2
 returns-2 c = (
   range-kept _ _ _ _ (c .before .before .before .before .before .before .before .args .counts)
@@ -68,7 +58,6 @@ returns-2 c = (
       (omega (arith, c .if2 .taken)),
 )
 
--- src/back.rt:52:1
 returns-3 : tie.Need-returns-3
 returns-3 c = (
   range-kept _ _ _ _ (c .before .before .before .before .before .before .before .args .counts)

@@ -5,10 +5,6 @@ use Rattle.cuts.proofs.Descending.{Passed, passed-first, passed-more, p
 use Rattle.cuts.proofs.Quieting.{remembered-range}
 use Rattle.cuts.proofs.below.behind_target.Statement.{statement}
 use Rattle.cuts.proofs.below.behind_target.Tie as tie
-use Rattle.cuts.proofs.below.behind_target.Reads as reads
-use Rattle.cuts.proofs.below.behind_target.Lts as lts
-use Rattle.cuts.proofs.quiet.behind_quiet.Reads as behind-quiet-reads
-use Rattle.tree.proofs.word.node_word.Reads as node-word-reads
 
 abbrev Inv-loop : tie.InvT-loop
 Inv-loop quiet nodes count w j₀ j = Passed nodes count w j
@@ -16,31 +12,24 @@ Inv-loop quiet nodes count w j₀ j = Passed nodes count w j
 abbrev μ-loop : tie.MeasureT-loop
 μ-loop quiet nodes count w j₀ j = count - j
 
--- src/below.rt:36:17
 add-j : tie.Need-add-j Inv-loop μ-loop
 add-j c = omega arith
 
--- src/below.rt:37:5
 loop-holds : tie.Need-loop-holds Inv-loop μ-loop
 loop-holds c = passed-first _ _ _ (c .before .pre .0 .0)
 
--- src/below.rt:38:12
 node-word-requires : tie.Need-node-word-requires Inv-loop μ-loop
 node-word-requires c κs = omega (arith, c .before .before .before .pre .0 .1, c .loop-test .taken)
 
--- src/below.rt:39:13
 returns : tie.Need-returns Inv-loop μ-loop
 returns c = passed-stop _ _ _ _ (c .before .before .before .loop .inv) (omega (arith, c .before .node-word .ensures, c .if1 .taken))
 
--- src/below.rt:41:13
 behind-quiet-requires : tie.Need-behind-quiet-requires Inv-loop μ-loop
 behind-quiet-requires c κs = search needs
 
--- src/below.rt:37:5
 loop-less : tie.Need-loop-less Inv-loop μ-loop
 loop-less c = omega (arith, c .if2 .taken, c .before .before .before .before .loop-test .taken)
 
--- src/below.rt:37:5
 loop-again : tie.Need-loop-again Inv-loop μ-loop
 loop-again c =
     passed-range _ _ _ _ (c .before .before .before .before .before .loop .inv)
@@ -48,22 +37,18 @@ loop-again c =
     (remembered-range _ _ _ (c .before .before .before .before .before .before .before .pre .1) _ _
     (c .before .before .before .before .loop-test .taken) (c .if2 .taken) (c .before .behind-quiet .ensures .1 (c .if2 .taken)))
 
--- src/below.rt:45:13
 add-j-2 : tie.Need-add-j-2 Inv-loop μ-loop
 add-j-2 c = search needs
 
--- src/below.rt:37:5
 loop-less-2 : tie.Need-loop-less-2 Inv-loop μ-loop
 loop-less-2 c = search needs
 
--- src/below.rt:37:5
 loop-again-2 : tie.Need-loop-again-2 Inv-loop μ-loop
 loop-again-2 c =
     passed-more _ _ _ _ (c .before .before .before .before .before .loop .inv)
     (c .before .before .before .before .loop-test .taken)
     (omega (arith, c .before .before .before .node-word .ensures, c .before .before .if1 .left))
 
--- src/below.rt:31:1
 returns-2 : tie.Need-returns-2 Inv-loop μ-loop
 returns-2 c = passed-all _ _ _ _ (c .before .loop .inv) (c .loop-test .left)
 

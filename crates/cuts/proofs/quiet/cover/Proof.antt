@@ -2,34 +2,25 @@ use Rattle.cuts.proofs.Quieting.{spread-none, spread-one}
 use borrow.Author.Needs.{needs}
 use Rattle.cuts.proofs.quiet.cover.Statement.{statement}
 use Rattle.cuts.proofs.quiet.cover.Tie as tie
-use Rattle.cuts.proofs.quiet.cover.Reads as reads
-use Rattle.cuts.proofs.quiet.cover.Lts as lts
 
--- src/quiet.rt:79:8
 mul-if1 : tie.Need-mul-if1
 mul-if1 c = search needs
 
--- src/quiet.rt:79:8
 element-copy-out-if1 : tie.Need-element-copy-out-if1
 element-copy-out-if1 c = search needs
 
--- src/quiet.rt:80:20
 add-quiet : tie.Need-add-quiet
 add-quiet c = search needs
 
--- src/quiet.rt:80:9
 mul-quiet : tie.Need-mul-quiet
 mul-quiet c = search needs
 
--- src/quiet.rt:80:9
 element-write-quiet : tie.Need-element-write-quiet
 element-write-quiet c = search needs
 
--- src/quiet.rt:75:1
 returns : tie.Need-returns
 returns c = spread-one _ _ _
 
--- src/quiet.rt:75:1
 returns-2 : tie.Need-returns-2
 returns-2 c = spread-none _ _ _
 

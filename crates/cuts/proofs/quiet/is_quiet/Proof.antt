@@ -6,31 +6,22 @@ use Rattle.cuts.proofs.Quieting.{covered-by}
 use borrow.Author.Needs.{needs}
 use Rattle.cuts.proofs.quiet.is_quiet.Statement.{statement}
 use Rattle.cuts.proofs.quiet.is_quiet.Tie as tie
-use Rattle.cuts.proofs.quiet.is_quiet.Reads as reads
-use Rattle.cuts.proofs.quiet.is_quiet.Lts as lts
-use Rattle.cuts.proofs.quiet.wide.Reads as wide-reads
 
--- src/quiet.rt:44:9
 wide-requires : tie.Need-wide-requires
 wide-requires c κs = search needs
 
--- src/quiet.rt:46:9
 returns : tie.Need-returns
 returns c = λ e. absurd (false≢true e)
 
--- src/quiet.rt:48:13
 mul-e : tie.Need-mul-e
 mul-e c = search needs
 
--- src/quiet.rt:48:13
 element-copy-out-e : tie.Need-element-copy-out-e
 element-copy-out-e c = search needs
 
--- src/quiet.rt:50:9
 returns-2 : tie.Need-returns-2
 returns-2 c = λ e. absurd (false≢true e)
 
--- src/quiet.rt:41:1
 returns-3 : tie.Need-returns-3
 returns-3 c =
     λ e. covered-by _ _ _ _ (c .before .before .before .wide .ensures .0) (omega (arith, c .before .before .if1 .left)) refl

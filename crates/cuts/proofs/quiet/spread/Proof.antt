@@ -5,10 +5,6 @@ use Rattle.cuts.specs.Seen.{Spread}
 use Rattle.cuts.proofs.Quieting.{spread-none, spread-more}
 use Rattle.cuts.proofs.quiet.spread.Statement.{statement}
 use Rattle.cuts.proofs.quiet.spread.Tie as tie
-use Rattle.cuts.proofs.quiet.spread.Reads as reads
-use Rattle.cuts.proofs.quiet.spread.Lts as lts
-use Rattle.cuts.proofs.quiet.blocks.Reads as blocks-reads
-use Rattle.cuts.proofs.quiet.cover.Reads as cover-reads
 
 abbrev Inv-loop : tie.InvT-loop
 Inv-loop quiet₀ a end last b₀ quiet b = (a ≤ b) × Spread quiet₀ a end quiet
@@ -16,30 +12,24 @@ Inv-loop quiet₀ a end last b₀ quiet b = (a ≤ b) × Spread quiet₀ a end q
 abbrev μ-loop : tie.MeasureT-loop
 μ-loop quiet₀ a end last b₀ quiet b = last - b
 
--- src/quiet.rt:89:9
 blocks-requires : tie.Need-blocks-requires Inv-loop μ-loop
 blocks-requires c κs = search needs
 
--- src/quiet.rt:91:5
 loop-holds : tie.Need-loop-holds Inv-loop μ-loop
 loop-holds c = (omega arith, spread-none _ _ _)
 
--- src/quiet.rt:92:9
 cover-requires : tie.Need-cover-requires Inv-loop μ-loop
 cover-requires c κs = (
   omega (arith, c .before .loop-test .taken, c .before .before .before .blocks2 .ensures .0),
   c .before .before .before .before .pre,
 )
 
--- src/quiet.rt:93:9
 add-b : tie.Need-add-b Inv-loop μ-loop
 add-b c = search needs
 
--- src/quiet.rt:91:5
 loop-less : tie.Need-loop-less Inv-loop μ-loop
 loop-less c = search needs
 
--- src/quiet.rt:91:5
 loop-again : tie.Need-loop-again Inv-loop μ-loop
 loop-again c = (
   omega (arith, c .before .before .before .loop .inv .0),
@@ -47,7 +37,6 @@ loop-again c = (
       (c .cover .ensures),
 )
 
--- src/quiet.rt:85:1
 returns : tie.Need-returns Inv-loop μ-loop
 returns c = c .before .loop .inv .1
 
