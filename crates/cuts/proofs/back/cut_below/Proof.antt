@@ -12,28 +12,19 @@ abbrev μ-loop : tie.MeasureT-loop
 μ-loop script characters marks heads quiet nodes attributes₀ counts aim w end m₀ attributes m = end - m
 
 behind-target-requires : tie.Need-behind-target-requires Inv-loop μ-loop
-behind-target-requires c κs = (
-  (
-    c .before .before .before .before .pre .1 .1 .1,
-    omega (arith, c .before .before .before .before .pre .0 .mendable .tidy .kept .fits .nodes),
-  ),
-  c .before .before .before .before .pre .1 .1 .0 .ranges,
-)
+behind-target-requires c κs =
+    let pre = c .before .before .before .before .pre in
+    ((pre .1 .1 .1, omega (arith, pre .0 .mendable .tidy .kept .fits .nodes)), pre .1 .1 .0 .ranges)
 
 loop-holds : tie.Need-loop-holds Inv-loop μ-loop
 loop-holds c =
-    cutting-first _ _ _ _ _ _ _ _ _ _ _ (c .before .before .before .before .before .pre .0)
-    (c .before .before .before .before .before .pre .1 .0) (c .before .before .before .before .before .pre .1 .1 .0)
-    (c .behind-target .ensures)
+    let pre = c .before .before .before .before .before .pre in
+    cutting-first _ _ _ _ _ _ _ _ _ _ _ (pre .0) (pre .1 .0) (pre .1 .1 .0) (c .behind-target .ensures)
 
 cut-next-requires : tie.Need-cut-next-requires Inv-loop μ-loop
-cut-next-requires c κs = (
-  c .before .before .loop .inv .cuttable,
-  (
-    c .before .before .loop .inv .aimed,
-    (c .before .before .loop .inv .quiet, (c .before .loop-test .taken, c .before .before .loop .inv .inside)),
-  ),
-)
+cut-next-requires c κs =
+    let loop-inv = c .before .before .loop .inv in
+    (loop-inv .cuttable, (loop-inv .aimed, (loop-inv .quiet, (c .before .loop-test .taken, loop-inv .inside))))
 
 loop-less : tie.Need-loop-less Inv-loop μ-loop
 loop-less c = omega (arith, c .before .before .cut-next .ensures .1 .low, c .before .before .before .before .loop-test .taken)

@@ -18,21 +18,15 @@ forget-requires c κs = search needs
 
 loop-holds : tie.Need-loop-holds Inv-loop μ-loop
 loop-holds c =
-    pairs-start _ _ _ _ _ _ _ _ _ _ _ (c .before .before .before .before .before .before .pre .0)
-    (c .before .before .before .before .before .before .pre .1 .0) (c .before .before .before .before .before .before .pre .1 .1)
-    (c .forget .ensures)
+    let pre = c .before .before .before .before .before .before .pre in
+    pairs-start _ _ _ _ _ _ _ _ _ _ _ (pre .0) (pre .1 .0) (pre .1 .1) (c .forget .ensures)
 
 cut-pair-requires : tie.Need-cut-pair-requires Inv-loop μ-loop
-cut-pair-requires c κs = (
-  c .before .before .before .loop .inv .cuttable,
-  (
-    c .before .before .before .loop .inv .aimed,
-    (
-      c .before .before .before .loop .inv .quiet,
-      omega (arith, c .before .before .before .loop .inv .inside, c .before .before .loop-test .taken),
-    ),
-  ),
-)
+cut-pair-requires c κs =
+    let loop-inv = c .before .before .before .loop .inv in (
+      loop-inv .cuttable,
+      (loop-inv .aimed, (loop-inv .quiet, omega (arith, loop-inv .inside, c .before .before .loop-test .taken))),
+    )
 
 add-j : tie.Need-add-j Inv-loop μ-loop
 add-j c = search needs

@@ -8,13 +8,12 @@ is-quiet-requires : tie.Need-is-quiet-requires
 is-quiet-requires c κs = search needs
 
 returns : tie.Need-returns
-returns c = (
-  covered-kept _ _ _ _ _ _ _ (c .before .before .before .before .before .before .before .args .aim)
-      (c .before .before .before .before .before .before .before .pre .0) _
-      (c .before .before .before .before .before .before .before .pre .1 .1 .0) _
-      (c .before .before .before .before .before .before .before .pre .1 .1 .1) (c .before .is-quiet .ensures (c .if1 .taken)),
-  c .before .before .before .before .before .before .before .pre .1 .1 .0,
-)
+returns c =
+    let pre = c .before .before .before .before .before .before .before .pre in (
+      covered-kept _ _ _ _ _ _ _ (c .before .before .before .before .before .before .before .args .aim) (pre .0) _ (pre .1 .1 .0) _
+          (pre .1 .1 .1) (c .before .is-quiet .ensures (c .if1 .taken)),
+      pre .1 .1 .0,
+    )
 
 cut-below-requires : tie.Need-cut-below-requires
 cut-below-requires c κs = search needs
@@ -26,16 +25,15 @@ same-length : tie.Need-same-length
 same-length c = search needs
 
 returns-2 : tie.Need-returns-2
-returns-2 c = (
-  c .before .before .before .before .cut-below .ensures .0,
-  quiet-more _ _ _ _ _ _ (quiet-on _ _ _ _ _ _ _
-      (c .before .before .before .before .before .before .before .before .before .before .before .before .before .before .args .aim)
-      (c .before .before .before .before .before .before .before .before .before .before .before .before .before .before .pre .0) _
-      (c .before .before .before .before .before .before .before .before .before .before .before .before .before .before .pre .1 .1
-      .0) _ _ (c .before .before .before .before .cut-below .ensures .0)) _ _
-      (c .before .before .before .before .cut-below .ensures .1 .0) (c .before .before .before .before .cut-below .ensures .1 .1) _
-      (c .hush .ensures),
-)
+returns-2 c =
+    let cut-below-ensures = c .before .before .before .before .cut-below .ensures in
+    let at-args = c .before .before .before .before .before .before .before .before .before .before .before .before .before
+    .before in (
+      cut-below-ensures .0,
+      quiet-more _ _ _ _ _ _
+          (quiet-on _ _ _ _ _ _ _ (at-args .args .aim) (at-args .pre .0) _ (at-args .pre .1 .1 .0) _ _ (cut-below-ensures .0)) _ _
+          (cut-below-ensures .1 .0) (cut-below-ensures .1 .1) _ (c .hush .ensures),
+    )
 
 pub cut-target-spec : {M : Type 1} → statement M
 cut-target-spec =

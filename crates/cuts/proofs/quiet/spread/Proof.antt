@@ -31,11 +31,9 @@ loop-less : tie.Need-loop-less Inv-loop μ-loop
 loop-less c = search needs
 
 loop-again : tie.Need-loop-again Inv-loop μ-loop
-loop-again c = (
-  omega (arith, c .before .before .before .loop .inv .0),
-  spread-more _ _ _ _ (c .before .before .before .loop .inv .1) _ (c .before .before .before .loop .inv .0) _
-      (c .cover .ensures),
-)
+loop-again c =
+    let loop-inv = c .before .before .before .loop .inv in
+    (omega (arith, loop-inv .0), spread-more _ _ _ _ (loop-inv .1) _ (loop-inv .0) _ (c .cover .ensures))
 
 returns : tie.Need-returns Inv-loop μ-loop
 returns c = c .before .loop .inv .1
