@@ -85,8 +85,8 @@ pub record Range (ns : List ℕ) (n q end : ℕ) : Type 0 where
   pub under : (y : ℕ) → q < y → y < end → q < word ns y 1
   pub closed : end < n → word ns end 1 ≤ q
 
--- What the word of each 256 nodes tells, 0 is nothing: a node of these, and the node behind the last one below it. Where the word is
--- 536870912 or more, the first of the 256 nodes stands for a node before it: the range is the last part of that one's.
+-- What the word of block b, of 256 nodes, tells if it is not 0: a node, and the node behind the last one below it. Where the word is
+-- 256 * 2097152 or more, the node is the first of the block, and this is the last part of the range of a node before it.
 abbrev pub toldFirst : List ℕ → ℕ → ℕ
 toldFirst ws b = 256 * b + getD ws b 0 / 2097152 % 256
 
@@ -108,29 +108,29 @@ pub record Quiet (chars : List ℕ) (values : List Value) (k : ℕ) (t : Tree) (
   pub ranges : Ranges (t .nodes) (t .nodeCount) ws
   pub silent : (b : ℕ) → 256 * b < t .nodeCount → b < 4096 → Silent chars values k t i (toldFirst ws b) (toldEnd ws b)
 
--- Node w stands in the range that the word of its 256 nodes tells.
+-- Node w stands in the range that the word of its block tells.
 pub record Covered (ws : List ℕ) (w : ℕ) : Type 0 where
   pub block : w / 256 < 4096
   pub low : toldFirst ws (w / 256) ≤ w
   pub high : w < toldEnd ws (w / 256)
 
--- Node m is the one that the word of its 256 nodes tells, and r is the node behind the last one below it.
+-- Node m is the one that the word of its block tells, and r is the node behind the last one below it.
 pub record Remembered (ws : List ℕ) (m r : ℕ) : Type 0 where
   pub block : m / 256 < 4096
   pub own : getD ws (m / 256) 0 / 2097152 ≡ m % 256
   pub last : r ≡ toldEnd ws (m / 256)
 
--- The word of the b-th 256 nodes tells the range from w up to the node `end`, or a last part of it.
+-- The word of block b tells the range from w up to the node `end`, or a last part of it.
 pub record Told (ws : List ℕ) (w end b : ℕ) : Type 0 where
   pub low : w ≤ toldFirst ws b
   pub last : toldEnd ws b ≡ end
   pub own : getD ws b 0 < 536870912 → toldFirst ws b ≡ w
 
--- Each word is as it was, or tells that.
+-- Each word is as it was, or tells this range.
 pub record Hushed (ws : List ℕ) (w end : ℕ) (ws′ : List ℕ) : Type 0 where
   pub words : (b : ℕ) → (getD ws′ b 0 ≡ getD ws b 0) ⊎ Told ws′ w end b
 
--- Each word is as it was, or is one from a on, and tells a last part of a range up to the node `end`.
+-- Each word is as it was, or is that of a block from a on and tells the last part of a range up to the node `end`.
 pub record Spread (ws : List ℕ) (a end : ℕ) (ws′ : List ℕ) : Type 0 where
   pub words : (b : ℕ) → (getD ws′ b 0 ≡ getD ws b 0) ⊎ ((a ≤ b) × (getD ws′ b 0 ≡ 536870912 + end))
 

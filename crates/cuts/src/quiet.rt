@@ -1,7 +1,7 @@
-// Nodes below which nothing leads back to the element that is aimed at, so that none of them is looked through twice. Of every 256 nodes
-// one is remembered, with the node behind the last one below it, in one word: how far behind the first of the 256 it stands, times
-// 2097152, and the node behind. In place of how far, 256 says that they, up to the node behind, stand below a node before them. A word
-// that is 0 remembers none.
+// Nodes below which nothing leads back to the element that is aimed at, so that none of them is looked through twice. Each block of 256
+// nodes has a word. 0 is nothing. Else one node of the block is remembered, with the node behind the last one below it: how far it stands
+// behind the first node of the block, times 2097152, and the node behind. With 256 for how far, the nodes from the first of the block up
+// to the node behind stand below a remembered node before the block.
 ghost use mathlib.Core.Path.{_≡_};
 ghost use mathlib.Core.Bool.{true};
 ghost use Prim.Native.Nat.{ℕ, _*_, _<_, _≤_};
@@ -71,7 +71,7 @@ pub fn behind_quiet(quiet: &[u32; 4096], m: u32) -> u32
     end
 }
 
-// Word b tells that its nodes, up to the node `end`, stand below a node before them; not where what is remembered ends behind `end`.
+// Block b, whose nodes up to the node `end` stand below a remembered node before it. A word that reaches further is kept.
 fn cover(quiet: &mut [u32; 4096], b: usize, end: u32)
     requires { ⌜ (b < 4096) × (end < 2097152) ⌝ }
     ensures { λ _. ⌜ Spread (now (quiet .entry)) b end (now (quiet .exit)) ⌝ }
@@ -81,7 +81,7 @@ fn cover(quiet: &mut [u32; 4096], b: usize, end: u32)
     }
 }
 
-// The words from word a on, of nodes before the node `end`.
+// The blocks from block a up to the one in which the node `end` stands.
 fn spread(quiet: &mut [u32; 4096], a: usize, end: u32)
     requires { ⌜ end < 2097152 ⌝ }
     ensures { λ _. ⌜ Spread (now (quiet .entry)) a end (now (quiet .exit)) ⌝ }
@@ -94,8 +94,8 @@ fn spread(quiet: &mut [u32; 4096], a: usize, end: u32)
     }
 }
 
-// Node w is remembered, with `end` behind the last node below it, if a word holds it; not where what is remembered ends behind `end`: that
-// starts behind the nodes below w, and these are few.
+// Node w is remembered, with `end` behind the last node below it, if a word holds that. A word that reaches further is kept: it is about a
+// node behind the nodes below w, and these are few.
 pub fn hush(quiet: &mut [u32; 4096], w: u32, end: u32)
     ensures { λ _. ⌜ Hushed (now (quiet .entry)) w end (now (quiet .exit)) ⌝ }
 {
