@@ -4,7 +4,7 @@ use crate::tables::clear;
 use crate::tables::first_is_svg;
 use crate::tables::refusal;
 use crate::tables::refuse;
-use memo::fill::any_link;
+use memo::link::may_link;
 use parse::node::parse_xml_node_children;
 use parse::state::counted;
 use repair::whole::repair;
@@ -164,7 +164,7 @@ fn fill(
         (then (parsed (plain (now (characters .entry))) (events (now (script .entry)) (now (characters .entry)))
         (treeOf (now (nodes .entry)) (now (attributes .entry)) (now (text .entry)) rootAlone)) tested)) ⌝ }
 {
-    if !any_link(script, characters) {
+    if !may_link(script) {
         return fill_alone(script, characters, nodes, attributes, text);
     }
     if script.len() < 16384 {

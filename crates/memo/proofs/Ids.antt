@@ -21,7 +21,6 @@ use Rattle.memo.specs.declared.plain.Asked.the-variants.{Has, HasNot}
 use Rattle.walk.specs.Values.{attributesIn, eventsAt, valueIn, ValueFit, Attributed}
 use Rattle.walk.specs.Nodes.{elementOf, nodeAt, Further}
 use Rattle.memo.specs.Plain.{Without, Tested}
-use Rattle.memo.specs.Table.{isLink, anyLink}
 use Rattle.walk.proofs.Walks.{ItemIs, item-told}
 use Rattle.walk.proofs.Along.{Along, at-item, over}
 
@@ -116,34 +115,3 @@ module _ (id : List ℕ) (v : List Event) (s chars : List ℕ) (from c : Cursor)
 
   pub further-without : (n : Cursor) → Without s chars id e n → Further s c n
   further-without n z = behind n z
-
--- LINKS
-
--- Is there a link? As a walk that counts no elements.
-abbrev pub linkIn : ℕ → List Event → Bool
-linkIn k xs = anyLink xs
-
-module _ (xs : List Event) where
-  pub link-here : (e : model.Element) → isLink (e .code) ≡ true → true ≡ anyLink (begin e ∷ xs)
-  unfolding anyLink
-  link-here e h = rw h refl
-
-  pub link-not : (e : model.Element) → isLink (e .code) ≡ false → anyLink (begin e ∷ xs) ≡ anyLink xs
-  unfolding anyLink
-  link-not e h = rw h refl
-
-  pub link-text : (a : model.Source) → anyLink (model.Event.text a ∷ xs) ≡ anyLink xs
-  unfolding anyLink
-  link-text a = refl
-
-  pub link-other : anyLink (model.Event.other ∷ xs) ≡ anyLink xs
-  unfolding anyLink
-  link-other = refl
-
-  pub link-close : anyLink (close ∷ xs) ≡ anyLink xs
-  unfolding anyLink
-  link-close = refl
-
-pub link-none : false ≡ anyLink []
-unfolding anyLink
-link-none = refl

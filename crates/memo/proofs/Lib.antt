@@ -1,4 +1,5 @@
 pub mod Ids
+pub mod Linking
 pub mod Parts
 pub mod Within
 pub mod Probing

@@ -4,8 +4,8 @@ use Prim.Native.Nat.{ℕ, zero, suc, _+_, _-_, _*_, _<_, _≤_}
 use mathlib.Core.Bool.{Bool, true, false}
 use mathlib.Core.List.{List, [], _∷_}
 use lib.Dec.{eqb}
-use lib.ListN.{length}
-use Rattle.model.specs.Base.{pick, sameBytes}
+use lib.ListN.{length, getD}
+use Rattle.model.specs.Base.{pick, or, sameBytes}
 use Rattle.model.specs.EId
 use Rattle.model.specs.Drawing as model
 use Rattle.model.specs.Drawing.{Event, begin, close, events, hasId, firstWithId}
@@ -93,12 +93,23 @@ freeFor slots key = firstFree (slotIn slots) (nextSlot (unit slots) (stepOf (uni
 abbrev pub isLink : ℕ → Bool
 isLink name = pick (eqb name EId.Use) (λ u. true) (λ u. eqb name EId.Tref)
 
-unfoldable pub anyLink : List Event → Bool
-anyLink [] = false
-anyLink (begin e ∷ xs) = pick (isLink (e .code)) (λ u. true) (λ u. anyLink xs)
-anyLink (model.Event.text a ∷ xs) = anyLink xs
-anyLink (model.Event.other ∷ xs) = anyLink xs
-anyLink (close ∷ xs) = anyLink xs
+-- Can a command that opens such an element begin with these two bytes?
+abbrev pub opensLink : ℕ → ℕ → Bool
+opensLink a b = pick (eqb a 1) (λ u. isLink b) (λ u. false)
+
+-- Can one begin at one of the first n bytes?
+unfoldable pub anyOpens : List ℕ → ℕ → Bool
+anyOpens script zero = false
+anyOpens script (suc n) = or (anyOpens script n) (opensLink (getD script n 0) (getD script (n + 1) 0))
+
+-- Can a drawing have such links? It has none where no two bytes of its script are the first two of such a command.
+abbrev pub mayLink : List ℕ → Bool
+mayLink script = anyOpens script (length script - 1)
+
+-- A bit.
+abbrev pub bitFor : Bool → ℕ
+bitFor true = 1
+bitFor false = 0
 
 -- THE ANSWERS OF THE CODE
 

@@ -1,5 +1,6 @@
 // The table of ids is filled: keys that links have are wanted, marks are set, and each element with a wanted id gets a slot.
 use super::key::key_of;
+use super::link::is_link;
 use super::plain::first_id;
 use super::words::PROBES;
 use super::words::has_room;
@@ -14,7 +15,6 @@ use super::words::start_of;
 use super::words::step_of;
 use super::words::want;
 use names::aid;
-use names::eid;
 use script::cursor::Cursor;
 use walk::node::Item;
 use walk::node::Opened;
@@ -28,11 +28,10 @@ ghost use mathlib.Core.Path.{_≡_};
 ghost use Prim.Native.Nat.{ℕ, _-_, _<_, _≤_};
 ghost use lib.ListN.{length, replicate};
 ghost use Rattle.model.specs.Check.{mostBytes};
-ghost use Rattle.model.specs.Drawing.{events};
 ghost use Rattle.script.specs.Step.{Fit};
 ghost use Rattle.walk.specs.Nodes.{nodeAt, Standing};
 ghost use Rattle.memo.specs.Words.{unit, slotCount, Apart};
-ghost use Rattle.memo.specs.Table.{isLink, anyLink, freeFor, Blank, Memo, IdEntered, Ready, Entered, Filling, Passed};
+ghost use Rattle.memo.specs.Table.{freeFor, Blank, Memo, IdEntered, Ready, Entered, Filling, Passed};
 
 const HREF: u8 = aid::HREF as u8;
 
@@ -261,16 +260,6 @@ fn want_own(script: &[u8], characters: &[u8], slots: &mut [u16], e: Opened)
     }
 }
 
-// Do elements with that name have links that are followed by ids?
-fn is_link(name: u8) -> bool
-    ensures { λ r. ⌜ r ≡ isLink name ⌝ }
-{
-    if name as u32 == eid::USE {
-        return true;
-    }
-    name as u32 == eid::TREF
-}
-
 // The later of two counts of elements: that of the element e if it has an id.
 fn if_named(script: &[u8], characters: &[u8], e: Opened, count: usize, last: usize) -> usize
     requires { ⌜ Standing (now script) e ⌝ }
@@ -317,36 +306,6 @@ fn want_links(script: &[u8], characters: &[u8], slots: &mut [u16]) -> usize
             }
             Item::End => {
                 return last;
-            }
-        }
-    }
-}
-
-// Has the drawing a link that is followed by an id?
-pub fn any_link(script: &[u8], characters: &[u8]) -> bool
-    requires { ⌜ length (now script) ≤ mostBytes ⌝ }
-    ensures { λ r. ⌜ r ≡ anyLink (events (now (script .entry)) (now (characters .entry))) ⌝ }
-{
-    let mut c = Cursor::start();
-    loop {
-        match next_item(script, characters, c) {
-            Item::Begin(e) => {
-                if is_link(e.name) {
-                    return true;
-                }
-                c = e.inside;
-            }
-            Item::Text(_, _, n) => {
-                c = n;
-            }
-            Item::Other(n) => {
-                c = n;
-            }
-            Item::Close(n) => {
-                c = n;
-            }
-            Item::End => {
-                return false;
             }
         }
     }

@@ -15,6 +15,7 @@ use Rattle.label.specs.Whole.{Underway}
 use Rattle.parse.specs.State.{placeIn, asideIn, copierIn, originIn, numberIn, Stood, CopiedBy}
 use Rattle.parse.specs.Met.{isCopied, nextOf, Opens, firstOf, levelBuilt, outcomeOf, restBuilt, restNodes, restAt}
 use Rattle.parse.specs.Met.{Reached, Inside, Copying, RestFit, MetNode, MetFirst, MetEnd, MetFit, PastFit}
+use Rattle.parse.specs.Unbuilt.{Skipped}
 use Rattle.parse.proofs.Finding.{met-first}
 use Rattle.parse.proofs.Following.{each-first, leave-next, lies-next, then-refused, then-done}
 
@@ -134,6 +135,29 @@ goes-none script chars left p s k t u h = record {
   behind = refl;
   more = omega arith;
   same = refl;
+}
+
+-- The loop goes on behind nodes of which nothing is built.
+pub goes-skipped : (script chars : List ℕ) (left origin p : ℕ) (from : Cursor) (n : ℕ) (all : Out Tree) (s k : List ℕ) (t : Tree) →
+    Goes script chars left origin p from n all s k t → (s′ : List ℕ) → Skipped script chars left s s′ →
+    Goes script chars left origin p from n all s′ k t
+goes-skipped script chars left origin p from n all s k t g s′ h = record {
+  long = h .long;
+  wide = g .wide;
+  by = h .by ∙ g .by;
+  under = record {
+    fit = h .fit;
+    all = g .under .all;
+    lies = h .lies (g .under .lies);
+    small = g .under .small;
+    tidy = g .under .tidy;
+    few = g .under .few;
+    below = g .under .below;
+  };
+  later = omega (arith, g .later, h .later);
+  behind = h .behind ∙ g .behind;
+  more = g .more;
+  same = h .same origin p t ∙ g .same;
 }
 
 module _ (script chars : List ℕ) (left origin p : ℕ) (from : Cursor) (n : ℕ) (all : Out Tree) (s k : List ℕ) (t : Tree)

@@ -5,4 +5,5 @@ pub mod Words
 pub mod Meeting
 pub mod Following
 pub mod Finding
+pub mod Skipping
 pub mod Cycling

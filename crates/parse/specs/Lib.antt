@@ -1,3 +1,4 @@
 pub mod Cycle
 pub mod State
 pub mod Met
+pub mod Unbuilt

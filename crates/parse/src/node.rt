@@ -4,11 +4,13 @@
 use crate::met::CHILDREN;
 use crate::met::COPY;
 use crate::met::END;
+use crate::met::PASSED;
 use crate::met::meet;
 use crate::name::two_less;
 use crate::state::aside;
 use crate::state::copy_by;
 use crate::state::stand;
+use crate::unbuilt::pass_unbuilt;
 use script::cursor::Cursor;
 use walk::node::past_element;
 ghost use mathlib.Core.Path.{_≡_};
@@ -156,7 +158,8 @@ fn parse_svg_use_element(
     0
 }
 
-// All nodes from the cursor to the close of the element that it stands in, below `parent`. The cursor is left behind the close.
+// All nodes from the cursor to the close of the element that it stands in, below `parent`. The cursor is left behind the close. Where one
+// is done at once, those behind it of which nothing is built are passed over together.
 pub fn parse_xml_node_children(
     place: &mut [usize; 10],
     taken: &mut [u32; 4],
@@ -215,6 +218,9 @@ pub fn parse_xml_node_children(
         );
         if r != 0 {
             return r;
+        }
+        if begun == PASSED {
+            pass_unbuilt(place, script, characters, left);
         }
     }
 }

@@ -13,7 +13,7 @@ use Rattle.memo.proofs.fill.want_links.Tie as tie
 use Rattle.memo.proofs.fill.want_links.Reads as reads
 use Rattle.memo.proofs.fill.want_links.Lts as lts
 use Rattle.memo.proofs.fill.if_named.Reads as if-named-reads
-use Rattle.memo.proofs.fill.is_link.Reads as is-link-reads
+use Rattle.memo.proofs.link.is_link.Reads as is-link-reads
 use Rattle.memo.proofs.fill.want_link.Reads as want-link-reads
 use Rattle.memo.proofs.fill.want_own.Reads as want-own-reads
 use Rattle.script.proofs.cursor.Cursor.start.Reads as start-reads

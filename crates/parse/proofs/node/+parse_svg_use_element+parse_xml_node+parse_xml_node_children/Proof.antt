@@ -9,7 +9,7 @@ use Rattle.parse.specs.State.{placeIn, originIn, countsIn}
 use Rattle.parse.specs.Met.{levelBuilt}
 use Rattle.parse.proofs.Cycling.{Goes, rest-inside, rest-copying, rest-children, rest-copied, rest-none, goes-none, ends-all}
 use Rattle.parse.proofs.Cycling.{ends-reached, first-rest, goes-refused, goes-further, goes-on, copy-under, copy-rest, copy-built}
-use Rattle.parse.proofs.Cycling.{copy-long, copy-done, copy-reached}
+use Rattle.parse.proofs.Cycling.{copy-long, copy-done, copy-reached, goes-skipped}
 use Prim.Native.Nat.{ℕ, _<_}
 use borrow.Fn.Kinds.{In}
 use borrow.Fn.PlainCycle.{Measures, is, falls, and}
@@ -25,6 +25,7 @@ use Rattle.parse.proofs.node.+parse_svg_use_element+parse_xml_node+pars
 use Rattle.parse.proofs.met.meet.Reads as meet-reads
 use Rattle.parse.proofs.name.two_less.Reads as two-less-reads
 use Rattle.parse.proofs.node.pass_over.Reads as pass-over-reads
+use Rattle.parse.proofs.unbuilt.pass_unbuilt.Reads as pass-unbuilt-reads
 use Rattle.parse.proofs.state.aside.Reads as aside-reads
 use Rattle.parse.proofs.state.copy_by.Reads as copy-by-reads
 use Rattle.parse.proofs.node.+parse_svg_use_element+parse_xml_node+parse_xml_node_children.{
@@ -573,6 +574,8 @@ parse-xml-node-children-loop-holds : (t : ℕ) → parse-xml-node-children-lts.N
   meet-reads.Learnt,
   parse-xml-node-below t,
   parse-xml-node.Post,
+  pass-unbuilt-reads.Asked,
+  pass-unbuilt-reads.Learnt,
 )
     (parse-xml-node-children-at t)
     parse-xml-node-children.Post
@@ -592,6 +595,8 @@ parse-xml-node-children-element-copy-out-index :
       meet-reads.Learnt,
       parse-xml-node-below t,
       parse-xml-node.Post,
+      pass-unbuilt-reads.Asked,
+      pass-unbuilt-reads.Learnt,
     )
     (parse-xml-node-children-at t)
     parse-xml-node-children.Post
@@ -604,6 +609,8 @@ parse-xml-node-children-meet-requires : (t : ℕ) → parse-xml-node-children-lt
   meet-reads.Learnt,
   parse-xml-node-below t,
   parse-xml-node.Post,
+  pass-unbuilt-reads.Asked,
+  pass-unbuilt-reads.Learnt,
 )
     (parse-xml-node-children-at t)
     parse-xml-node-children.Post
@@ -619,6 +626,8 @@ parse-xml-node-children-same-length : (t : ℕ) → parse-xml-node-children-lts.
   meet-reads.Learnt,
   parse-xml-node-below t,
   parse-xml-node.Post,
+  pass-unbuilt-reads.Asked,
+  pass-unbuilt-reads.Learnt,
 )
     (parse-xml-node-children-at t)
     parse-xml-node-children.Post
@@ -631,6 +640,8 @@ parse-xml-node-children-same-length-2 : (t : ℕ) → parse-xml-node-children-lt
   meet-reads.Learnt,
   parse-xml-node-below t,
   parse-xml-node.Post,
+  pass-unbuilt-reads.Asked,
+  pass-unbuilt-reads.Learnt,
 )
     (parse-xml-node-children-at t)
     parse-xml-node-children.Post
@@ -643,6 +654,8 @@ parse-xml-node-children-same-length-3 : (t : ℕ) → parse-xml-node-children-lt
   meet-reads.Learnt,
   parse-xml-node-below t,
   parse-xml-node.Post,
+  pass-unbuilt-reads.Asked,
+  pass-unbuilt-reads.Learnt,
 )
     (parse-xml-node-children-at t)
     parse-xml-node-children.Post
@@ -655,6 +668,8 @@ parse-xml-node-children-returns : (t : ℕ) → parse-xml-node-children-lts.Need
   meet-reads.Learnt,
   parse-xml-node-below t,
   parse-xml-node.Post,
+  pass-unbuilt-reads.Asked,
+  pass-unbuilt-reads.Learnt,
 )
     (parse-xml-node-children-at t)
     parse-xml-node-children.Post
@@ -674,6 +689,8 @@ parse-xml-node-children-parse-xml-node-requires :
       meet-reads.Learnt,
       parse-xml-node-below t,
       parse-xml-node.Post,
+      pass-unbuilt-reads.Asked,
+      pass-unbuilt-reads.Learnt,
     )
     (parse-xml-node-children-at t)
     parse-xml-node-children.Post
@@ -695,6 +712,8 @@ parse-xml-node-children-same-length-4 : (t : ℕ) → parse-xml-node-children-lt
   meet-reads.Learnt,
   parse-xml-node-below t,
   parse-xml-node.Post,
+  pass-unbuilt-reads.Asked,
+  pass-unbuilt-reads.Learnt,
 )
     (parse-xml-node-children-at t)
     parse-xml-node-children.Post
@@ -707,6 +726,8 @@ parse-xml-node-children-same-length-5 : (t : ℕ) → parse-xml-node-children-lt
   meet-reads.Learnt,
   parse-xml-node-below t,
   parse-xml-node.Post,
+  pass-unbuilt-reads.Asked,
+  pass-unbuilt-reads.Learnt,
 )
     (parse-xml-node-children-at t)
     parse-xml-node-children.Post
@@ -719,6 +740,8 @@ parse-xml-node-children-same-length-6 : (t : ℕ) → parse-xml-node-children-lt
   meet-reads.Learnt,
   parse-xml-node-below t,
   parse-xml-node.Post,
+  pass-unbuilt-reads.Asked,
+  pass-unbuilt-reads.Learnt,
 )
     (parse-xml-node-children-at t)
     parse-xml-node-children.Post
@@ -731,6 +754,8 @@ parse-xml-node-children-returns-2 : (t : ℕ) → parse-xml-node-children-lts.Ne
   meet-reads.Learnt,
   parse-xml-node-below t,
   parse-xml-node.Post,
+  pass-unbuilt-reads.Asked,
+  pass-unbuilt-reads.Learnt,
 )
     (parse-xml-node-children-at t)
     parse-xml-node-children.Post
@@ -745,41 +770,118 @@ parse-xml-node-children-returns-2 t c =
       λ z. absurd (c .if2 .taken z),
     )
 
+parse-xml-node-children-pass-unbuilt-requires : (t : ℕ) → parse-xml-node-children-lts.Need-pass-unbuilt-requires (
+  meet-reads.Asked,
+  meet-reads.Learnt,
+  parse-xml-node-below t,
+  parse-xml-node.Post,
+  pass-unbuilt-reads.Asked,
+  pass-unbuilt-reads.Learnt,
+)
+    (parse-xml-node-children-at t)
+    parse-xml-node-children.Post
+    parse-xml-node-children-Inv-loop
+    parse-xml-node-children-μ-loop
+parse-xml-node-children-pass-unbuilt-requires t c κs =
+    let at-if2 = c .before .before in
+    let parse-xml-node-ensures = at-if2 .before .before .before .before .before .before .before .parse-xml-node .ensures in
+    let at-if1 = at-if2 .before .before .before .before .before .before .before .before .before .before .before .before .before in
+    let at-meet = at-if1 .before .before .before .before .before .before .before in
+    let inv = at-meet .before .before .before .before .before .before .before .loop .inv .0 in
+    let on = goes-on _ _ _ _ _ _ _ _ _ _ _ inv _ _ _ _ (at-meet .meet .ensures) (at-if1 .if1 .left) _ _ _ _ (parse-xml-node-ensures .0)
+    (parse-xml-node-ensures .1) (at-if2 .if2 .left) in
+    (on .under .fit, on .long)
+
 parse-xml-node-children-loop-less : (t : ℕ) → parse-xml-node-children-lts.Need-loop-less (
   meet-reads.Asked,
   meet-reads.Learnt,
   parse-xml-node-below t,
   parse-xml-node.Post,
+  pass-unbuilt-reads.Asked,
+  pass-unbuilt-reads.Learnt,
 )
     (parse-xml-node-children-at t)
     parse-xml-node-children.Post
     parse-xml-node-children-Inv-loop
     parse-xml-node-children-μ-loop
 parse-xml-node-children-loop-less t c =
-    let parse-xml-node-ensures = c .before .before .before .before .before .before .before .parse-xml-node .ensures in
-    let at-if1 = c .before .before .before .before .before .before .before .before .before .before .before .before .before in
+    let at-if2 = c .before .before .before in
+    let parse-xml-node-ensures = at-if2 .before .before .before .before .before .before .before .parse-xml-node .ensures in
+    let at-if1 = at-if2 .before .before .before .before .before .before .before .before .before .before .before .before .before in
     let at-meet = at-if1 .before .before .before .before .before .before .before in
-    let w = goes-further _ _ _ _ _ _ _ _ _ _ _ (at-meet .before .before .before .before .before .before .before .loop .inv .0) _ _
-    _ _ (at-meet .meet .ensures) (at-if1 .if1 .left) _ _ _ _ (parse-xml-node-ensures .0) (parse-xml-node-ensures .1)
-    (c .if2 .left) in
-    omega (arith, w .0, w .1)
+    let inv = at-meet .before .before .before .before .before .before .before .loop .inv .0 in
+    let w = goes-further _ _ _ _ _ _ _ _ _ _ _ inv _ _ _ _ (at-meet .meet .ensures) (at-if1 .if1 .left) _ _ _ _ (parse-xml-node-ensures .0)
+    (parse-xml-node-ensures .1) (at-if2 .if2 .left) in
+    omega (arith, w .0, w .1, c .pass-unbuilt .ensures .later, c .pass-unbuilt .ensures .fit .at)
 
 parse-xml-node-children-loop-again : (t : ℕ) → parse-xml-node-children-lts.Need-loop-again (
   meet-reads.Asked,
   meet-reads.Learnt,
   parse-xml-node-below t,
   parse-xml-node.Post,
+  pass-unbuilt-reads.Asked,
+  pass-unbuilt-reads.Learnt,
 )
     (parse-xml-node-children-at t)
     parse-xml-node-children.Post
     parse-xml-node-children-Inv-loop
     parse-xml-node-children-μ-loop
 parse-xml-node-children-loop-again t c =
-    let parse-xml-node-ensures = c .before .before .before .before .before .before .before .parse-xml-node .ensures in
-    let at-if1 = c .before .before .before .before .before .before .before .before .before .before .before .before .before in
-    let at-meet = at-if1 .before .before .before .before .before .before .before in (
-      goes-on _ _ _ _ _ _ _ _ _ _ _ (at-meet .before .before .before .before .before .before .before .loop .inv .0) _ _ _ _
-          (at-meet .meet .ensures) (at-if1 .if1 .left) _ _ _ _ (parse-xml-node-ensures .0) (parse-xml-node-ensures .1) (c .if2 .left),
+    let at-if2 = c .before .before .before in
+    let parse-xml-node-ensures = at-if2 .before .before .before .before .before .before .before .parse-xml-node .ensures in
+    let at-if1 = at-if2 .before .before .before .before .before .before .before .before .before .before .before .before .before in
+    let at-meet = at-if1 .before .before .before .before .before .before .before in
+    let inv = at-meet .before .before .before .before .before .before .before .loop .inv .0 in
+    let on = goes-on _ _ _ _ _ _ _ _ _ _ _ inv _ _ _ _ (at-meet .meet .ensures) (at-if1 .if1 .left) _ _ _ _ (parse-xml-node-ensures .0)
+    (parse-xml-node-ensures .1) (at-if2 .if2 .left) in (
+      goes-skipped _ _ _ _ _ _ _ _ _ _ _ on _ (c .pass-unbuilt .ensures),
+      search needs,
+      search needs,
+      search needs,
+    )
+
+parse-xml-node-children-loop-less-2 : (t : ℕ) → parse-xml-node-children-lts.Need-loop-less-2 (
+  meet-reads.Asked,
+  meet-reads.Learnt,
+  parse-xml-node-below t,
+  parse-xml-node.Post,
+  pass-unbuilt-reads.Asked,
+  pass-unbuilt-reads.Learnt,
+)
+    (parse-xml-node-children-at t)
+    parse-xml-node-children.Post
+    parse-xml-node-children-Inv-loop
+    parse-xml-node-children-μ-loop
+parse-xml-node-children-loop-less-2 t c =
+    let at-if2 = c .before in
+    let parse-xml-node-ensures = at-if2 .before .before .before .before .before .before .before .parse-xml-node .ensures in
+    let at-if1 = at-if2 .before .before .before .before .before .before .before .before .before .before .before .before .before in
+    let at-meet = at-if1 .before .before .before .before .before .before .before in
+    let inv = at-meet .before .before .before .before .before .before .before .loop .inv .0 in
+    let w = goes-further _ _ _ _ _ _ _ _ _ _ _ inv _ _ _ _ (at-meet .meet .ensures) (at-if1 .if1 .left) _ _ _ _ (parse-xml-node-ensures .0)
+    (parse-xml-node-ensures .1) (at-if2 .if2 .left) in
+    omega (arith, w .0, w .1)
+
+parse-xml-node-children-loop-again-2 : (t : ℕ) → parse-xml-node-children-lts.Need-loop-again-2 (
+  meet-reads.Asked,
+  meet-reads.Learnt,
+  parse-xml-node-below t,
+  parse-xml-node.Post,
+  pass-unbuilt-reads.Asked,
+  pass-unbuilt-reads.Learnt,
+)
+    (parse-xml-node-children-at t)
+    parse-xml-node-children.Post
+    parse-xml-node-children-Inv-loop
+    parse-xml-node-children-μ-loop
+parse-xml-node-children-loop-again-2 t c =
+    let at-if2 = c .before in
+    let parse-xml-node-ensures = at-if2 .before .before .before .before .before .before .before .parse-xml-node .ensures in
+    let at-if1 = at-if2 .before .before .before .before .before .before .before .before .before .before .before .before .before in
+    let at-meet = at-if1 .before .before .before .before .before .before .before in
+    let inv = at-meet .before .before .before .before .before .before .before .loop .inv .0 in (
+      goes-on _ _ _ _ _ _ _ _ _ _ _ inv _ _ _ _ (at-meet .meet .ensures) (at-if1 .if1 .left) _ _ _ _ (parse-xml-node-ensures .0)
+          (parse-xml-node-ensures .1) (at-if2 .if2 .left),
       search needs,
       search needs,
       search needs,
@@ -845,8 +947,14 @@ pub +parse-svg-use-element+parse-xml-node+parse-xml-node-children-spec : {M : Ty
     (parse-xml-node-same-length-6 t)
     (parse-xml-node-returns-2 t)
     (parse-xml-node-returns-3 t))
-    λ t. parse-xml-node-children-lts.spec
-    (meet-reads.Asked, meet-reads.Learnt, parse-xml-node-below t, parse-xml-node.Post)
+    λ t. parse-xml-node-children-lts.spec (
+      meet-reads.Asked,
+      meet-reads.Learnt,
+      parse-xml-node-below t,
+      parse-xml-node.Post,
+      pass-unbuilt-reads.Asked,
+      pass-unbuilt-reads.Learnt,
+    )
     (parse-xml-node-children-at t)
     parse-xml-node-children.Post
     parse-xml-node-children-Inv-loop
@@ -863,5 +971,8 @@ pub +parse-svg-use-element+parse-xml-node+parse-xml-node-children-spec : {M : Ty
     (parse-xml-node-children-same-length-5 t)
     (parse-xml-node-children-same-length-6 t)
     (parse-xml-node-children-returns-2 t)
+    (parse-xml-node-children-pass-unbuilt-requires t)
     (parse-xml-node-children-loop-less t)
     (parse-xml-node-children-loop-again t)
+    (parse-xml-node-children-loop-less-2 t)
+    (parse-xml-node-children-loop-again-2 t)

@@ -1,9 +1,9 @@
 use borrow.Author.Tests.{eq-eqb, ne-eqb}
 use mathlib.Core.Path.{refl}
-use Rattle.memo.proofs.fill.is_link.Statement.{statement}
-use Rattle.memo.proofs.fill.is_link.Tie as tie
-use Rattle.memo.proofs.fill.is_link.Reads as reads
-use Rattle.memo.proofs.fill.is_link.Lts as lts
+use Rattle.memo.proofs.link.is_link.Statement.{statement}
+use Rattle.memo.proofs.link.is_link.Tie as tie
+use Rattle.memo.proofs.link.is_link.Reads as reads
+use Rattle.memo.proofs.link.is_link.Lts as lts
 
 -- src/fill.rt:216:9
 returns : tie.Need-returns
