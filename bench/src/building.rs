@@ -249,6 +249,16 @@ pub fn write_lines() {
     }
 }
 
+/// Builds of the drawings whose names have this in them, the last into tables of just their size: for a profiler.
+pub fn build_named(part: &str) {
+    let hurtful = drawings::HURTFUL.map(|(name, make, usual, _)| (name, make(usual)));
+    for (name, d) in drawings::large(Size(1 << 20)).into_iter().chain(hurtful).filter(|(name, _)| name.contains(part)) {
+        let (mut tables, nodes) = exact(&d).expect("a drawing to measure is built");
+        let _ = black_box(library::plain::build(&d.script, &d.characters, tables.lent()));
+        println!("{name}: {nodes} nodes");
+    }
+}
+
 /// Drawings of SVG files, as host/examples/scripts.rs writes them: the sum of their times, and the files that are slower than the Rust.
 pub fn files_table(file: &str) {
     let content = std::fs::read_to_string(file).expect("a file of lines");

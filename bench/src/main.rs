@@ -260,6 +260,9 @@ fn main() {
         if let Some(("files", files)) = wanted.split_first().map(|(w, f)| (w.as_str(), f)) {
             return files.iter().for_each(|f| building::files_table(f));
         }
+        if let Some(("named", parts)) = wanted.split_first().map(|(w, f)| (w.as_str(), f)) {
+            return parts.iter().for_each(|part| building::build_named(part));
+        }
         if wanted == ["lines"] {
             return building::write_lines();
         }
