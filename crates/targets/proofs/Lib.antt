@@ -3,3 +3,4 @@ pub mod Likes
 pub mod Marks
 pub mod Passes
 pub mod Resolving
+pub mod Recalling

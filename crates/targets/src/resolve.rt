@@ -1,10 +1,14 @@
 // The marks of all links of a pass are found and stored.
 use crate::mark::find_mark;
 use crate::name::cut_name;
+use crate::recent::keep_recent;
+use crate::recent::twin_of;
 use ids::chain::set_next;
 use script::cursor::Cursor;
 use tree::Counts;
 use tree::read::attribute_id;
+use tree::word;
+use tree::word::entry_word;
 ghost use mathlib.Core.Path.{_≡_};
 ghost use Prim.Native.Nat.{ℕ, _<_, _≤_};
 ghost use lib.ListN.{length};
@@ -17,14 +21,15 @@ ghost use Rattle.tree.specs.Lent.{readOf};
 ghost use Rattle.ids.specs.Chains.{Like, Indexed};
 ghost use Rattle.leads.specs.Links.{Drawn, valuesOf};
 ghost use Rattle.targets.specs.Targets.{seenOf, markOf, Targeted};
-ghost use Rattle.targets.specs.Storing.{Stored};
+ghost use Rattle.targets.specs.Storing.{Stored, StoredBefore};
 
-// Node m, if it has the attribute of the pass.
+// Node m, if it has the attribute of the pass: its mark is that of a node before it with the same value, or is found.
 fn resolve_one(
     script: &[u8],
     characters: &[u8],
     marks: &[usize; 1025],
     heads: &[u32; 2049],
+    recent: &mut [u32; 256],
     nodes: &[u32],
     attributes: &mut [u32],
     counts: Counts,
@@ -38,6 +43,7 @@ fn resolve_one(
     requires { ⌜ counts .nodes < 1073741824 ⌝ }
     requires { ⌜ (1 ≤ pass) × (pass ≤ 5) ⌝ }
     requires { ⌜ m < counts .nodes ⌝ }
+    requires { ⌜ StoredBefore (now characters) (valuesOf (now script) (now characters)) pass (seenOf (now nodes) (now attributes) counts) m ⌝ }
     ensures stored { λ r. ⌜ Stored (now (nodes .entry)) (now (attributes .entry)) (cutName pass) m
         (markOf (now (characters .entry)) (valuesOf (now (script .entry)) (now (characters .entry))) pass
         (seenOf (now (nodes .entry)) (now (attributes .entry)) counts) m) (now (attributes .exit)) ⌝ }
@@ -48,6 +54,16 @@ fn resolve_one(
     if j == 0 {
         return hint;
     }
+    let twin = twin_of(nodes, attributes, recent, name, m, j - 1);
+    if twin != 0 {
+        set_next(
+            attributes,
+            j - 1,
+            entry_word(attributes, twin - 1, word::IMPORTANT) / 2,
+        );
+        return hint;
+    }
+    keep_recent(recent, entry_word(attributes, j - 1, word::COMMAND), m);
     let found = find_mark(
         script,
         characters,
@@ -93,6 +109,7 @@ pub fn resolve(
         → Targeted (now (characters .entry)) (valuesOf (now (script .entry)) (now (characters .entry))) k
         (seenOf (now (nodes .entry)) (now (attributes .exit)) counts)) ⌝ }
 {
+    let mut recent: [u32; 256] = [0; 256];
     let mut hint = Cursor::start();
     let mut m = 0;
     while m < counts.nodes {
@@ -101,6 +118,7 @@ pub fn resolve(
             characters,
             marks,
             heads,
+            &mut recent,
             nodes,
             attributes,
             counts,
