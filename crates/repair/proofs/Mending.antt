@@ -5,13 +5,13 @@ use mathlib.Core.List.{List, [], _∷_}
 use Prim.Native.Nat.{ℕ, zero, suc, _+_, _-_, _<_, _≤_}
 use native.Mathlib.Omega.{arith}
 use native.Mathlib.Decide.{ℕ-discrete}
-use borrow.Author.Tests.{le-leb, ltb-false}
-use lib.Dec.{eqb, ltb}
+use borrow.Author.Tests.{le-leb}
+use lib.Dec.{eqb}
 use lib.ListN.{length, getD, replicate, length-replicate}
 use Rattle.model.specs.Base.{pick, or}
 use Rattle.model.specs.EId
-use Rattle.model.specs.Check.{check, checkFrom, starting, mostBytes}
-use Rattle.model.specs.Drawing.{Value, events, commands}
+use Rattle.model.specs.Check.{check}
+use Rattle.model.specs.Drawing.{Value, events}
 use Rattle.model.specs.Tables.{Tree, isNamed, entryAt, attributeId, setNone}
 use Rattle.model.specs.Repair.{upFrom, allNamed, Cut, cutName, applyCut, applied, repairs, repaired}
 use Rattle.model.specs.Theorems.Unused.{replicate-zero}
@@ -22,7 +22,6 @@ use Rattle.model.specs.Theorems.GoingOn.{elementOf, pairsOf, goingOn}
 use Rattle.model.specs.Theorems.Images.{imagesOn, passOn, passesOn, repairs-going-on, values-bare}
 use Rattle.script.specs.declared.cursor.Cursor.{Cursor}
 use Rattle.script.specs.Step.{Fit, atStart}
-use Rattle.script.proofs.Commands.{placed-first}
 use Rattle.places.specs.Marks.{Marked}
 use Rattle.tree.specs.declared.Counts.{Counts}
 use Rattle.tree.specs.Lent.{treeOf, readOf}
@@ -30,6 +29,7 @@ use Rattle.ids.specs.Chains.{Indexed}
 use Rattle.tree.proofs.Alike.{id-same}
 use Rattle.leads.specs.Links.{valuesOf}
 use Rattle.targets.specs.Targets.{seenOf}
+use Rattle.targets.proofs.Finding.{start-fit}
 use Rattle.cuts.specs.Seen.{Mendable}
 use Rattle.repair.specs.Passes.{allPasses, isLinked}
 use Rattle.cuts.proofs.Writing.{applied-more, mend-on, long-on}
@@ -135,24 +135,13 @@ pub record Before (script chars marks heads ns : List ℕ) (c : Counts) (ks es�
   pub same : applied (seenOf ns es c) (passesOn chars (valuesOf script chars) ks (seenOf ns es c))
       ≡ applied (seenOf ns es₀ c) (passesOn chars (valuesOf script chars) (1 ∷ 2 ∷ 3 ∷ 4 ∷ 5 ∷ 6 ∷ []) (seenOf ns es₀ c))
 
--- What check says of the script's length.
-pub small : (script chars : List ℕ) → check script chars ≡ 0 → length script ≤ mostBytes
-unfolding check
-small script chars h = go (ltb mostBytes (length script)) refl h
-  where
-    go : (b : Bool) → ltb mostBytes (length script) ≡ b
-        → pick (or b (ltb mostBytes (length chars))) (λ u. 1) (λ u. checkFrom chars (length chars) starting (commands script)) ≡ 0
-        → length script ≤ mostBytes
-    go true p q = let z : _≡_ {A = ℕ} 1 0 = q in absurd (omega arith)
-    go false p q = ltb-false _ _ p
-
 module _ (script chars marks heads ns : List ℕ) (c : Counts) (es₀ : List ℕ) where
   pub before-all : check script chars ≡ 0 → Marked script marks → Tidy (length chars) (seenOf ns es₀ c)
       → Indexed chars (readOf ns es₀) heads (c .nodes) → (start : Cursor)
       → start ≡ atStart → Before script chars marks heads ns c (1 ∷ 2 ∷ 3 ∷ 4 ∷ 5 ∷ 6 ∷ []) es₀ es₀ start
   before-all h m g k start e = record {
     mendable = record {
-      drawn = record { checked = h; marked = m; fit = placed-first script start e (small script chars h) };
+      drawn = record { checked = h; marked = m; fit = start-fit script chars h start e };
       tidy = g;
       indexed = k;
     };

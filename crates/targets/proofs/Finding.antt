@@ -25,7 +25,7 @@ use Rattle.targets.proofs.Marks.{for-some, for-empty, for-none}
 -- THE START
 
 -- What check says of the script's length.
-small : (script chars : List ℕ) → check script chars ≡ 0 → length script ≤ mostBytes
+pub small : (script chars : List ℕ) → check script chars ≡ 0 → length script ≤ mostBytes
 unfolding check
 small script chars h = go (ltb mostBytes (length script)) refl h
   where

@@ -4,8 +4,9 @@ use borrow.Author.Tests.{not-true, not-false}
 use Rattle.model.specs.Theorems.Unused.{replicate-zero}
 use Rattle.places.proofs.Marking.{marked-none}
 use Rattle.ids.proofs.Likeness.{like-tidy}
+use Rattle.targets.proofs.Finding.{small}
 use Rattle.cuts.proofs.Writing.{long-on}
-use Rattle.repair.proofs.Mending.{small, mended, unlinked, heads-none, indexed-none}
+use Rattle.repair.proofs.Mending.{mended, unlinked, heads-none, indexed-none}
 use Rattle.repair.proofs.Twins.{unchained}
 use borrow.Author.Needs.{needs}
 use Rattle.repair.proofs.whole.repair.Statement.{statement}
