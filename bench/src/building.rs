@@ -252,7 +252,8 @@ pub fn write_lines() {
 /// Builds of the drawings whose names have this in them, the last into tables of just their size: for a profiler.
 pub fn build_named(part: &str) {
     let hurtful = drawings::HURTFUL.map(|(name, make, usual, _)| (name, make(usual)));
-    for (name, d) in drawings::large(Size(1 << 20)).into_iter().chain(hurtful).filter(|(name, _)| name.contains(part)) {
+    let worst = drawings::WORST.map(|(name, make, most, _)| (name, make(most / 30)));
+    for (name, d) in drawings::large(Size(1 << 20)).into_iter().chain(hurtful).chain(worst).filter(|(name, _)| name.contains(part)) {
         let (mut tables, nodes) = exact(&d).expect("a drawing to measure is built");
         let _ = black_box(library::plain::build(&d.script, &d.characters, tables.lent()));
         println!("{name}: {nodes} nodes");

@@ -4,6 +4,7 @@ use script::cursor::Cursor;
 use walk::node::Item;
 use walk::node::Opened;
 use walk::node::next_item;
+use walk::node::past_others;
 ghost use mathlib.Core.Path.{_≡_};
 ghost use Prim.Native.Nat.{_≤_};
 ghost use lib.Dec.{eqb};
@@ -56,7 +57,7 @@ pub fn next_use(script: &[u8], characters: &[u8], from: Cursor, open_elements: u
                 c = n;
             }
             Item::Other(n) => {
-                c = n;
+                c = past_others(script, characters, n);
             }
             Item::Close(n) => {
                 if level == 0 {

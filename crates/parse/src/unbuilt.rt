@@ -5,6 +5,7 @@ use crate::state::standing;
 use script::cursor::Cursor;
 use walk::node::Item;
 use walk::node::next_item;
+use walk::node::past_others;
 ghost use mathlib.Core.Path.{_≡_};
 ghost use Prim.Native.Nat.{_≤_};
 ghost use lib.ListN.{length};
@@ -46,7 +47,7 @@ fn past_unbuilt(script: &[u8], characters: &[u8], from: Cursor) -> Cursor
                 c = n;
             }
             Item::Other(n) => {
-                c = n;
+                c = past_others(script, characters, n);
             }
             Item::Close(n) => {
                 if level == 0 {

@@ -1,7 +1,7 @@
 -- A walk from node to node: what g says of the nodes from a cursor on, with k elements open. Assumes nothing.
 use mathlib.Core.Path.{_≡_, refl, sym, ap, _∙_, subst}
 use mathlib.Core.List.{List, [], _∷_}
-use Prim.Native.Nat.{ℕ, zero, suc, _+_, _-_, _≤_}
+use Prim.Native.Nat.{ℕ, zero, suc, _+_, _-_, _<_, _≤_}
 use native.Mathlib.Numerals.{add-one}
 use native.Mathlib.Omega.{arith}
 use lib.ListN.{length}
@@ -13,7 +13,8 @@ use Rattle.script.specs.Step.{Fit, commandsAt, atStart}
 use Rattle.script.proofs.Commands.{placed-first}
 use Rattle.walk.specs.declared.node.Item.{Item}
 use Rattle.walk.specs.Values.{eventsAt}
-use Rattle.walk.specs.Nodes.{leave, eventsOf, Further}
+use Rattle.walk.specs.declared.node.Item.the-variants as item
+use Rattle.walk.specs.Nodes.{leave, eventsOf, Further, othersThen, Others}
 use Rattle.walk.proofs.Walks.{ItemIs, item-told}
 
 -- v is what g says of the whole walk.
@@ -49,6 +50,43 @@ module _ {A : Type 0} (g : ℕ → List Event → A) (v : A) (s chars : List ℕ
       low = omega (arith, w .low, f .further);
       same = sym e ∙ at-item;
     }
+
+-- NODES THAT ARE NO ELEMENT AND NO TEXT
+
+pub others-none : (s chars : List ℕ) (c : Cursor) → Fit s c → Others s chars c c
+others-none s chars c f = record { fit = f; later = omega arith; count = 0; between = refl }
+
+-- One more of them.
+others-last : (n : ℕ) (xs : List Event) → othersThen (suc n) xs ≡ othersThen n (model.Event.other ∷ xs)
+others-last zero xs = refl
+others-last (suc n) xs = ap (λ ys. model.Event.other ∷ ys) (others-last n xs)
+
+pub others-more : (s chars : List ℕ) (from c n : Cursor) → Others s chars from c → ItemIs s chars c (item.Other n) → Others s chars from n
+others-more s chars from c n w i = record {
+  fit = i .1 .fit;
+  later = omega (arith, w .later, i .1 .further);
+  count = suc (w .count);
+  between = others-last (w .count) (eventsAt s chars n) ∙ ap (othersThen (w .count)) (i .0) ∙ w .between;
+}
+
+-- A walk to which they are nothing.
+others-past : {A : Type 0} (g : List Event → A) → ((xs : List Event) → g (model.Event.other ∷ xs) ≡ g xs) → (n : ℕ) (xs : List Event) →
+    g (othersThen n xs) ≡ g xs
+others-past g h zero xs = refl
+others-past g h (suc n) xs = h (othersThen n xs) ∙ others-past g h n xs
+
+module _ {A : Type 0} (g : ℕ → List Event → A) (v : A) (s chars : List ℕ) (from c : Cursor) (k : ℕ) (w : Along g v s chars from c k)
+    (r : Item) (n : Cursor) (t : r ≡ item.Other n) (i : ItemIs s chars c r) (d : Cursor) (o : Others s chars n d) where
+  -- The walk goes on behind many.
+  pub over-others : ((xs : List Event) → g k (model.Event.other ∷ xs) ≡ g k xs) → Along g v s chars from d k
+  over-others h =
+      let f = item-told s chars c r (item.Other n) t i .1 in
+      over g v s chars from c k w r (item.Other n) t i d k (record { fit = o .fit; further = omega (arith, f .further, o .later) })
+      (omega arith)
+      (h (eventsAt s chars n) ∙ ap (g k) (sym (o .between)) ∙ others-past (g k) h (o .count) (eventsAt s chars d))
+
+  pub others-further : (c .at < d .at) × (d .at ≤ length s)
+  others-further = (omega (arith, item-told s chars c r (item.Other n) t i .1 .further, o .later), o .fit .at)
 
 -- A walk that goes on behind a close with one open element fewer.
 pub behind-close : {A : Type 0} (f g : ℕ → A) → ((k : ℕ) → f (suc k) ≡ g k) → (k : ℕ) → (k ≡ 0 → ⊥) → f k ≡ g (k - 1)

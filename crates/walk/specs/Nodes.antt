@@ -1,6 +1,7 @@
 -- What the walks from node to node answer, as the model has it.
 use Prim.Native.Nat.{ℕ, zero, suc, _+_, _<_, _≤_}
 use mathlib.Core.List.{List, [], _∷_}
+use mathlib.Core.Path.{_≡_}
 use Rattle.model.specs.Drawing as model
 use Rattle.model.specs.Drawing.{opening, Event, begin, close, sourceAt, Source, Element, textsIn}
 use Rattle.script.specs.declared.cursor.Cursor.{Cursor}
@@ -65,6 +66,18 @@ ItemFit script from (Text c l n) = Fit script c × Further script from n
 ItemFit script from (Other n) = Further script from n
 ItemFit script from (Close n) = Further script from n
 ItemFit script from item.End = Unit {0}
+
+-- So many nodes that are no element and no text, and xs behind them.
+abbrev pub othersThen : ℕ → List Event → List Event
+othersThen zero xs = xs
+othersThen (suc n) xs = model.Event.other ∷ othersThen n xs
+
+-- Between two cursors stand such nodes alone.
+pub record Others (script chars : List ℕ) (from c : Cursor) : Type 0 where
+  pub fit : Fit script c
+  pub later : from .at ≤ c .at
+  pub count : ℕ
+  pub between : othersThen count (eventsAt script chars c) ≡ eventsAt script chars from
 
 -- TEXTS
 

@@ -10,7 +10,7 @@ ghost use Rattle.model.specs.Names.{isElement};
 ghost use Rattle.model.specs.Drawing.{textsIn};
 ghost use Rattle.script.specs.Step.{Fit};
 ghost use Rattle.walk.specs.Values.{eventsAt};
-ghost use Rattle.walk.specs.Nodes.{leave, eventsOf, ItemFit, sourcesOf, TextFit};
+ghost use Rattle.walk.specs.Nodes.{leave, eventsOf, ItemFit, Others, sourcesOf, TextFit};
 
 // An element that was opened: its own place, its name and namespace, and the cursor inside it.
 pub struct Opened {
@@ -82,6 +82,45 @@ pub fn next_item(script: &[u8], characters: &[u8], from: Cursor) -> Item
     }
 }
 
+// Behind the nodes that are no element and no text, from the cursor on up to the next command of another sort.
+pub fn past_others(script: &[u8], characters: &[u8], from: Cursor) -> Cursor
+    requires { ⌜ Fit (now script) from ⌝ }
+    ensures { λ r. ⌜ Others (now (script .entry)) (now (characters .entry)) from r ⌝ }
+{
+    let mut c = from;
+    loop {
+        match c.next(script, characters) {
+            Step::Other(n) => {
+                c = n;
+            }
+            Step::Open(_, _, _) => {
+                return c;
+            }
+            Step::Text(_, _) => {
+                return c;
+            }
+            Step::Close(_) => {
+                return c;
+            }
+            Step::Attribute(_, _, _, _) => {
+                return c;
+            }
+            Step::Declaration(_, _, _, _) => {
+                return c;
+            }
+            Step::Reading(_, _, _, _) => {
+                return c;
+            }
+            Step::Broken(_) => {
+                return c;
+            }
+            Step::End => {
+                return c;
+            }
+        }
+    }
+}
+
 // Behind the close of the element in which the cursor stands.
 pub fn past_element(script: &[u8], characters: &[u8], from: Cursor) -> Cursor
     requires { ⌜ Fit (now script) from ⌝ }
@@ -102,7 +141,7 @@ pub fn past_element(script: &[u8], characters: &[u8], from: Cursor) -> Cursor
                 c = n;
             }
             Item::Other(n) => {
-                c = n;
+                c = past_others(script, characters, n);
             }
             Item::Close(n) => {
                 if level == 0 {
@@ -138,7 +177,7 @@ pub fn next_text(script: &[u8], characters: &[u8], from: Cursor, open_elements: 
                 return NextText::At(own, len, n, level);
             }
             Item::Other(n) => {
-                c = n;
+                c = past_others(script, characters, n);
             }
             Item::Close(n) => {
                 if level == 0 {

@@ -5,7 +5,7 @@ use lib.ListN.{length}
 use mathlib.Core.Path.{sym, _∙_}
 use Rattle.walk.specs.Values.{eventsAt}
 use Rattle.walk.proofs.Walks.{item-told}
-use Rattle.walk.proofs.Along.{Along, along-none, at-item, over}
+use Rattle.walk.proofs.Along.{Along, along-none, at-item, over, over-others, others-further}
 use Rattle.parse.specs.Unbuilt.{pastUnbuilt}
 use Rattle.parse.proofs.Skipping.{built-here, unbuilt-begin, unbuilt-text, unbuilt-other, unbuilt-close, unbuilt-out, unbuilt-end}
 use Rattle.parse.proofs.unbuilt.past_unbuilt.Statement.{statement}
@@ -97,33 +97,20 @@ loop-again-2 c =
 enum-known-n-2 : tie.Need-enum-known-n-2 Inv-loop μ-loop
 enum-known-n-2 c = search needs
 
--- src/unbuilt.rt:36:5
+past-others-requires : tie.Need-past-others-requires Inv-loop μ-loop
+past-others-requires c κs =
+    item-told _ _ _ _ _ (c .before .n2 .given .1) (c .before .before .before .next-item .ensures) .1 .fit
+
 loop-less-3 : tie.Need-loop-less-3 Inv-loop μ-loop
 loop-less-3 c =
-    let other = item-told _ _ _ _ _ (c .before .n2 .given .1) (c .before .before .before .next-item .ensures) in
-    omega (arith, other .1 .further, other .1 .fit .at)
+    let w = others-further _ _ _ _ _ _ _ (c .before .before .before .before .before .loop .inv) _ _ (c .before .before .n2 .given .1)
+    (c .before .before .before .before .next-item .ensures) _ (c .past-others .ensures) in
+    omega (arith, w .0, w .1)
 
--- src/unbuilt.rt:36:5
 loop-again-3 : tie.Need-loop-again-3 Inv-loop μ-loop
 loop-again-3 c =
-    let other = item-told _ _ _ _ _ (c .before .n2 .given .1) (c .before .before .before .next-item .ensures) in
-    let inv = c .before .before .before .before .loop .inv in
-    over _ _ _ _ _ _ _ inv _ _ (c .before .n2 .given .1) (c .before .before .before .next-item .ensures) _ _ (other .1)
-    (omega arith) (unbuilt-other _ _)
-
--- src/unbuilt.rt:51:25
-enum-known-n-3 : tie.Need-enum-known-n-3 Inv-loop μ-loop
-enum-known-n-3 c = search needs
-
--- src/unbuilt.rt:53:21
-returns-2 : tie.Need-returns-2 Inv-loop μ-loop
-returns-2 c =
-    let closed = item-told _ _ _ _ _ (c .before .before .n3 .given .1) (c .before .before .before .before .next-item .ensures) in
-    let inv = c .before .before .before .before .before .loop .inv in (
-      sym (closed .0) ∙ sym (unbuilt-out _ _ (c .if2 .taken))
-          ∙ at-item _ _ _ _ _ _ _ inv _ _ (c .before .before .n3 .given .1) (c .before .before .before .before .next-item .ensures),
-      (inv .fit, inv .later),
-    )
+    over-others _ _ _ _ _ _ _ (c .before .before .before .before .before .loop .inv) _ _ (c .before .before .n2 .given .1)
+    (c .before .before .before .before .next-item .ensures) _ (c .past-others .ensures) (λ xs. unbuilt-other _ xs)
 
 -- src/unbuilt.rt:55:17
 sub-level : tie.Need-sub-level Inv-loop μ-loop
@@ -175,6 +162,7 @@ past-unbuilt-spec =
     loop-less-2
     loop-again-2
     enum-known-n-2
+    past-others-requires
     loop-less-3
     loop-again-3
     enum-known-n-3

@@ -6,7 +6,8 @@ use mathlib.Core.Path.{sym, _∙_}
 use Rattle.walk.proofs.Walks.{item-told}
 use Rattle.model.specs.Drawing.{textsIn}
 use Rattle.walk.specs.Values.{eventsAt}
-use Rattle.walk.proofs.Along.{Along, along-none, at-item, over, texts-begin, texts-text, texts-other, texts-close, texts-out}
+use Rattle.walk.proofs.Along.{Along, along-none, at-item, over, over-others, others-further}
+use Rattle.walk.proofs.Along.{texts-begin, texts-text, texts-other, texts-close, texts-out}
 use Rattle.walk.proofs.Along.{texts-end}
 use Rattle.walk.proofs.node.next_text.Statement.{statement}
 use Rattle.walk.proofs.node.next_text.Tie as tie
@@ -68,16 +69,20 @@ returns c =
 enum-known-n : tie.Need-enum-known-n Inv-loop μ-loop
 enum-known-n c = search needs
 
+past-others-requires : tie.Need-past-others-requires Inv-loop μ-loop
+past-others-requires c κs =
+    item-told _ _ _ _ _ (c .before .n .given .1) (c .before .before .before .next-item .ensures) .1 .fit
+
 loop-less-2 : tie.Need-loop-less-2 Inv-loop μ-loop
 loop-less-2 c =
-    let other = item-told _ _ _ _ _ (c .before .n .given .1) (c .before .before .before .next-item .ensures) in
-    omega (arith, other .1 .further, other .1 .fit .at)
+    let w = others-further _ _ _ _ _ _ _ (c .before .before .before .before .before .loop .inv) _ _ (c .before .before .n .given .1)
+    (c .before .before .before .before .next-item .ensures) _ (c .past-others .ensures) in
+    omega (arith, w .0, w .1)
 
 loop-again-2 : tie.Need-loop-again-2 Inv-loop μ-loop
 loop-again-2 c =
-    let other = item-told _ _ _ _ _ (c .before .n .given .1) (c .before .before .before .next-item .ensures) in
-    over _ _ _ _ _ _ _ (c .before .before .before .before .loop .inv) _ _ (c .before .n .given .1)
-    (c .before .before .before .next-item .ensures) _ _ (other .1) (omega arith) (texts-other _ _)
+    over-others _ _ _ _ _ _ _ (c .before .before .before .before .before .loop .inv) _ _ (c .before .before .n .given .1)
+    (c .before .before .before .before .next-item .ensures) _ (c .past-others .ensures) (λ xs. texts-other _ xs)
 
 enum-known-n-2 : tie.Need-enum-known-n-2 Inv-loop μ-loop
 enum-known-n-2 c = search needs
@@ -128,6 +133,7 @@ next-text-spec =
     enum-known-own
     returns
     enum-known-n
+    past-others-requires
     loop-less-2
     loop-again-2
     enum-known-n-2

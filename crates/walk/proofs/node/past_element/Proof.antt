@@ -6,7 +6,7 @@ use mathlib.Core.Path.{sym, _∙_}
 use Rattle.walk.proofs.Walks.{item-told}
 use Rattle.walk.specs.Values.{eventsAt}
 use Rattle.walk.specs.Nodes.{leave}
-use Rattle.walk.proofs.Along.{Along, along-none, at-item, over, leave-begin, leave-text, leave-other, leave-close, leave-out}
+use Rattle.walk.proofs.Along.{Along, along-none, at-item, over, over-others, others-further, leave-begin, leave-text, leave-other, leave-close, leave-out}
 use Rattle.walk.proofs.Along.{leave-end}
 use Rattle.walk.proofs.node.past_element.Statement.{statement}
 use Rattle.walk.proofs.node.past_element.Tie as tie
@@ -63,16 +63,20 @@ loop-again-2 c =
 enum-known-n-2 : tie.Need-enum-known-n-2 Inv-loop μ-loop
 enum-known-n-2 c = search needs
 
+past-others-requires : tie.Need-past-others-requires Inv-loop μ-loop
+past-others-requires c κs =
+    item-told _ _ _ _ _ (c .before .n2 .given .1) (c .before .before .before .next-item .ensures) .1 .fit
+
 loop-less-3 : tie.Need-loop-less-3 Inv-loop μ-loop
 loop-less-3 c =
-    let other = item-told _ _ _ _ _ (c .before .n2 .given .1) (c .before .before .before .next-item .ensures) in
-    omega (arith, other .1 .further, other .1 .fit .at)
+    let w = others-further _ _ _ _ _ _ _ (c .before .before .before .before .before .loop .inv) _ _ (c .before .before .n2 .given .1)
+    (c .before .before .before .before .next-item .ensures) _ (c .past-others .ensures) in
+    omega (arith, w .0, w .1)
 
 loop-again-3 : tie.Need-loop-again-3 Inv-loop μ-loop
 loop-again-3 c =
-    let other = item-told _ _ _ _ _ (c .before .n2 .given .1) (c .before .before .before .next-item .ensures) in
-    over _ _ _ _ _ _ _ (c .before .before .before .before .loop .inv) _ _ (c .before .n2 .given .1)
-    (c .before .before .before .next-item .ensures) _ _ (other .1) (omega arith) (leave-other _ _)
+    over-others _ _ _ _ _ _ _ (c .before .before .before .before .before .loop .inv) _ _ (c .before .before .n2 .given .1)
+    (c .before .before .before .before .next-item .ensures) _ (c .past-others .ensures) (λ xs. leave-other _ xs)
 
 enum-known-n-3 : tie.Need-enum-known-n-3 Inv-loop μ-loop
 enum-known-n-3 c = search needs
@@ -126,6 +130,7 @@ past-element-spec =
     loop-less-2
     loop-again-2
     enum-known-n-2
+    past-others-requires
     loop-less-3
     loop-again-3
     enum-known-n-3
