@@ -449,13 +449,34 @@ fn searched_in_vain(n: usize) -> Drawing {
     })
 }
 
-/// A group of so many comments, and a group of uses of it that is used as often as it has uses: 700 times for 1,000,000 comments.
-fn copied_comments(n: usize) -> Drawing {
+/// A group of so many of these, of so many bytes each, and a group of uses of it that is used as often as it has uses: 700 times for
+/// 1,000,000 bytes.
+fn copied(n: usize, bytes: usize, each: fn(&mut Drawing)) -> Drawing {
+    let times = n * bytes / 1430;
     in_svg(|d| {
-        named(d, G, "g", |d| (0..n).for_each(|_| d.comment()));
-        named(d, G, "h", |d| (0..n / 1430).for_each(|_| use_of(d, "g")));
-        (0..n / 1430).for_each(|_| use_of(d, "h"));
+        named(d, G, "g", |d| (0..n).for_each(|_| each(d)));
+        named(d, G, "h", |d| (0..times).for_each(|_| use_of(d, "g")));
+        (0..times).for_each(|_| use_of(d, "h"));
     })
+}
+
+fn copied_comments(n: usize) -> Drawing {
+    copied(n, 1, |d| d.comment())
+}
+
+fn copied_elements(n: usize) -> Drawing {
+    copied(n, 4, |d| {
+        d.open(UNKNOWN, 1);
+        d.close();
+    })
+}
+
+fn copied_texts(n: usize) -> Drawing {
+    copied(n, 5, |d| d.text(b""))
+}
+
+fn copied_attributes(n: usize) -> Drawing {
+    copied(n, 7, |d| d.attribute(UNKNOWN, 0, b""))
 }
 
 /// So many patterns in one another, with 450 times as many things in them that are filled with another pattern, which has as many things.
@@ -554,9 +575,12 @@ fn far_places(n: usize) -> Drawing {
 
 /// Drawings that take the longest: what they have so many of, how they are made, how many there are in the largest that is not refused, and
 /// in the largest that the Rust is given.
-pub const WORST: [(&str, fn(usize) -> Drawing, usize, usize); 9] = [
+pub const WORST: [(&str, fn(usize) -> Drawing, usize, usize); 12] = [
     ("ids before uses of nothing", searched_in_vain, 85_500, 85_500),
     ("comments, copied", copied_comments, 1_000_000, 65_536),
+    ("unknown elements, copied", copied_elements, 250_000, 16_384),
+    ("empty texts, copied", copied_texts, 200_000, 16_384),
+    ("unknown attributes, copied", copied_attributes, 142_000, 16_384),
     ("patterns, nested, and links", nested_patterns, 1000, 8),
     ("patterns, nested, to as many", nested_targets, 490, 8),
     ("attributes that inherit nothing", inherited_in_vain, 80, 80),

@@ -112,6 +112,18 @@ loop-again-3 c =
     over-others _ _ _ _ _ _ _ (c .before .before .before .before .before .loop .inv) _ _ (c .before .before .n2 .given .1)
     (c .before .before .before .before .next-item .ensures) _ (c .past-others .ensures) (λ xs. unbuilt-other _ xs)
 
+enum-known-n-3 : tie.Need-enum-known-n-3 Inv-loop μ-loop
+enum-known-n-3 c = search needs
+
+returns-2 : tie.Need-returns-2 Inv-loop μ-loop
+returns-2 c =
+    let closed = item-told _ _ _ _ _ (c .before .before .n3 .given .1) (c .before .before .before .before .next-item .ensures) in
+    let inv = c .before .before .before .before .before .loop .inv in (
+      sym (closed .0) ∙ sym (unbuilt-out _ _ (c .if2 .taken))
+          ∙ at-item _ _ _ _ _ _ _ inv _ _ (c .before .before .n3 .given .1) (c .before .before .before .before .next-item .ensures),
+      (inv .fit, inv .later),
+    )
+
 -- src/unbuilt.rt:55:17
 sub-level : tie.Need-sub-level Inv-loop μ-loop
 sub-level c = search needs
