@@ -479,6 +479,27 @@ fn copied_attributes(n: usize) -> Drawing {
     copied(n, 7, |d| d.attribute(UNKNOWN, 0, b""))
 }
 
+/// So many copies of a pattern without an id, in which something is filled with another pattern, which has four times as many things.
+fn copied_patterns(n: usize) -> Drawing {
+    let times = n.isqrt();
+    in_svg(|d| {
+        named(d, G, "r", |d| {
+            for _ in 0..450 {
+                d.open(RECT, 1);
+                d.close();
+            }
+        });
+        named(d, PATTERN, "q", |d| (0..4 * n / 450).for_each(|_| use_of(d, "r")));
+        named(d, G, "g", |d| {
+            d.open(PATTERN, 1);
+            painted(d, "q");
+            d.close();
+        });
+        named(d, G, "h", |d| (0..times).for_each(|_| use_of(d, "g")));
+        (0..times).for_each(|_| use_of(d, "h"));
+    })
+}
+
 /// So many patterns in one another, with 450 times as many things in them that are filled with another pattern, which has as many things.
 fn nested_patterns(n: usize) -> Drawing {
     in_svg(|d| {
@@ -575,12 +596,13 @@ fn far_places(n: usize) -> Drawing {
 
 /// Drawings that take the longest: what they have so many of, how they are made, how many there are in the largest that is not refused, and
 /// in the largest that the Rust is given.
-pub const WORST: [(&str, fn(usize) -> Drawing, usize, usize); 12] = [
+pub const WORST: [(&str, fn(usize) -> Drawing, usize, usize); 13] = [
     ("ids before uses of nothing", searched_in_vain, 85_500, 85_500),
     ("comments, copied", copied_comments, 1_000_000, 65_536),
     ("unknown elements, copied", copied_elements, 250_000, 16_384),
     ("empty texts, copied", copied_texts, 200_000, 16_384),
     ("unknown attributes, copied", copied_attributes, 142_000, 16_384),
+    ("patterns, copied", copied_patterns, 110_000, 256),
     ("patterns, nested, and links", nested_patterns, 1000, 8),
     ("patterns, nested, to as many", nested_targets, 490, 8),
     ("attributes that inherit nothing", inherited_in_vain, 80, 80),

@@ -27,9 +27,9 @@ use Rattle.targets.specs.Targets.{seenOf, passKind, markFor, markOf}
 use Rattle.targets.proofs.Passes.{no-id}
 use Rattle.targets.proofs.Marks.{mark-target}
 use Rattle.cuts.specs.declared.Aim.{Aim}
-use Rattle.cuts.specs.Seen.{anyWith, hasLinks, Cuttable, keyOf, Aimed, cutBack, cutNodes, cutPairs, Range, Quiet, Covered}
+use Rattle.cuts.specs.Seen.{anyWith, hasLinks, Cuttable, keyOf, Aimed, cutBack, cutNodes, cutPairs, Range, Quiet, Covered, Known, Settled}
 use Rattle.cuts.proofs.Writing.{applied-more, cuttable-on, long-on}
-use Rattle.cuts.proofs.Turning.{never-led, leads-entry, cut-tidy, cut-aimed}
+use Rattle.cuts.proofs.Turning.{leads-marked, never-led, leads-entry, cut-tidy, cut-aimed}
 use Rattle.cuts.proofs.Descending.{up-step, up-none, range-same}
 use Rattle.cuts.proofs.Quieting.{quiet-first, covered-none, nodes-quiet}
 
@@ -201,6 +201,43 @@ unled-nodes chars values k f l t i h j = rw (never j) (go (eqb (targetOf chars v
     go true = refl
     go false = none-passing (leadsTo chars values k t i) never (descendants t (targetOf chars values k t j - 1))
 
+-- FROM ONE ELEMENT TO THE NEXT
+
+-- Whether a node leads to an element that is aimed at is told by the key.
+leads-key : (chars : List ℕ) (values : List Value) (k : ℕ) (t : Tree) (aim : Aim) → Aimed chars t aim → aim .pass ≡ k → (m : ℕ)
+    → leadsTo chars values k t (aim .element) m ≡ eqb (markOf chars values k t m) (aim .key)
+leads-key chars values k t aim w p m =
+    subst (λ (j : ℕ). leadsTo chars values j t (aim .element) m ≡ eqb (markOf chars values j t m) (aim .key)) p
+    (leads-marked chars values t aim w m)
+
+-- The words for an element that is aimed at, by what is known of one before it: the same links lead to two with the same key.
+pub settled-quiet : (chars : List ℕ) (values : List Value) (k : ℕ) (t : Tree) (known aim : Aim) (ws ws′ : List ℕ) → Aimed chars t aim
+    → aim .pass ≡ k → Known chars values k t known ws → Settled (t .nodeCount) known aim ws ws′ → Quiet chars values k t (aim .element) ws′
+settled-quiet chars values k t known aim ws ws′ w p g s = go (ℕ-discrete (known .key) (aim .key))
+  where
+    go : Dec (known .key ≡ aim .key) → Quiet chars values k t (aim .element) ws′
+    go (no d) = quiet-first chars values k t (aim .element) ws′ (s .none d)
+    go (yes d) =
+        let some : known .key ≡ 0 → ⊥ = λ z. w .some (sym d ∙ z) in
+        let q = g .quiet some in
+        subst (Quiet chars values k t (aim .element)) (sym (s .same d)) (record {
+          ranges = q .ranges;
+          silent = λ b l m. record {
+            none = λ x y z. leads-key chars values k t aim w p x ∙ ap (eqb (markOf chars values k t x)) (sym d)
+                ∙ sym (leads-key chars values k t known (g .aimed some) (g .pass) x) ∙ q .silent b l m .none x y z;
+          };
+        })
+
+-- The words hold for the element that was aimed at last.
+pub known-aim : (chars : List ℕ) (values : List Value) (t : Tree) (aim : Aim) (ws : List ℕ) → Aimed chars t aim
+    → Quiet chars values (aim .pass) t (aim .element) ws → Known chars values (aim .pass) t aim ws
+known-aim chars values t aim ws w q = record { pass = refl; aimed = λ z. w; quiet = λ z. q }
+
+-- Nothing is known.
+pub known-none : (chars : List ℕ) (values : List Value) (k : ℕ) (t : Tree) (aim : Aim) (ws : List ℕ) → aim .pass ≡ k → aim .key ≡ 0
+    → Known chars values k t aim ws
+known-none chars values k t aim ws p z = record { pass = p; aimed = λ o. absurd (o z); quiet = λ o. absurd (o z) }
+
 -- THE LOOP
 
 -- In the middle of the nodes from `first` up to the node `end`: j is next, the words tell ranges of nodes that do not lead back, and
@@ -216,14 +253,14 @@ pub record Pairs (script chars marks heads ns : List ℕ) (c : Counts) (aim : Ai
 
 pub pairs-start : (script chars marks heads ns : List ℕ) (c : Counts) (aim : Aim) (first end : ℕ) (es ws : List ℕ)
     → Cuttable script chars marks heads ns es c (aim .pass) → Aimed chars (seenOf ns es c) aim → end ≤ c .nodes
-    → ((b : ℕ) → 256 * b < c .nodes → b < 4096 → getD ws b 0 ≡ 0)
+    → Quiet chars (valuesOf script chars) (aim .pass) (seenOf ns es c) (aim .element) ws
     → Pairs script chars marks heads ns c aim first end es es ws first
 pairs-start script chars marks heads ns c aim first end es ws g a h z = record {
   cuttable = g;
   aimed = a;
   inside = h;
   long = refl;
-  quiet = quiet-first _ _ _ _ _ ws z;
+  quiet = z;
   same = refl;
 }
 

@@ -139,3 +139,16 @@ pub record Onward (chars : List ℕ) (values : List Value) (k : ℕ) (t : Tree) 
   pub low : m < r
   pub high : r ≤ end
   pub none : (x : ℕ) → m < x → x < r → leadsTo chars values k t i x ≡ false
+
+-- FROM ONE ELEMENT TO THE NEXT
+
+-- What is known between two elements of pass k: the words hold for an element that was aimed at; nothing is, where its key is 0.
+pub record Known (chars : List ℕ) (values : List Value) (k : ℕ) (t : Tree) (aim : Aim) (ws : List ℕ) : Type 0 where
+  pub pass : aim .pass ≡ k
+  pub aimed : (aim .key ≡ 0 → ⊥) → Aimed chars t aim
+  pub quiet : (aim .key ≡ 0 → ⊥) → Quiet chars values k t (aim .element) ws
+
+-- The words are as they were where both elements have the same key; else those of n nodes are 0.
+pub record Settled (n : ℕ) (known aim : Aim) (ws ws′ : List ℕ) : Type 0 where
+  pub same : known .key ≡ aim .key → ws′ ≡ ws
+  pub none : (known .key ≡ aim .key → ⊥) → (b : ℕ) → 256 * b < n → b < 4096 → getD ws′ b 0 ≡ 0

@@ -18,7 +18,7 @@ ghost use Rattle.model.specs.Repair.{upFrom, descendants};
 ghost use Rattle.model.specs.Theorems.GoingOn.{leadsTo, passing, nodesAt, withEach};
 ghost use Rattle.leads.specs.Links.{valuesOf};
 ghost use Rattle.targets.specs.Targets.{seenOf};
-ghost use Rattle.cuts.specs.Seen.{Cuttable, Aimed, Quiet, cutNodes, cutPairs};
+ghost use Rattle.cuts.specs.Seen.{Cuttable, Aimed, Quiet, Known, Settled, cutNodes, cutPairs};
 
 // What leads back at or below node w; nothing, where w is known to be quiet.
 fn cut_target(
@@ -124,7 +124,17 @@ fn cut_pair(
     );
 }
 
-// The element that is aimed at with each node from first up to end. Nothing is known to be quiet at first.
+// The words for an element that is aimed at. They stay where they hold for an element with the same key, since the same links lead to both.
+fn settle(quiet: &mut [u32; 4096], count: u32, known: Aim, aim: Aim)
+    ensures { λ _. ⌜ Settled count known aim (now (quiet .entry)) (now (quiet .exit)) ⌝ }
+{
+    if known.key == aim.key {
+        return;
+    }
+    forget(quiet, count);
+}
+
+// The element that is aimed at with each node from first up to end. What is known was found for the element that was aimed at before.
 fn cut_pairs(
     script: &[u8],
     characters: &[u8],
@@ -134,6 +144,7 @@ fn cut_pairs(
     nodes: &[u32],
     attributes: &mut [u32],
     counts: Counts,
+    known: Aim,
     aim: Aim,
     first: u32,
     end: u32,
@@ -141,12 +152,16 @@ fn cut_pairs(
     requires { ⌜ Cuttable (now script) (now characters) (now marks) (now heads) (now nodes) (now attributes) counts (aim .pass) ⌝ }
     requires { ⌜ Aimed (now characters) (seenOf (now nodes) (now attributes) counts) aim ⌝ }
     requires { ⌜ end ≤ counts .nodes ⌝ }
-    ensures { λ _. ⌜ seenOf (now (nodes .entry)) (now (attributes .exit)) counts
+    requires { ⌜ Known (now characters) (valuesOf (now script) (now characters)) (aim .pass)
+        (seenOf (now nodes) (now attributes) counts) known (now quiet) ⌝ }
+    ensures tables { λ _. ⌜ seenOf (now (nodes .entry)) (now (attributes .exit)) counts
         ≡ cutPairs (now (characters .entry)) (valuesOf (now (script .entry)) (now (characters .entry))) (aim .pass)
         (seenOf (now (nodes .entry)) (now (attributes .entry)) counts)
         (withEach (aim .element) (upFrom first (end - first)) []) ⌝ }
+    ensures known { λ _. ⌜ Known (now (characters .entry)) (valuesOf (now (script .entry)) (now (characters .entry))) (aim .pass)
+        (seenOf (now (nodes .entry)) (now (attributes .exit)) counts) aim (now (quiet .exit)) ⌝ }
 {
-    forget(quiet, counts.nodes);
+    settle(quiet, counts.nodes, known, aim);
     let mut j = first;
     while j < end {
         cut_pair(
@@ -166,6 +181,7 @@ fn cut_pairs(
 }
 
 // Element i with itself and each node below it. Where none of them has a link, or no link can lead to the element, there is nothing to cut.
+// Answers the element for which the words hold then.
 pub fn cut_element(
     script: &[u8],
     characters: &[u8],
@@ -176,25 +192,30 @@ pub fn cut_element(
     attributes: &mut [u32],
     counts: Counts,
     pass: u32,
+    known: Aim,
     i: u32,
-)
+) -> Aim
     requires { ⌜ Cuttable (now script) (now characters) (now marks) (now heads) (now nodes) (now attributes) counts pass ⌝ }
     requires { ⌜ (1 ≤ pass) × (pass ≤ 5) ⌝ }
     requires { ⌜ i < counts .nodes ⌝ }
-    ensures { λ _. ⌜ seenOf (now (nodes .entry)) (now (attributes .exit)) counts
+    requires { ⌜ Known (now characters) (valuesOf (now script) (now characters)) pass (seenOf (now nodes) (now attributes) counts) known
+        (now quiet) ⌝ }
+    ensures tables { λ r. ⌜ seenOf (now (nodes .entry)) (now (attributes .exit)) counts
         ≡ cutPairs (now (characters .entry)) (valuesOf (now (script .entry)) (now (characters .entry))) pass
         (seenOf (now (nodes .entry)) (now (attributes .entry)) counts)
         (withEach i (descendants (seenOf (now (nodes .entry)) (now (attributes .entry)) counts) i) []) ⌝ }
+    ensures known { λ r. ⌜ Known (now (characters .entry)) (valuesOf (now (script .entry)) (now (characters .entry))) pass
+        (seenOf (now (nodes .entry)) (now (attributes .exit)) counts) r (now (quiet .exit)) ⌝ }
 {
     let name = cut_name(pass);
     let end = behind_below(nodes, counts.nodes, i);
     let first = first_with(nodes, attributes, name, i, end);
     if first == end {
-        return;
+        return known;
     }
     let key = key_of(nodes, attributes, characters, heads, counts, pass, i);
     if key == 0 {
-        return;
+        return known;
     }
     let aim = Aim {
         pass,
@@ -210,8 +231,10 @@ pub fn cut_element(
         nodes,
         attributes,
         counts,
+        known,
         aim,
         first,
         end,
     );
+    aim
 }

@@ -1,4 +1,5 @@
 // One pass: each element that it looks at, one after another.
+use cuts::Aim;
 use cuts::below::has_links;
 use cuts::pair::cut_element;
 use names::eid;
@@ -17,6 +18,7 @@ ghost use Rattle.model.specs.Theorems.Images.{passOn};
 ghost use Rattle.tree.specs.Lent.{nodesRead};
 ghost use Rattle.leads.specs.Links.{valuesOf};
 ghost use Rattle.targets.specs.Targets.{seenOf};
+ghost use Rattle.cuts.specs.Seen.{Known};
 ghost use Rattle.repair.specs.Passes.{linkCuts, Passable};
 
 // The elements that one of the passes 1 to 5 looks at.
@@ -47,7 +49,7 @@ pub fn is_named(nodes: &[u32], code: u32, i: u32) -> bool
     node_word(nodes, i, word::CODE) == code
 }
 
-// Node i, where it is an element that the pass looks at, with links at or below it.
+// Node i, where it is an element that the pass looks at, with links at or below it. What is known was found for an element before it.
 fn cut_named(
     script: &[u8],
     characters: &[u8],
@@ -59,23 +61,28 @@ fn cut_named(
     counts: Counts,
     pass: u32,
     code: u32,
+    known: Aim,
     i: u32,
-)
+) -> Aim
     requires { ⌜ Passable (now script) (now characters) (now marks) (now heads) (now nodes) (now attributes) counts pass ⌝ }
     requires { ⌜ (1 ≤ pass) × (pass ≤ 5) ⌝ }
     requires { ⌜ code ≡ elementOf pass ⌝ }
     requires { ⌜ i < counts .nodes ⌝ }
-    ensures { λ _. ⌜ seenOf (now (nodes .entry)) (now (attributes .exit)) counts
+    requires { ⌜ Known (now characters) (valuesOf (now script) (now characters)) pass (seenOf (now nodes) (now attributes) counts) known
+        (now quiet) ⌝ }
+    ensures tables { λ r. ⌜ seenOf (now (nodes .entry)) (now (attributes .exit)) counts
         ≡ applied (seenOf (now (nodes .entry)) (now (attributes .entry)) counts)
         (linkCuts (now (characters .entry)) (valuesOf (now (script .entry)) (now (characters .entry))) pass code
         (seenOf (now (nodes .entry)) (now (attributes .entry)) counts) (i ∷ [])) ⌝ }
+    ensures known { λ r. ⌜ Known (now (characters .entry)) (valuesOf (now (script .entry)) (now (characters .entry))) pass
+        (seenOf (now (nodes .entry)) (now (attributes .exit)) counts) r (now (quiet .exit)) ⌝ }
 {
     if !is_named(nodes, code, i) {
-        return;
+        return known;
     }
     let name = cut_name(pass);
     if !has_links(nodes, attributes, counts, name, i) {
-        return;
+        return known;
     }
     cut_element(
         script,
@@ -87,8 +94,9 @@ fn cut_named(
         attributes,
         counts,
         pass,
+        known,
         i,
-    );
+    )
 }
 
 // One of the passes 1 to 5.
@@ -111,9 +119,14 @@ pub fn cut_pass(
         (seenOf (now (nodes .entry)) (now (attributes .entry)) counts)) ⌝ }
 {
     let code = element_code(pass);
+    let mut known = Aim {
+        pass,
+        element: 0,
+        key: 0,
+    };
     let mut i = 0;
     while i < counts.nodes {
-        cut_named(
+        known = cut_named(
             script,
             characters,
             marks,
@@ -124,6 +137,7 @@ pub fn cut_pass(
             counts,
             pass,
             code,
+            known,
             i,
         );
         i += 1;
