@@ -43,7 +43,8 @@ fn resolve_one(
     requires { ⌜ counts .nodes < 1073741824 ⌝ }
     requires { ⌜ (1 ≤ pass) × (pass ≤ 5) ⌝ }
     requires { ⌜ m < counts .nodes ⌝ }
-    requires { ⌜ StoredBefore (now characters) (valuesOf (now script) (now characters)) pass (seenOf (now nodes) (now attributes) counts) m ⌝ }
+    requires { ⌜ StoredBefore (now characters) (valuesOf (now script) (now characters)) pass
+        (seenOf (now nodes) (now attributes) counts) m ⌝ }
     ensures stored { λ r. ⌜ Stored (now (nodes .entry)) (now (attributes .entry)) (cutName pass) m
         (markOf (now (characters .entry)) (valuesOf (now (script .entry)) (now (characters .entry))) pass
         (seenOf (now (nodes .entry)) (now (attributes .entry)) counts) m) (now (attributes .exit)) ⌝ }
