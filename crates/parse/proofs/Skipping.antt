@@ -1,7 +1,7 @@
 -- Nodes of which nothing is built can be passed over. Assumes nothing.
 use Prim.Native.Nat.{ℕ, zero, suc, _+_, _-_, _≤_}
 use mathlib.Core.Path.{_≡_, refl, ap, sym, _∙_, subst}
-use mathlib.Core.Bool.{Bool, true, false}
+use mathlib.Core.Bool.{Bool, true, false, true≢false}
 use mathlib.Core.List.{List, [], _∷_}
 use native.Mathlib.Numerals.{add-one}
 use native.Mathlib.Omega.{arith}
@@ -26,9 +26,6 @@ use Rattle.parse.proofs.Following.{handed-done, then-done}
 
 -- THE WALK, item by item
 
-no : {A : Type 0} → false ≡ true → A
-no e = absurd (let z : _≡_ {A = ℕ} 0 1 = cc in omega arith)
-
 pub built-outside : (k name space : ℕ) → k ≡ 0 → isParsed name space ≡ isBuilt k name space
 built-outside k name space h = ap (λ j. isBuilt j name space) (sym h)
 
@@ -40,7 +37,7 @@ pub built-here : (k : ℕ) (xs : List Event) (x : Element) → isBuilt k (x .cod
     pastUnbuilt k (begin x ∷ xs) ≡ begin x ∷ xs
 unfolding pastUnbuilt
 built-here zero xs x h = ap (λ (b : Bool). pick b (λ u. begin x ∷ xs) (λ u. pastUnbuilt 1 xs)) h
-built-here (suc k) xs x h = no h
+built-here (suc k) xs x h = absurd (true≢false (sym h))
 
 pub unbuilt-begin : (k : ℕ) (xs : List Event) (x : Element) → isBuilt k (x .code) (x .namespace) ≡ false →
     pastUnbuilt k (begin x ∷ xs) ≡ pastUnbuilt (k + 1) xs

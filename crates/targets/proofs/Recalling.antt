@@ -1,6 +1,6 @@
 -- The mark of a link with the same value as one before it. Assumes nothing.
 use mathlib.Core.Path.{_≡_, refl, sym, ap, _∙_, subst}
-use mathlib.Core.Bool.{Bool, true, false}
+use mathlib.Core.Bool.{Bool, true, false, true≢false}
 use mathlib.Core.List.{List, []}
 use Prim.Native.Nat.{ℕ, _+_, _-_, _*_, _/_, _<_, _≤_}
 use native.Mathlib.Omega.{arith}
@@ -29,11 +29,8 @@ values-same es j l a b c d e f p q x r s y u v z = record {
   size = sym u ∙ eqb-true e f z ∙ v;
 }
 
-no : {A : Type 0} → false ≡ true → A
-no e = absurd (let z : _≡_ {A = ℕ} 0 1 = cc in omega arith)
-
 pub not-same : (es : List ℕ) (j l : ℕ) → false ≡ true → SameValue es j l
-not-same es j l = no
+not-same es j l e = absurd (true≢false (sym e))
 
 -- Node q - 1 comes before node m, and has an entry with the same value.
 pub twin-found : (ns es : List ℕ) (a m j q l number : ℕ) → (q ≡ 0 → ⊥) → q ≤ m → l ≡ attributeId (readOf ns es) (q - 1) a

@@ -1,5 +1,5 @@
-// Nodes whose links were read last, one for each of 256 remainders of the numbers of commands. The copies of an element have the values of
-// the same commands, and so the same marks.
+// Nodes whose links were read last, in 512 slots by the numbers of commands. The copies of an element have the values of the same commands,
+// and so the same marks.
 use tree::read::attribute_id;
 use tree::word;
 use tree::word::entry_word;
@@ -25,11 +25,11 @@ fn same_value(attributes: &[u32], j: u32, l: u32) -> bool
     entry_word(attributes, j, word::SIZE) == entry_word(attributes, l, word::SIZE)
 }
 
-// Where the node is kept that has a value of the command with that number.
+// Where the node is kept that has a value of the command with that number. Numbers that lie evenly apart have different slots.
 fn slot_of(number: u32) -> usize
-    ensures { λ r. ⌜ r < 256 ⌝ }
+    ensures { λ r. ⌜ r < 512 ⌝ }
 {
-    (number % 256) as usize
+    (number as usize) * 2654435769 % 4294967296 / 8388608
 }
 
 // An entry of a node before m, as its number plus 1: of the same name and value as node m's entry j. 0 where none is known, and for fixed
@@ -37,7 +37,7 @@ fn slot_of(number: u32) -> usize
 pub fn twin_of(
     nodes: &[u32],
     attributes: &[u32],
-    recent: &[u32; 256],
+    recent: &[u32; 512],
     name: u32,
     m: u32,
     j: u32,
@@ -68,7 +68,7 @@ pub fn twin_of(
 }
 
 // Node m is the last one that has a value of the command with that number.
-pub fn keep_recent(recent: &mut [u32; 256], number: u32, m: u32)
+pub fn keep_recent(recent: &mut [u32; 512], number: u32, m: u32)
     requires { ⌜ m < 4294967295 ⌝ }
 {
     recent[slot_of(number)] = m + 1;

@@ -29,7 +29,7 @@ fn resolve_one(
     characters: &[u8],
     marks: &[usize; 1025],
     heads: &[u32; 2049],
-    recent: &mut [u32; 256],
+    recent: &mut [u32; 512],
     nodes: &[u32],
     attributes: &mut [u32],
     counts: Counts,
@@ -110,7 +110,7 @@ pub fn resolve(
         → Targeted (now (characters .entry)) (valuesOf (now (script .entry)) (now (characters .entry))) k
         (seenOf (now (nodes .entry)) (now (attributes .exit)) counts)) ⌝ }
 {
-    let mut recent: [u32; 256] = [0; 256];
+    let mut recent: [u32; 512] = [0; 512];
     let mut hint = Cursor::start();
     let mut m = 0;
     while m < counts.nodes {
