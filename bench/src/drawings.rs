@@ -500,6 +500,32 @@ fn copied_patterns(n: usize) -> Drawing {
     })
 }
 
+/// So many patterns with an id, in each of which something is filled with another pattern, which has 30 times as many things.
+fn named_patterns(n: usize) -> Drawing {
+    in_svg(|d| {
+        named(d, G, "r", |d| {
+            for _ in 0..450 {
+                d.open(RECT, 1);
+                d.close();
+            }
+        });
+        named(d, PATTERN, "q", |d| (0..30 * n / 450).for_each(|_| use_of(d, "r")));
+        (0..n).for_each(|i| named(d, PATTERN, &format!("p{i}"), |d| painted(d, "q")));
+    })
+}
+
+/// More ids than the table of ids has slots, all of them used, and so many copies of uses of the last one.
+fn beyond_slots(n: usize) -> Drawing {
+    const IDS: usize = 25_500;
+    let times = n.isqrt();
+    in_svg(|d| {
+        (0..IDS).for_each(|i| named(d, RECT, &format!("r{i}"), |_| ()));
+        (0..IDS).for_each(|i| use_of(d, &format!("r{i}")));
+        named(d, G, "g", |d| (0..times).for_each(|_| use_of(d, &format!("r{}", IDS - 1))));
+        (0..times).for_each(|_| use_of(d, "g"));
+    })
+}
+
 /// So many patterns in one another, with 450 times as many things in them that are filled with another pattern, which has as many things.
 fn nested_patterns(n: usize) -> Drawing {
     in_svg(|d| {
@@ -596,13 +622,15 @@ fn far_places(n: usize) -> Drawing {
 
 /// Drawings that take the longest: what they have so many of, how they are made, how many there are in the largest that is not refused, and
 /// in the largest that the Rust is given.
-pub const WORST: [(&str, fn(usize) -> Drawing, usize, usize); 13] = [
+pub const WORST: [(&str, fn(usize) -> Drawing, usize, usize); 15] = [
     ("ids before uses of nothing", searched_in_vain, 85_500, 85_500),
     ("comments, copied", copied_comments, 1_000_000, 65_536),
     ("unknown elements, copied", copied_elements, 250_000, 16_384),
     ("empty texts, copied", copied_texts, 200_000, 16_384),
     ("unknown attributes, copied", copied_attributes, 142_000, 16_384),
+    ("copied uses of one id of 25,500", beyond_slots, 300_000, 1024),
     ("patterns, copied", copied_patterns, 110_000, 256),
+    ("patterns with an id", named_patterns, 29_000, 256),
     ("patterns, nested, and links", nested_patterns, 1000, 8),
     ("patterns, nested, to as many", nested_targets, 490, 8),
     ("attributes that inherit nothing", inherited_in_vain, 80, 80),
