@@ -159,13 +159,13 @@ pub fn links_table() {
     for n in [1000, 13_000] {
         row(&format!("{n} images of elements with filters"), &drawings::images(n));
     }
-    for n in [150, 300, 600] {
+    for n in [150, 300, 600, 19_000] {
         row(&format!("{n} clip paths, to the next and back"), &drawings::clip_paths(n, true));
     }
-    for n in [150, 300, 600] {
+    for n in [150, 300, 600, 19_000] {
         row(&format!("{n} patterns, to the next and back"), &drawings::patterns(n));
     }
-    for n in [300, 600, 1200] {
+    for n in [300, 600, 1200, 24_000] {
         row(&format!("{n} fills with a pattern of as many"), &drawings::crossed(n));
     }
     for n in [500, 1000, 2000] {

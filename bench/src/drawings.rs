@@ -479,6 +479,10 @@ fn copied_attributes(n: usize) -> Drawing {
     copied(n, 7, |d| d.attribute(UNKNOWN, 0, b""))
 }
 
+fn copied_declarations(n: usize) -> Drawing {
+    copied(n, 7, |d| d.declaration(Fill as u8, 0, b""))
+}
+
 /// So many copies of a pattern without an id, in which something is filled with another pattern, which has four times as many things.
 fn copied_patterns(n: usize) -> Drawing {
     let times = n.isqrt();
@@ -622,12 +626,13 @@ fn far_places(n: usize) -> Drawing {
 
 /// Drawings that take the longest: what they have so many of, how they are made, how many there are in the largest that is not refused, and
 /// in the largest that the Rust is given.
-pub const WORST: [(&str, fn(usize) -> Drawing, usize, usize); 15] = [
+pub const WORST: [(&str, fn(usize) -> Drawing, usize, usize); 16] = [
     ("ids before uses of nothing", searched_in_vain, 85_500, 85_500),
     ("comments, copied", copied_comments, 1_000_000, 65_536),
     ("unknown elements, copied", copied_elements, 250_000, 16_384),
     ("empty texts, copied", copied_texts, 200_000, 16_384),
     ("unknown attributes, copied", copied_attributes, 142_000, 16_384),
+    ("declarations of one, copied", copied_declarations, 142_000, 16_384),
     ("copied uses of one id of 25,500", beyond_slots, 300_000, 1024),
     ("patterns, copied", copied_patterns, 110_000, 256),
     ("patterns with an id", named_patterns, 29_000, 256),
