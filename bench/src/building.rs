@@ -249,11 +249,11 @@ pub fn write_lines() {
     }
 }
 
-/// Builds of the drawings whose names have this in them, the last into tables of just their size: for a profiler.
-pub fn build_named(part: &str) {
+/// Two builds of the drawing with this name, the last into tables of just its size: for a profiler.
+pub fn build_named(wanted: &str) {
     let hurtful = drawings::HURTFUL.map(|(name, make, usual, _)| (name, make(usual)));
     let worst = drawings::WORST.map(|(name, make, most, _)| (name, make(most / 30)));
-    for (name, d) in drawings::large(Size(1 << 20)).into_iter().chain(hurtful).chain(worst).filter(|(name, _)| name.contains(part)) {
+    for (name, d) in drawings::large(Size(1 << 20)).into_iter().chain(hurtful).chain(worst).filter(|(name, _)| *name == wanted) {
         let (mut tables, nodes) = exact(&d).expect("a drawing to measure is built");
         let _ = black_box(library::plain::build(&d.script, &d.characters, tables.lent()));
         println!("{name}: {nodes} nodes");
