@@ -22,9 +22,11 @@ use Rattle.script.proofs.Commands.{placed-first}
 use Rattle.walk.specs.Values.{eventsAt}
 use Rattle.tree.specs.declared.Counts.{Counts}
 use Rattle.tree.specs.Lent.{treeOf, nodesRead}
+use Rattle.label.specs.Walk.{Lies}
 use Rattle.label.specs.Whole.{Underway}
-use Rattle.parse.specs.State.{countsIn, numberIn}
-use Rattle.parse.specs.Met.{outcomeOf, Reached}
+use Rattle.parse.specs.State.{placeIn, originIn, countsIn, numberIn}
+use Rattle.parse.specs.Met.{levelBuilt, outcomeOf, Reached}
+use Rattle.parse.specs.Unbuilt.{Skipped}
 use Rattle.build.specs.Results.{resultOf, nothing, rootAlone, clearedAs, Tended, Rooted}
 
 -- The sizes of a drawing that check takes.
@@ -103,6 +105,27 @@ module _ (script chars ns es bs : List ℕ) (h : Rooted script chars (treeOf ns 
         few = (omega arith, omega arith, omega arith);
         below = omega arith;
       }
+
+  -- Behind what stands before the first element.
+  module _ (s s′ : List ℕ) (k : Skipped script chars 1025 s s′) (p : placeIn s ≡ from) (z : originIn s ≡ 0) where
+    pub begins-behind : Underway script chars first 0 (placeIn s′)
+    begins-behind =
+        let u = begins in
+        record {
+          fit = k .fit;
+          all = u .all;
+          lies = k .lies (subst (λ (c : Cursor). Lies chars (eventsAt script chars c)) (sym p) (u .lies));
+          small = u .small;
+          tidy = u .tidy;
+          few = u .few;
+          below = u .below;
+        }
+
+    pub all-behind : levelBuilt script chars 1025 (originIn s′) 0 (placeIn s′) first
+        ≡ each (node (plain chars) (events script chars) 1025) (childrenFrom zero (eventsAt script chars from)) 0 false 0 first
+    all-behind =
+        ap (λ x. levelBuilt script chars 1025 x 0 (placeIn s′) first) (k .by ∙ z) ∙ k .same 0 0 first
+        ∙ ap (λ (c : Cursor). levelBuilt script chars 1025 0 0 c first) p
 
   -- The recursion's answer, and what it leaves.
   module _ (ns′ es′ bs′ k′ : List ℕ) (r : ℕ)

@@ -7,6 +7,7 @@ use crate::tables::refuse;
 use memo::link::may_link;
 use parse::node::parse_xml_node_children;
 use parse::state::counted;
+use parse::unbuilt::pass_unbuilt;
 use repair::whole::repair;
 use script::check::check;
 use tree::Counts;
@@ -50,7 +51,8 @@ fn finish(
     }
 }
 
-// What is still to do behind the root, by the table of ids. The recursion begins before the first command, with the root alone taken.
+// What is still to do behind the root, by the table of ids. The recursion begins before the first command, with the root alone taken; what
+// stands before the first element is passed over.
 fn fill_by(
     script: &[u8],
     characters: &[u8],
@@ -69,6 +71,7 @@ fn fill_by(
 {
     let mut place: [usize; 10] = [0; 10];
     let mut taken: [u32; 4] = [1, 0, 0, 0];
+    pass_unbuilt(&mut place, script, characters, 1025);
     let refused = parse_xml_node_children(
         &mut place,
         &mut taken,
