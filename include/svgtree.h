@@ -2,7 +2,7 @@
  *
  * Every slice is a pointer and a number of elements. A slice of length 0 may have any non-null aligned pointer. Null and misaligned
  * pointers, lengths past the memory behind them, and slices that overlap where one is written to are the caller's fault. Nothing is
- * assumed of what the slices hold. The numbers are those of docs/MANUAL.md. Build and exchange take up to 392 KB of stack. */
+ * assumed of what the slices hold. The numbers are those of docs/MANUAL.md. Build and exchange take up to 352 KB of stack. */
 #ifndef SVGTREE_H
 #define SVGTREE_H
 

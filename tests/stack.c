@@ -4,7 +4,7 @@
 #include <stdio.h>
 #include <string.h>
 
-enum { STACK = 392 * 1024, SMALL = 16 * 1024, NODES = 1 << 21, ENTRIES = 1 << 21 };
+enum { STACK = 352 * 1024, SMALL = 16 * 1024, NODES = 1 << 21, ENTRIES = 1 << 21 };
 enum { G = 31, SVG = 45, TEXT = 48, TSPAN = 51, USE = 52, HREF = 64, ID = 65 };
 
 static uint8_t script[1 << 17], characters[1 << 17], text[64];

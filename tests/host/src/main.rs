@@ -14,7 +14,7 @@ const USAGE: &str = "usage: host COMMAND
   questions-random N SEED    N random tables, likewise
   build-rooms PART SEED FILE..     recorded builds, one in PART, with tables of every length and any words in them before
   build-random N SEED FILE..       N random drawings and damaged recorded ones: what can be told of build and exchange without building
-  build-deep                       the deepest drawings, built and exchanged with a stack of 392 KB
+  build-deep                       the deepest drawings, built and exchanged with a stack of 352 KB
   exchange-texts PART SEED FILE..  every text of recorded drawings, one in PART, exchanged; beside a fresh build
   write-check N SEED         the same drawings with the answers of plain Rust, as vectors
   write-questions N SEED     the same tables with the answers of plain Rust, as vectors

@@ -421,7 +421,7 @@ fn nested(groups: usize, innermost: u8) -> Drawing {
     d
 }
 
-/// The deepest drawings, with a stack of 392 KB: a call that takes more ends the program.
+/// The deepest drawings, with a stack of 352 KB: a call that takes more ends the program.
 pub fn build_deep() -> ExitCode {
     let run = || {
         let mut tally = Tally::default();
@@ -448,7 +448,7 @@ pub fn build_deep() -> ExitCode {
             }
             exchange_beside(&mut tally, r, &d, 1, b"\tnew one", words);
         }
-        tally.end("the deepest drawings, with a stack of 392 KB", library::BUILD)
+        tally.end("the deepest drawings, with a stack of 352 KB", library::BUILD)
     };
-    std::thread::Builder::new().stack_size(392 << 10).spawn(run).unwrap().join().unwrap()
+    std::thread::Builder::new().stack_size(352 << 10).spawn(run).unwrap().join().unwrap()
 }
