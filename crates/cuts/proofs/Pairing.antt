@@ -27,7 +27,8 @@ use Rattle.targets.specs.Targets.{seenOf, passKind, markFor, markOf}
 use Rattle.targets.proofs.Passes.{no-id}
 use Rattle.targets.proofs.Marks.{mark-target}
 use Rattle.cuts.specs.declared.Aim.{Aim}
-use Rattle.cuts.specs.Seen.{anyWith, hasLinks, Cuttable, keyOf, Aimed, cutBack, cutNodes, cutPairs, Range, Quiet, Covered, Known, Settled}
+use Rattle.cuts.specs.Seen.{anyWith, hasLinks, Cuttable, keyOf, Aimed, cutBack, cutNodes, cutPairs}
+use Rattle.cuts.specs.Seen.{Range, Quiet, Covered, Known, Settled}
 use Rattle.cuts.proofs.Writing.{applied-more, cuttable-on, long-on}
 use Rattle.cuts.proofs.Turning.{leads-marked, never-led, leads-entry, cut-tidy, cut-aimed}
 use Rattle.cuts.proofs.Descending.{up-step, up-none, range-same}

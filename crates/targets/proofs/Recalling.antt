@@ -6,7 +6,7 @@ use Prim.Native.Nat.{ℕ, _+_, _-_, _*_, _/_, _<_, _≤_}
 use native.Mathlib.Omega.{arith}
 use borrow.Author.Tests.{eqb-true, ne-eqb}
 use lib.Dec.{eqb}
-use lib.ListN.{length, getD}
+use lib.ListN.{length, getD, set}
 use Rattle.model.specs.Base.{pick, and, given, sameBytes}
 use Rattle.model.specs.Drawing.{Reading, Value, readingsOf, readingOf}
 use Rattle.model.specs.Names.{isPossibleNone, fixedBytes}
@@ -17,6 +17,10 @@ use Rattle.tree.specs.Lent.{readOf}
 use Rattle.tree.proofs.Alike.{id-same}
 use Rattle.targets.specs.Targets.{seenOf, passKind, markFor, markOf, storedMark}
 use Rattle.targets.specs.Storing.{StoredBefore, SameValue, Twin}
+
+-- A slot is written.
+pub slot-set : (xs : List ℕ) (i j x : ℕ) → i ≡ j → set xs i x ≡ set xs j x
+slot-set xs i j x e = ap (λ (k : ℕ). set xs k x) e
 
 -- TWO ENTRIES
 

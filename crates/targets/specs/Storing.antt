@@ -1,6 +1,6 @@
 -- What storing a mark changes.
 use mathlib.Core.Path.{_≡_}
-use Prim.Native.Nat.{ℕ, _+_, _-_, _*_, _<_, _≤_}
+use Prim.Native.Nat.{ℕ, _+_, _-_, _*_, _/_, _%_, _<_, _≤_}
 use mathlib.Core.List.{List}
 use lib.ListN.{length, getD}
 use Rattle.model.specs.Drawing.{Value}
@@ -20,6 +20,10 @@ pub record StoredBefore (chars : List ℕ) (values : List Value) (k : ℕ) (t : 
   pub marks : (i : ℕ) → i < m → storedMark t (cutName k) i ≡ markOf chars values k t i
 
 -- TWINS
+
+-- The slot of a command's number, one of 512.
+abbrev pub slotOf : ℕ → ℕ
+slotOf number = number * 2654435769 % 4294967296 / 8388608
 
 -- Two entries have the same value, of the same command.
 pub record SameValue (es : List ℕ) (j l : ℕ) : Type 0 where

@@ -6,9 +6,9 @@ use tree::word::entry_word;
 ghost use mathlib.Core.Path.{_≡_};
 ghost use mathlib.Core.Bool.{true};
 ghost use Prim.Native.Nat.{ℕ, _+_, _*_, _<_, _≤_};
-ghost use lib.ListN.{length};
+ghost use lib.ListN.{length, set};
 ghost use Rattle.tree.specs.Lent.{readOf, Readable};
-ghost use Rattle.targets.specs.Storing.{SameValue, Twin};
+ghost use Rattle.targets.specs.Storing.{slotOf, SameValue, Twin};
 
 // Have two entries the same value, of the same command?
 fn same_value(attributes: &[u32], j: u32, l: u32) -> bool
@@ -27,7 +27,8 @@ fn same_value(attributes: &[u32], j: u32, l: u32) -> bool
 
 // Where the node is kept that has a value of the command with that number. Numbers that lie evenly apart have different slots.
 fn slot_of(number: u32) -> usize
-    ensures { λ r. ⌜ r < 512 ⌝ }
+    ensures same { λ r. ⌜ r ≡ slotOf number ⌝ }
+    ensures low { λ r. ⌜ r < 512 ⌝ }
 {
     (number as usize) * 2654435769 % 4294967296 / 8388608
 }
@@ -70,6 +71,7 @@ pub fn twin_of(
 // Node m is the last one that has a value of the command with that number.
 pub fn keep_recent(recent: &mut [u32; 512], number: u32, m: u32)
     requires { ⌜ m < 4294967295 ⌝ }
+    ensures { λ _. ⌜ now (recent .exit) ≡ set (now (recent .entry)) (slotOf number) (m + 1) ⌝ }
 {
     recent[slot_of(number)] = m + 1;
 }
