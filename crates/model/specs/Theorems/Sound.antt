@@ -104,8 +104,8 @@ module _ (t : Tree) (i : ℕ) where
       go (inl e) = absurd (z (eqb-true w 0 e))
       go (inr e) = let p = both (leb (i + 2) w) (leb w t.node_count) e in (leb-true _ _ p.0, leb-true _ _ p.1)
 
-  is_later : (w : ℕ) → Later t.node_count i w → is_later t i w ≡ true
-  is_later w h = go (ℕ_discrete w 0)
+  is-later : (w : ℕ) → Later t.node_count i w → is_later t i w ≡ true
+  is-later w h = go (ℕ_discrete w 0)
     where
       go : Dec (w ≡ 0) → is_later t i w ≡ true
       go (yes e) = or_left _ _ (eq-eqb w 0 e)
@@ -198,7 +198,7 @@ module _ (t : Tree) (i : ℕ) where
   unfolding paired
   kept-node k =
       all_of _ _ (is-placed k) (all_of _ _
-      (all_of _ _ (all_of _ _ (is_later _ k.next) (all_of _ _ (is_later _ k.first) (is_later _ k.last)))
+      (all_of _ _ (all_of _ _ (is-later _ k.next) (all_of _ _ (is-later _ k.first) (is-later _ k.last)))
       (is-paired (first_child_of t i) (last_child_of t i) k.none k.some))
       (is-filled k))
 
