@@ -1,4 +1,6 @@
 // UTF-8: the Unicode Standard, table 3-7.
+#![tactic(auto)]
+
 ghost use Rattle.std.specs.Prelude.{◌≡◌, false, not, ◌+◌, ◌<◌, ◌≤◌, length, drop, get_or};
 ghost use Rattle.model.specs.Utf8.{◌to◌, is_within, sequence_of, well_formed, is_utf8, is_utf8_from};
 ghost use Rattle.utf8.specs.Lead.{length_of, second_of, never, left_out, misplaced, misplaced_of_two};

@@ -1,5 +1,7 @@
 // Runs vectors: reads them from standard input and writes the answers, one to a line.
 // The input is a u32 with the number of vectors, and the vectors; a number is four bytes, little-endian (tools/vectors writes it).
+#![tactic(auto)]
+
 mod built;
 mod input;
 mod judged;
