@@ -14,8 +14,8 @@ use Rattle.model.specs.Tables.{Tree, Out, refused, done, then, word, set_word, n
 use Rattle.model.specs.Parse.{each, node, plain}
 use Rattle.model.specs.Repair.{repaired}
 use Rattle.model.specs.Build.{with_root, parsed, first_is_svg, tested, parse_tree, with_repairs, answered, build}
-use Rattle.model.specs.Theorems.Inside.{all-inside}
-use Rattle.model.specs.Theorems.Kept.{tidy-root}
+use Rattle.model.proofs.Theorems.Inside.{all-inside}
+use Rattle.model.proofs.Theorems.Kept.{tidy-root}
 use Rattle.script.specs.declared.cursor.Cursor.{Cursor}
 use Rattle.script.specs.Step.{at_start, commands_at}
 use Rattle.script.proofs.Commands.{placed_first}

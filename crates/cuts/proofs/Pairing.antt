@@ -15,8 +15,8 @@ use Rattle.model.specs.Drawing.{Part, Value, events, reading_of, readings_of}
 use Rattle.model.specs.Tables.{Tree, attribute_id, attribute_of, has_id_bytes, last_with_id, element_by_id}
 use Rattle.model.specs.Repair.{up_from, descendants, readings_of_attribute, link_of, node_attribute}
 use Rattle.model.specs.Repair.{Cut, cut_name, cut_at, apply_cut, applied}
-use Rattle.model.specs.Theorems.Inside.{all-inside}
-use Rattle.model.specs.Theorems.Images.{values-bare}
+use Rattle.model.proofs.Theorems.Inside.{all-inside}
+use Rattle.model.proofs.Theorems.Images.{values-bare}
 use Rattle.model.specs.Theorems.Kept.{Tidy}
 use Rattle.model.specs.Theorems.GoingOn.{passing, leads_to, target_of, nodes_at, cuts_along, with_each, going_on}
 use Rattle.tree.specs.declared.Counts.{Counts}

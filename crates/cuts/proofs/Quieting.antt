@@ -15,7 +15,7 @@ use Rattle.model.specs.Drawing.{Value, readings_of}
 use Rattle.model.specs.Tables.{Tree, word, parent_of, attribute_id, set_none}
 use Rattle.model.specs.Repair.{up_from, below_from, descendants, cut_name, cut_at, apply_cut, applied}
 use Rattle.model.specs.Theorems.Kept.{Tidy}
-use Rattle.model.specs.Theorems.Agree.{set_cases}
+use Rattle.model.proofs.Theorems.Agree.{set_cases}
 use Rattle.model.specs.Theorems.GoingOn.{passing, leads_to, cuts_along}
 use Rattle.cuts.specs.Seen.{cut_back, cut_nodes, Range, told_first, told_end, Ranges, Silent, Quiet}
 use Rattle.cuts.specs.Seen.{Covered, Remembered, Told, Hushed, Spread}

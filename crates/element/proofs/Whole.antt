@@ -11,7 +11,8 @@ use Rattle.model.specs.Base.{pick, folded}
 use Rattle.model.specs.Drawing.{Attribute, Declaration}
 use Rattle.model.specs.Tables.{Tree, Entry, Out, refused, done, ELEMENT, word, appended, add_element, node_room, attribute_room}
 use Rattle.model.specs.Element.{add_attribute, write_declaration, entries_of, most_nodes, parse_svg_element}
-use Rattle.model.specs.Theorems.Runs.{table_of, entries_from, with_run, add_same, write_same}
+use Rattle.model.specs.Theorems.Runs.{table_of, entries_from, with_run}
+use Rattle.model.proofs.Theorems.Runs.{add_same, write_same}
 use Rattle.script.specs.declared.cursor.Cursor.{Cursor}
 use Rattle.walk.specs.declared.node.Opened.{Opened}
 use Rattle.walk.specs.Nodes.{element_of}

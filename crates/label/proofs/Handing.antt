@@ -13,8 +13,8 @@ use Rattle.model.specs.AId
 use Rattle.model.specs.Tables.{Tree, ELEMENT, kind_of, parent_of, from_of, to_of, find_entry, attribute_id, has_attribute}
 use Rattle.model.specs.Tables.{value_of, value_at_entry, holder_from}
 use Rattle.model.specs.Text.{XmlSpace, default, preserve, preserve_word, get_xmlspace, space_of}
-use Rattle.model.specs.Theorems.Entries.{entry-by-words}
-use Rattle.model.specs.Theorems.Kept.{find-within}
+use Rattle.model.proofs.Theorems.Entries.{entry-by-words}
+use Rattle.model.proofs.Theorems.Kept.{find-within}
 use Rattle.tree.proofs.Climbs.{climb, holder-climbs, climb-step}
 
 -- The space from the node whose index plus 1 is w.

@@ -14,12 +14,13 @@ use Rattle.model.specs.Check.{check}
 use Rattle.model.specs.Drawing.{Value, events}
 use Rattle.model.specs.Tables.{Tree, is_named, entry_at, attribute_id, set_none}
 use Rattle.model.specs.Repair.{up_from, all_named, Cut, cut_name, apply_cut, applied, repairs, repaired}
-use Rattle.model.specs.Theorems.Unused.{replicate-zero}
-use Rattle.model.specs.Theorems.Inside.{all-inside}
-use Rattle.model.specs.Theorems.SameRepair.{repairs-same}
+use Rattle.model.proofs.Theorems.Unused.{replicate-zero}
+use Rattle.model.proofs.Theorems.Inside.{all-inside}
+use Rattle.model.proofs.Theorems.SameRepair.{repairs-same}
 use Rattle.model.specs.Theorems.Kept.{KeptNode, Tidy}
 use Rattle.model.specs.Theorems.GoingOn.{element_of, pairs_of, going_on}
-use Rattle.model.specs.Theorems.Images.{images_on, pass_on, passes_on, repairs-going-on, values-bare}
+use Rattle.model.specs.Theorems.Images.{images_on, pass_on, passes_on}
+use Rattle.model.proofs.Theorems.Images.{repairs-going-on, values-bare}
 use Rattle.script.specs.declared.cursor.Cursor.{Cursor}
 use Rattle.script.specs.Step.{Fit, at_start}
 use Rattle.places.specs.Marks.{Marked}

@@ -12,11 +12,12 @@ use Rattle.model.specs.EId
 use Rattle.model.specs.Drawing.{Value, events}
 use Rattle.model.specs.Tables.{Tree, ELEMENT, word, kind_of, is_named, attribute_id, set_none}
 use Rattle.model.specs.Repair.{up_from, all_named, descendants, recursive_fe_image, Cut, cut_name, cut_entry, cut_at, apply_cut, applied}
-use Rattle.model.specs.Theorems.Sim.{and_left}
-use Rattle.model.specs.Theorems.Cuts as cuts
+use Rattle.model.proofs.Theorems.Sim.{and_left}
+use Rattle.model.proofs.Theorems.Cuts as cuts
 use Rattle.model.specs.Theorems.GoingOn.{with_each, pairs_of, going_on, element_of}
-use Rattle.model.specs.Theorems.Inside.{all-inside}
-use Rattle.model.specs.Theorems.Images.{images_on, pass_on, values-bare}
+use Rattle.model.proofs.Theorems.Inside.{all-inside}
+use Rattle.model.specs.Theorems.Images.{images_on, pass_on}
+use Rattle.model.proofs.Theorems.Images.{values-bare}
 use Rattle.script.specs.declared.cursor.Cursor.{Cursor}
 use Rattle.script.specs.Step.{Fit, at_start}
 use Rattle.tree.specs.declared.Counts.{Counts}

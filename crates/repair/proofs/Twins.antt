@@ -16,8 +16,9 @@ use Rattle.model.specs.Drawing.{Value, reading_of}
 use Rattle.model.specs.Tables.{Tree, word, entry_at, value_of, entry_word, attribute_id, attribute_of, has_id_bytes, last_with_id, element_by_id, set_none, parent_of}
 use Rattle.model.specs.Repair.{up_from, all_named, link_kind, link_of, element_id, readings_of_attribute, paints_with, node_attribute}
 use Rattle.model.specs.Repair.{recursive_fe_image, Cut, cut_name, cut_at, apply_cut, applied}
-use Rattle.model.specs.Theorems.Agree.{agree-sets, sets-out}
-use Rattle.model.specs.Theorems.GoingOn.{given_both, leads_to, target_of, nodes_at, cuts_along, going_on, element_of, pairs_of}
+use Rattle.model.proofs.Theorems.Agree.{agree-sets, sets-out}
+use Rattle.model.specs.Theorems.GoingOn.{leads_to, target_of, nodes_at, cuts_along, going_on, element_of, pairs_of}
+use Rattle.model.proofs.Theorems.GoingOn.{given_both}
 use Rattle.model.specs.Theorems.Images.{images_on, pass_on, passes_on}
 use Rattle.model.specs.Theorems.Kept.{Tidy, with_attributes}
 use Rattle.tree.specs.declared.Counts.{Counts}

@@ -14,10 +14,11 @@ use Rattle.model.specs.Check.{check}
 use Rattle.model.specs.Drawing.{Value, events, readings_of, reading_of}
 use Rattle.model.specs.Tables.{Tree, entry_at, entry_word, attribute_id, attribute_of}
 use Rattle.model.specs.Repair.{readings_of_attribute, cut_name}
-use Rattle.model.specs.Theorems.Inside.{all-inside}
-use Rattle.model.specs.Theorems.Images.{values-bare}
-use Rattle.model.specs.Theorems.Kept.{Tidy, attribute-any}
-use Rattle.model.specs.Theorems.Cuts.{attribute-there, one-owner}
+use Rattle.model.proofs.Theorems.Inside.{all-inside}
+use Rattle.model.proofs.Theorems.Images.{values-bare}
+use Rattle.model.specs.Theorems.Kept.{Tidy}
+use Rattle.model.proofs.Theorems.Kept.{attribute-any}
+use Rattle.model.proofs.Theorems.Cuts.{attribute-there, one-owner}
 use Rattle.script.specs.declared.cursor.Cursor.{Cursor}
 use Rattle.script.specs.Step.{Fit}
 use Rattle.tree.specs.declared.Counts.{Counts}

@@ -1,7 +1,7 @@
 use mathlib.Core.Path.{◌∙◌, sym, ap}
 use mathlib.Core.Bool.{not}
 use borrow.Author.Tests.{eq-eqb, ne_eqb}
-use Rattle.model.specs.Theorems.Inside.{first-none}
+use Rattle.model.proofs.Theorems.Inside.{first-none}
 use Rattle.exchange.proofs.Faults.{first-hit, first-miss}
 use borrow.Author.Rules.{rules}
 use Rattle.exchange.proofs.fault.text_fault.Statement.{statement}

@@ -5,7 +5,7 @@ use Rattle.model.specs.Tables.{element_by_id}
 use Rattle.model.specs.Questions.{element_by_id_question, answer_of}
 use Rattle.questions.specs.Answers.{answered}
 use Rattle.tree.proofs.Bools.{fails, passes}
-use Rattle.model.specs.Theorems.Sound.{sound-kept}
+use Rattle.model.proofs.Theorems.Sound.{sound-kept}
 use Rattle.tree.proofs.Facts.{readable-in}
 use Rattle.tree.proofs.Alike.{last-same}
 use borrow.Author.Rules.{rules}

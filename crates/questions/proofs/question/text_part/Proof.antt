@@ -2,7 +2,7 @@ use borrow.Author.Tests.{lt-ltb, le-ltb}
 use native.Mathlib.Omega.{arith}
 use Rattle.model.specs.Questions.{text_question}
 use Rattle.tree.proofs.Bools.{fails, passes}
-use Rattle.model.specs.Theorems.Sound.{sound-kept}
+use Rattle.model.proofs.Theorems.Sound.{sound-kept}
 use Rattle.questions.proofs.Facts.{text-readable}
 use borrow.Author.Rules.{rules}
 use Rattle.questions.proofs.question.text_part.Statement.{statement}

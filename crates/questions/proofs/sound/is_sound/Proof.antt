@@ -2,7 +2,7 @@ use Rattle.tree.specs.Lent.{tree_of}
 use Rattle.model.specs.Tables.{entry_at}
 use Rattle.model.specs.Questions.{is_sound}
 use Rattle.tree.proofs.Bools.{fails, passes}
-use Rattle.model.specs.Theorems.Sound.{fitting}
+use Rattle.model.proofs.Theorems.Sound.{fitting}
 use borrow.Author.Rules.{rules}
 use Rattle.questions.proofs.sound.is_sound.Statement.{statement}
 use Rattle.questions.proofs.sound.is_sound.Tie as tie

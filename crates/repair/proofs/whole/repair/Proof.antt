@@ -1,7 +1,7 @@
 use mathlib.Core.List.{[]}
 use native.Mathlib.Omega.{arith}
 use borrow.Author.Tests.{not-true, not-false}
-use Rattle.model.specs.Theorems.Unused.{replicate-zero}
+use Rattle.model.proofs.Theorems.Unused.{replicate-zero}
 use Rattle.places.proofs.Marking.{marked-none}
 use Rattle.ids.proofs.Likeness.{like-tidy}
 use Rattle.targets.proofs.Finding.{small}
