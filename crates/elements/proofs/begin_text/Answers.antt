@@ -4,9 +4,9 @@ use Rattle.elements.proofs.begin_text.Goals as goal
 
 pub parse_svg_text_element-requires : goal.parse_svg_text_element-requires
 parse_svg_text_element-requires c =
-    let pre = (c.requires.going, c.requires.opening, c.requires.memo) in record {
-      beginning = beginning _ _ _ _ _ _ pre.0 _ pre.1.0;
-      memo = pre.1.1;
+    record {
+      beginning = beginning _ _ _ _ _ _ c.requires.going _ c.requires.opening;
+      memo = c.requires.memo;
     }
 
 pub returns-in-Done : goal.returns-in-Done

@@ -12,14 +12,12 @@ returns-then-s-i-lt4 c =
 
 pub returns-then-not-is_second_of_four : goal.returns-then-not-is_second_of_four
 returns-then-not-is_second_of_four c =
-    let pre = (c.requires.i_in_bounds, c.requires.i_value) in
-    bad-second _ _ 4 pre.0 (first-most _ 3 pre.1) (sym pre.1) (omega arith) (omega arith)
+    bad-second _ _ 4 c.requires.i_in_bounds (first-most _ 3 c.requires.i_value) (sym c.requires.i_value) (omega arith) (omega arith)
     (sym c.is_second_of_four.ensures ∙ not-true _ c.if-not-is_second_of_four.true-raw)
 
 pub returns-then-not-is_within : goal.returns-then-not-is_within
 returns-then-not-is_within c =
-    let pre = (c.requires.i_in_bounds, c.requires.i_value) in
-    bad-third _ _ 4 pre.0 (first-most _ 3 pre.1) (sym pre.1)
+    bad-third _ _ 4 c.requires.i_in_bounds (first-most _ 3 c.requires.i_value) (sym c.requires.i_value)
     (record {
       room = omega arith;
       size = omega arith;
@@ -30,8 +28,7 @@ returns-then-not-is_within c =
 
 pub returns-then-not-is_within-2 : goal.returns-then-not-is_within-2
 returns-then-not-is_within-2 c =
-    let pre = (c.requires.i_in_bounds, c.requires.i_value) in
-    bad-fourth _ _ 4 pre.0 (first-most _ 3 pre.1) (sym pre.1)
+    bad-fourth _ _ 4 c.requires.i_in_bounds (first-most _ 3 c.requires.i_value) (sym c.requires.i_value)
     (record {
       second = record {
         room = omega arith;
@@ -45,8 +42,7 @@ returns-then-not-is_within-2 c =
 
 pub returns : goal.returns
 returns c =
-    let pre = (c.requires.i_in_bounds, c.requires.i_value) in
-    four _ _ 4 pre.0 (first-most _ 3 pre.1) (sym pre.1)
+    four _ _ 4 c.requires.i_in_bounds (first-most _ 3 c.requires.i_value) (sym c.requires.i_value)
     (record {
       third = record {
         second = record {

@@ -8,21 +8,21 @@ use Rattle.cuts.proofs.back.cut_back.Goals as goal
 
 pub mark_of-mark-requires : goal.mark_of-mark-requires
 mark_of-mark-requires c =
-    let pre = (c.requires.cuttable, c.requires.aimed, c.requires.m_lt_nodes) in record {
-      characters_value = pre.0.mendable.drawn.checked;
-      marked = pre.0.mendable.drawn.marked;
-      kept = pre.0.mendable.tidy.kept;
-      indexed = pre.0.mendable.indexed;
-      le_pass = (pre.1.0.first, pre.1.0.last);
-      m_lt_nodes = pre.1.1;
-      targeted = pre.0.targeted;
+    record {
+      characters_value = c.requires.cuttable.mendable.drawn.checked;
+      marked = c.requires.cuttable.mendable.drawn.marked;
+      kept = c.requires.cuttable.mendable.tidy.kept;
+      indexed = c.requires.cuttable.mendable.indexed;
+      le_pass = (c.requires.aimed.first, c.requires.aimed.last);
+      m_lt_nodes = c.requires.m_lt_nodes;
+      targeted = c.requires.cuttable.targeted;
     }
 
 pub cut-requires : goal.cut-requires
 cut-requires c =
-    let pre = (c.requires.cuttable, c.requires.aimed, c.requires.m_lt_nodes) in record {
-      le_pass = (pre.1.0.first, omega (arith, pre.1.0.last));
-      readable = readable _ _ pre.0.mendable.tidy.kept _ pre.1.1;
+    record {
+      le_pass = (c.requires.aimed.first, omega (arith, c.requires.aimed.last));
+      readable = readable _ _ c.requires.cuttable.mendable.tidy.kept _ c.requires.m_lt_nodes;
     }
 
 pub returns-then-mark-aim : goal.returns-then-mark-aim

@@ -5,15 +5,13 @@ use Rattle.cuts.proofs.back.cut_below.Goals as goal
 
 pub behind_target-end-requires : goal.behind_target-end-requires
 behind_target-end-requires c =
-    let pre = (c.requires.cuttable, c.requires.aimed, c.requires.quiet, c.requires.w_lt_nodes) in record {
-      w_lt_count = (pre.1.1.1, omega (arith, pre.0.mendable.tidy.kept.fits.nodes));
-      ranges = pre.1.1.0.ranges;
+    record {
+      w_lt_count = (c.requires.w_lt_nodes, omega (arith, c.requires.cuttable.mendable.tidy.kept.fits.nodes));
+      ranges = c.requires.quiet.ranges;
     }
 
 pub loop-m-init : goal.loop-m-init
-loop-m-init c =
-    let pre = (c.requires.cuttable, c.requires.aimed, c.requires.quiet, c.requires.w_lt_nodes) in
-    cutting-first _ _ _ _ _ _ _ _ _ _ _ pre.0 pre.1.0 pre.1.1.0 c.behind_target-end.ensures
+loop-m-init c = cutting-first _ _ _ _ _ _ _ _ _ _ _ c.requires.cuttable c.requires.aimed c.requires.quiet c.behind_target-end.ensures
 
 pub cut_next-m-requires : goal.cut_next-m-requires
 cut_next-m-requires c =

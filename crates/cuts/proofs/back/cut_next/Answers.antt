@@ -5,10 +5,10 @@ use Rattle.cuts.proofs.back.cut_next.Goals as goal
 
 pub cut_back-requires : goal.cut_back-requires
 cut_back-requires c =
-    let pre = (c.requires.cuttable, c.requires.aimed, c.requires.quiet, c.requires.m_lt_end) in record {
-      cuttable = pre.0;
-      aimed = pre.1.0;
-      m_lt_nodes = omega (arith, pre.1.1.1.0, pre.1.1.1.1);
+    record {
+      cuttable = c.requires.cuttable;
+      aimed = c.requires.aimed;
+      m_lt_nodes = omega (arith, c.requires.m_lt_end.0, c.requires.m_lt_end.1);
     }
 
 pub overflow_add-result : goal.overflow_add-result
@@ -24,23 +24,21 @@ returns-then-n-m c =
 pub returns-then-n-end : goal.returns-then-n-end
 returns-then-n-end c =
     let behind-quiet-ensures = c.behind_quiet-n.ensures.0 in
-    let pre = (c.requires.aimed, c.requires.quiet, c.requires.m_lt_end) in
     let the-1 = c.behind_quiet-n.ensures.1 (omega (arith, c.if-n-m.false, behind-quiet-ensures)) in record {
-      tables = range-kept _ _ _ _ _ _ _ _ pre.1.1.0 _ pre.1.0 pre.1.1.1 _
-          (omega (arith, c.if-n-m.false, behind-quiet-ensures)) the-1 pre.0;
-      onward = onward-range _ _ _ _ _ c.args.aim _ _ pre.1.1.0 _ pre.1.0
-          pre.1.1.1 _ (omega (arith, c.if-n-m.false, behind-quiet-ensures)) the-1 _
+      tables = range-kept _ _ _ _ _ _ _ _ c.requires.m_lt_end.0 _ c.requires.quiet c.requires.m_lt_end.1 _
+          (omega (arith, c.if-n-m.false, behind-quiet-ensures)) the-1 c.requires.aimed;
+      onward = onward-range _ _ _ _ _ c.args.aim _ _ c.requires.m_lt_end.0 _ c.requires.quiet
+          c.requires.m_lt_end.1 _ (omega (arith, c.if-n-m.false, behind-quiet-ensures)) the-1 _
           (omega (arith, c.if-n-m.false, behind-quiet-ensures)) (omega arith) (omega (arith, c.if-n-end.true));
     }
 
 pub returns : goal.returns
 returns c =
     let behind-quiet-ensures = c.behind_quiet-n.ensures.0 in
-    let pre = (c.requires.aimed, c.requires.quiet, c.requires.m_lt_end) in
     let the-1 = c.behind_quiet-n.ensures.1 (omega (arith, c.if-n-m.false, behind-quiet-ensures)) in record {
-      tables = range-kept _ _ _ _ _ _ _ _ pre.1.1.0 _ pre.1.0 pre.1.1.1 _
-          (omega (arith, c.if-n-m.false, behind-quiet-ensures)) the-1 pre.0;
-      onward = onward-range _ _ _ _ _ c.args.aim _ _ pre.1.1.0 _ pre.1.0
-          pre.1.1.1 _ (omega (arith, c.if-n-m.false, behind-quiet-ensures)) the-1 _ pre.1.1.0
+      tables = range-kept _ _ _ _ _ _ _ _ c.requires.m_lt_end.0 _ c.requires.quiet c.requires.m_lt_end.1 _
+          (omega (arith, c.if-n-m.false, behind-quiet-ensures)) the-1 c.requires.aimed;
+      onward = onward-range _ _ _ _ _ c.args.aim _ _ c.requires.m_lt_end.0 _ c.requires.quiet
+          c.requires.m_lt_end.1 _ (omega (arith, c.if-n-m.false, behind-quiet-ensures)) the-1 _ c.requires.m_lt_end.0
           (omega (arith, c.if-n-end.false)) (omega arith);
     }

@@ -17,10 +17,10 @@ returns-then-pass-gt2 c =
 
 pub last_of-w-requires : goal.last_of-w-requires
 last_of-w-requires c =
-    let pre = (c.requires.kept, c.requires.indexed, c.requires.i_lt_nodes) in record {
-      by_index = λ k l. known_in _ _ pre.0 k l;
-      indexed = pre.1.0;
-      i_lt_count = pre.1.1;
+    record {
+      by_index = λ k l. known_in _ _ c.requires.kept k l;
+      indexed = c.requires.indexed;
+      i_lt_count = c.requires.i_lt_nodes;
     }
 
 pub returns-then-w-eq0 : goal.returns-then-w-eq0

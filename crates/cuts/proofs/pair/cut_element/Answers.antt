@@ -7,56 +7,49 @@ use Rattle.cuts.proofs.pair.cut_element.Goals as goal
 
 pub first_with-first-requires : goal.first_with-first-requires
 first_with-first-requires c =
-    let pre = (c.requires.cuttable, c.requires.le_pass, c.requires.i_lt_nodes, c.requires.known_2) in
     let below = c.behind_below-end.ensures in record {
       i_le_end = omega (arith, below.low);
-      by_index = λ m l. readable _ _ pre.0.mendable.tidy.kept m (omega (arith, below.high));
+      by_index = λ m l. readable _ _ c.requires.cuttable.mendable.tidy.kept m (omega (arith, below.high));
     }
 
 pub returns-then-first-end : goal.returns-then-first-end
 returns-then-first-end c =
-    let pre = (c.requires.cuttable, c.requires.le_pass, c.requires.i_lt_nodes, c.requires.known_2) in
-    let below = c.behind_below-end.ensures in
-    let found = (c.first_with-first.ensures.within, c.first_with-first.ensures.none, c.first_with-first.ensures.some) in record {
+    let below = c.behind_below-end.ensures in record {
       tables = element-bare _ _ _ _ c.args.counts _ _ _ _ _
-          below c.cut_name-name.ensures found.0.0 found.0.1 found.1.0 c.if-first-end.true;
-      known = pre.1.1.1;
+          below c.cut_name-name.ensures c.first_with-first.ensures.within.0 c.first_with-first.ensures.within.1 c.first_with-first.ensures.none c.if-first-end.true;
+      known = c.requires.known_2;
     }
 
 pub returns-then-key-eq0 : goal.returns-then-key-eq0
 returns-then-key-eq0 c =
-    let pre = (c.requires.cuttable, c.requires.le_pass, c.requires.i_lt_nodes, c.requires.known_2) in
-    let below = c.behind_below-end.ensures in
-    let found = (c.first_with-first.ensures.within, c.first_with-first.ensures.none, c.first_with-first.ensures.some) in record {
+    let below = c.behind_below-end.ensures in record {
       tables = element-unled _ _ _ _
           c.args.counts _ _ _ _ _
-          below c.cut_name-name.ensures found.0.0 found.0.1 found.1.0
-          pre.1.0.0 pre.1.0.1 (sym c.key_of-key.ensures ∙ c.if-key-eq0.true);
-      known = pre.1.1.1;
+          below c.cut_name-name.ensures c.first_with-first.ensures.within.0 c.first_with-first.ensures.within.1 c.first_with-first.ensures.none
+          c.requires.le_pass.0 c.requires.le_pass.1 (sym c.key_of-key.ensures ∙ c.if-key-eq0.true);
+      known = c.requires.known_2;
     }
 
 pub cut_pairs-requires : goal.cut_pairs-requires
 cut_pairs-requires c =
-    let pre = (c.requires.cuttable, c.requires.le_pass, c.requires.i_lt_nodes, c.requires.known_2) in
     let below = c.behind_below-end.ensures in record {
-      cuttable = pre.0;
+      cuttable = c.requires.cuttable;
       aimed = record {
-          first = pre.1.0.0;
-          last = pre.1.0.1;
-          inside = pre.1.1.0;
+          first = c.requires.le_pass.0;
+          last = c.requires.le_pass.1;
+          inside = c.requires.i_lt_nodes;
           key = c.key_of-key.ensures;
           some = c.if-key-eq0.false;
         };
       end_le_nodes = below.high;
-      known_2 = pre.1.1.1;
+      known_2 = c.requires.known_2;
     }
 
 pub returns : goal.returns
 returns c =
-    let below = c.behind_below-end.ensures in
-    let found = (c.first_with-first.ensures.within, c.first_with-first.ensures.none, c.first_with-first.ensures.some) in record {
+    let below = c.behind_below-end.ensures in record {
       tables = element-pairs _ _ _ _ c.args.counts _ _ _ _ _ below
           c.cut_name-name.ensures
-          found.0.0 found.0.1 found.1.0 _ c.cut_pairs.ensures.tables;
+          c.first_with-first.ensures.within.0 c.first_with-first.ensures.within.1 c.first_with-first.ensures.none _ c.cut_pairs.ensures.tables;
       known = c.cut_pairs.ensures.known;
     }

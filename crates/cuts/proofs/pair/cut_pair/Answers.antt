@@ -9,23 +9,21 @@ use Rattle.cuts.proofs.pair.cut_pair.Goals as goal
 
 pub mark_of-mark-requires : goal.mark_of-mark-requires
 mark_of-mark-requires c =
-    let pre = (c.requires.cuttable, c.requires.aimed, c.requires.quiet_2, c.requires.j_lt_nodes) in
-    let a = pre.1.0 in record {
-      characters_value = pre.0.mendable.drawn.checked;
-      marked = pre.0.mendable.drawn.marked;
-      kept = pre.0.mendable.tidy.kept;
-      indexed = pre.0.mendable.indexed;
+    let a = c.requires.aimed in record {
+      characters_value = c.requires.cuttable.mendable.drawn.checked;
+      marked = c.requires.cuttable.mendable.drawn.marked;
+      kept = c.requires.cuttable.mendable.tidy.kept;
+      indexed = c.requires.cuttable.mendable.indexed;
       le_pass = (a.first, a.last);
-      m_lt_nodes = pre.1.1.1;
-      targeted = pre.0.targeted;
+      m_lt_nodes = c.requires.j_lt_nodes;
+      targeted = c.requires.cuttable.targeted;
     }
 
 pub cut-requires : goal.cut-requires
 cut-requires c =
-    let pre = (c.requires.cuttable, c.requires.aimed, c.requires.quiet_2, c.requires.j_lt_nodes) in
-    let a = pre.1.0 in record {
+    let a = c.requires.aimed in record {
       le_pass = (a.first, omega (arith, a.last));
-      readable = readable _ _ pre.0.mendable.tidy.kept _ pre.1.1.1;
+      readable = readable _ _ c.requires.cuttable.mendable.tidy.kept _ c.requires.j_lt_nodes;
     }
 
 pub returns-then-mark-aim : goal.returns-then-mark-aim
@@ -41,12 +39,11 @@ returns-then-mark-aim c =
 
 pub returns-then-mark-lt2 : goal.returns-then-mark-lt2
 returns-then-mark-lt2 c =
-    let pre = (c.requires.aimed, c.requires.quiet_2, c.requires.j_lt_nodes) in
-    let a = pre.0 in
-    let told = back-told _ _ _ _ _ _ pre.0 _ _ c.mark_of-mark.ensures in record {
+    let a = c.requires.aimed in
+    let told = back-told _ _ _ _ _ _ c.requires.aimed _ _ c.mark_of-mark.ensures in record {
       tables = pair-nowhere _ _ _ _ _ _ a _ (told ∙ ne_eqb _ _ c.if-mark-aim.false)
           (target-nowhere _ _ _ _ _ _ a _ _ c.mark_of-mark.ensures c.if-mark-lt2.true);
-      quiet = pre.1.0;
+      quiet = c.requires.quiet_2;
     }
 
 pub overflow_cast-w : goal.overflow_cast-w
@@ -56,11 +53,10 @@ overflow_cast-w c =
 
 pub cut_target-requires : goal.cut_target-requires
 cut_target-requires c =
-    let pre = (c.requires.cuttable, c.requires.aimed, c.requires.quiet_2, c.requires.j_lt_nodes) in
-    let a = pre.1.0 in record {
-      cuttable = pre.0;
+    let a = c.requires.aimed in record {
+      cuttable = c.requires.cuttable;
       aimed = a;
-      quiet_2 = pre.1.1.0;
+      quiet_2 = c.requires.quiet_2;
       w_lt_nodes = omega (
             arith,
             target-inside _ _ _ _ _ _ a _ _

@@ -7,9 +7,8 @@ use Rattle.cuts.proofs.pair.cut_pairs.Goals as goal
 
 pub loop-j-init : goal.loop-j-init
 loop-j-init c =
-    let pre = (c.requires.cuttable, c.requires.aimed, c.requires.end_le_nodes, c.requires.known_2) in
-    pairs_start _ _ _ _ _ _ _ _ _ _ _ pre.0 pre.1.0 pre.1.1.0
-    (settled-quiet _ _ _ _ _ c.args.aim _ _ pre.1.0 refl pre.1.1.1
+    pairs_start _ _ _ _ _ _ _ _ _ _ _ c.requires.cuttable c.requires.aimed c.requires.end_le_nodes
+    (settled-quiet _ _ _ _ _ c.args.aim _ _ c.requires.aimed refl c.requires.known_2
     c.settle.ensures)
 
 pub cut_pair-requires : goal.cut_pair-requires

@@ -5,17 +5,17 @@ use Rattle.cuts.proofs.pair.cut_target.Goals as goal
 
 pub returns-then-is_quiet : goal.returns-then-is_quiet
 returns-then-is_quiet c =
-    let pre = (c.requires.cuttable, c.requires.aimed, c.requires.quiet_2, c.requires.w_lt_nodes) in record {
-      tables = covered-kept _ _ _ _ _ _ _ c.args.aim pre.0 _ pre.1.1.0 _
-          pre.1.1.1 (c.is_quiet.ensures c.if-is_quiet.true);
-      quiet = pre.1.1.0;
+    record {
+      tables = covered-kept _ _ _ _ _ _ _ c.args.aim c.requires.cuttable _ c.requires.quiet_2 _
+          c.requires.w_lt_nodes (c.is_quiet.ensures c.if-is_quiet.true);
+      quiet = c.requires.quiet_2;
     }
 
 pub returns : goal.returns
 returns c =
-    let cut-below-ensures = (c.cut_below-end.ensures.tables, c.cut_below-end.ensures.range, c.cut_below-end.ensures.silent) in record {
-      tables = cut-below-ensures.0;
+    record {
+      tables = c.cut_below-end.ensures.tables;
       quiet = quiet-more _ _ _ _ _ _
-          (quiet-on _ _ _ _ _ _ _ c.args.aim c.pre.0 _ c.pre.1.1.0 _ _ cut-below-ensures.0) _ _
-          cut-below-ensures.1.0 cut-below-ensures.1.1 _ c.hush.ensures;
+          (quiet-on _ _ _ _ _ _ _ c.args.aim c.pre.0 _ c.pre.1.1.0 _ _ c.cut_below-end.ensures.tables) _ _
+          c.cut_below-end.ensures.range c.cut_below-end.ensures.silent _ c.hush.ensures;
     }

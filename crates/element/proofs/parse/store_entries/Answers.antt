@@ -32,9 +32,8 @@ returns c =
     let above = c.requires.above in
     let step = c.add_attributes-first.ensures.stored in
     let rest = rest-told _ _ _ _ _ _ c.in-Next.is
-    c.add_attributes-first.ensures.behind in
-    let behind = (c.write_declarations.ensures.stored, c.write_declarations.ensures.behind) in record {
+    c.add_attributes-first.ensures.behind in record {
       stored = entries-behind _ _ _ _ _ _ _ room above _ _ step _ _ c.in-Next.is
-          rest.declarations _ _ behind.0;
-      behind = run-nodes _ _ _ _ c.write_declarations.result rest behind.1;
+          rest.declarations _ _ c.write_declarations.ensures.stored;
+      behind = run-nodes _ _ _ _ c.write_declarations.result rest c.write_declarations.ensures.behind;
     }

@@ -8,18 +8,18 @@ use Rattle.leads.proofs.filter.any_id_at.Goals as goal
 
 pub any_id-requires : goal.any_id-requires
 any_id-requires c =
-    let pre = (c.requires.fit, c.requires.stands) in record {
+    record {
       fit = goes _ _ _ c.in-Attribute.is c.next.ensures.going;
-      start_le_most_place = fit-chars _ _ pre.0;
-      stands = pre.1;
+      start_le_most_place = fit-chars _ _ c.requires.fit;
+      stands = c.requires.stands;
     }
 
 pub any_id-requires-in-Declaration : goal.any_id-requires-in-Declaration
 any_id-requires-in-Declaration c =
-    let pre = (c.requires.fit, c.requires.stands) in record {
+    record {
       fit = goes _ _ _ c.in-Declaration.is c.next.ensures.going;
-      start_le_most_place = fit-chars _ _ pre.0;
-      stands = pre.1;
+      start_le_most_place = fit-chars _ _ c.requires.fit;
+      stands = c.requires.stands;
     }
 
 pub returns-in-Attribute : goal.returns-in-Attribute

@@ -33,7 +33,6 @@ returns-then-entry_word-ne0-2 c =
 
 pub returns : goal.returns
 returns c =
-    let pre = (c.requires.known, c.requires.known_2) in
-    both-fixed _ _ _ _ _ pre.0 pre.1 _ c.entry_word-2.ensures c.if-entry_word-ne0-2.false _
+    both-fixed _ _ _ _ _ c.requires.known c.requires.known_2 _ c.entry_word-2.ensures c.if-entry_word-ne0-2.false _
     c.entry_word.ensures c.if-entry_word-ne0.false _
     c.entry_word-start.ensures _ c.entry_word-first.ensures

@@ -16,25 +16,21 @@ parse_svg_element-requires c =
 pub returns-then-code-eq-USE : goal.returns-then-code-eq-USE
 returns-then-code-eq-USE c =
     let code-of-ensures = c.code_of-code.ensures in
-    let pre = (c.requires.beginning, c.requires.other) in
     let named = c.tag_of.ensures ∙ ap tag_named code-of-ensures in
-    other-use _ _ _ _ _ _ _ _ _ _ pre.0 pre.1 _ named _ _ _ (c.parse_svg_element.ensures.outcome _)
+    other-use _ _ _ _ _ _ _ _ _ _ c.requires.beginning c.requires.other _ named _ _ _ (c.parse_svg_element.ensures.outcome _)
     c.parse_svg_element.ensures.behind _ _ c.in-Done.is
     (eq-eqb _ _ (sym code-of-ensures ∙ c.if-code-eq-USE.true))
 
 pub returns-in-Refused : goal.returns-in-Refused
 returns-in-Refused c =
-    let parse-svg-element-ensures = (c.parse_svg_element.ensures.outcome, c.parse_svg_element.ensures.behind) in
-    let pre = (c.requires.beginning, c.requires.other) in
     let named = c.tag_of.ensures ∙ ap tag_named c.code_of-code.ensures in
-    other-refused _ _ _ _ _ _ _ _ _ _ pre.0 pre.1 _ named _ _ _ (parse-svg-element-ensures.0 _)
-    parse-svg-element-ensures.1 _ c.in-Refused.is
+    other-refused _ _ _ _ _ _ _ _ _ _ c.requires.beginning c.requires.other _ named _ _ _ (c.parse_svg_element.ensures.outcome _)
+    c.parse_svg_element.ensures.behind _ c.in-Refused.is
 
 pub returns-else-code-eq-USE : goal.returns-else-code-eq-USE
 returns-else-code-eq-USE c =
     let code-of-ensures = c.code_of-code.ensures in
-    let pre = (c.requires.beginning, c.requires.other) in
     let named = c.tag_of.ensures ∙ ap tag_named code-of-ensures in
-    other-children _ _ _ _ _ _ _ _ _ _ pre.0 pre.1 _ named _ _ _ (c.parse_svg_element.ensures.outcome _)
+    other-children _ _ _ _ _ _ _ _ _ _ c.requires.beginning c.requires.other _ named _ _ _ (c.parse_svg_element.ensures.outcome _)
     c.parse_svg_element.ensures.behind _ _ c.in-Done.is
     (ne_eqb _ _ (λ q. c.if-code-eq-USE.false (code-of-ensures ∙ q)))

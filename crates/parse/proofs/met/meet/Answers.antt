@@ -29,27 +29,23 @@ returns-in-Begin c =
 
 pub returns-in-Text : goal.returns-in-Text
 returns-in-Text c =
-    let pre = (c.requires.underway, c.requires.place_len, c.requires.memo) in
-    text-met _ _ _ _ _ _ _ _ _ pre.1.0.1 pre.0 _ c.standing-from.ensures _
+    text-met _ _ _ _ _ _ _ _ _ c.requires.place_len.1 c.requires.underway _ c.standing-from.ensures _
     c.next_item.ensures.same c.next_item.ensures.fit _ _ _
     c.in-Text.is _ _ c.hand_over.result c.hand_over.ensures
 
 pub returns-in-Other : goal.returns-in-Other
 returns-in-Other c =
-    let pre = (c.requires.underway, c.requires.place_len, c.requires.memo) in
-    other-met _ _ _ _ _ _ _ _ _ pre.1.0.1 pre.0 _ c.standing-from.ensures _
+    other-met _ _ _ _ _ _ _ _ _ c.requires.place_len.1 c.requires.underway _ c.standing-from.ensures _
     c.next_item.ensures.same c.next_item.ensures.fit _
     c.in-Other.is _ _ c.hand_over-in-Other.result c.hand_over-in-Other.ensures
 
 pub returns-in-Close : goal.returns-in-Close
 returns-in-Close c =
-    let pre = (c.requires.underway, c.requires.place_len, c.requires.memo) in
-    close-met _ _ _ _ _ _ _ _ _ pre.1.0.1 pre.0 _ c.standing-from.ensures _
+    close-met _ _ _ _ _ _ _ _ _ c.requires.place_len.1 c.requires.underway _ c.standing-from.ensures _
     c.next_item.ensures.same c.next_item.ensures.fit _ c.in-Close.is _
     c.stand.ensures
 
 pub returns-in-End : goal.returns-in-End
 returns-in-End c =
-    let pre = (c.requires.underway, c.requires.place_len, c.requires.memo) in
-    end-met _ _ _ _ _ _ _ _ _ pre.1.0.1 pre.0 _ c.standing-from.ensures _
-    c.next_item.ensures.same c.next_item.ensures.fit pre.1.0.0 c.in-End.is
+    end-met _ _ _ _ _ _ _ _ _ c.requires.place_len.1 c.requires.underway _ c.standing-from.ensures _
+    c.next_item.ensures.same c.next_item.ensures.fit c.requires.place_len.0 c.in-End.is

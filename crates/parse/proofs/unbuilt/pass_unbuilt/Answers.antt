@@ -9,6 +9,5 @@ past_unbuilt-past-requires c = subst (Fit _) (sym c.standing-from.ensures) c.req
 
 pub returns : goal.returns
 returns c =
-    let told = (c.past_unbuilt-past.ensures.same, c.past_unbuilt-past.ensures.fit, c.past_unbuilt-past.ensures.further) in
     skipped-past _ _ _ _ c.if-left-eq0.false _ c.standing-from.ensures _
-    told.0 told.1.0 told.1.1 _ c.stand.ensures
+    c.past_unbuilt-past.ensures.same c.past_unbuilt-past.ensures.fit c.past_unbuilt-past.ensures.further _ c.stand.ensures

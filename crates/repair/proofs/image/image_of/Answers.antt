@@ -13,9 +13,9 @@ use Rattle.repair.proofs.image.image_of.Goals as goal
 
 pub link_of-requires : goal.link_of-requires
 link_of-requires c =
-    let pre = (c.requires.mendable, c.requires.i_lt_nodes, c.requires.i_value) in record {
-      drawn = pre.0.drawn;
-      readable_in = readable-in _ _ pre.0.tidy.kept _ pre.1.0;
+    record {
+      drawn = c.requires.mendable.drawn;
+      readable_in = readable-in _ _ c.requires.mendable.tidy.kept _ c.requires.i_lt_nodes;
     }
 
 pub part_at-target-requires : goal.part_at-target-requires
@@ -34,10 +34,9 @@ find_id-w-requires c =
 pub returns-then-w-eq0 : goal.returns-then-w-eq0
 unfolding part_at
 returns-then-w-eq0 c =
-    let link-of-ensures = (c.link_of.ensures.same, c.link_of.ensures.fit) in
     let counts = c.args.counts in
-    let told = link-told _ _ _ _ _ c.in-At.is link-of-ensures.0
-    link-of-ensures.1 in record {
+    let told = link-told _ _ _ _ _ c.in-At.is c.link_of.ensures.same
+    c.link_of.ensures.fit in record {
       same = image-nowhere _ _ _ _ counts _ _
           (href-on _ _ _ _ counts _ _ told.0 _ c.part_at-target.ensures _ c.find_id-w.ensures.found)
           c.if-w-eq0.true;
@@ -45,21 +44,17 @@ returns-then-w-eq0 c =
     }
 
 pub node_word-parent-requires : goal.node_word-parent-requires
-node_word-parent-requires c =
-    let pre = (c.requires.mendable, c.requires.i_lt_nodes, c.requires.i_value) in
-    omega (arith, pre.0.tidy.kept.fits.nodes, pre.1.0)
+node_word-parent-requires c = omega (arith, c.requires.mendable.tidy.kept.fits.nodes, c.requires.i_lt_nodes)
 
 pub overflow_sub-parent : goal.overflow_sub-parent
 overflow_sub-parent c =
-    let pre = (c.requires.mendable, c.requires.i_lt_nodes, c.requires.i_value) in
-    let own = pre.0.tidy.kept.nodes _ pre.1.0 in
-    omega (arith, c.node_word-parent.ensures, own.below (λ z. omega (arith, (own.root z).0, pre.1.1)))
+    let own = c.requires.mendable.tidy.kept.nodes _ c.requires.i_lt_nodes in
+    omega (arith, c.node_word-parent.ensures, own.below (λ z. omega (arith, (own.root z).0, c.requires.i_value)))
 
 pub attribute_id-id-requires : goal.attribute_id-id-requires
 attribute_id-id-requires c =
-    let pre = (c.requires.mendable, c.requires.i_lt_nodes, c.requires.i_value) in
-    let own = pre.0.tidy.kept.nodes _ pre.1.0 in
-    readable _ _ pre.0.tidy.kept _ (omega (arith, c.node_word-parent.ensures, own.falls, pre.1.0))
+    let own = c.requires.mendable.tidy.kept.nodes _ c.requires.i_lt_nodes in
+    readable _ _ c.requires.mendable.tidy.kept _ (omega (arith, c.node_word-parent.ensures, own.falls, c.requires.i_lt_nodes))
 
 pub has_filter-f-requires : goal.has_filter-f-requires
 has_filter-f-requires c =

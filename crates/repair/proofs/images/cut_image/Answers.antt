@@ -17,10 +17,9 @@ returns-then-not-is_named c =
 
 pub image_of-image-requires : goal.image_of-image-requires
 image_of-image-requires c =
-    let pre = (c.requires.mendable, c.requires.i_lt_nodes) in
     let args = c.args in record {
-      mendable = pre.0;
-      i_lt_nodes = pre.1;
+      mendable = c.requires.mendable;
+      i_lt_nodes = c.requires.i_lt_nodes;
       i_value = named-kind (seen_of args.nodes.now args.attributes.now args.counts) _ _
             (passes c.is_named.ensures c.if-not-is_named.false-raw);
     }
@@ -45,9 +44,9 @@ cut-requires c =
 
 pub returns : goal.returns
 returns c =
-    let image-of-ensures = (c.image_of-image.ensures.same, c.image_of-image.ensures.fit) in record {
+    record {
       tables = cut-seen _ _ _ _ _ _ c.cut.ensures
-          ∙ image-cut _ _ _ _ (passes c.is_named.ensures c.if-not-is_named.false-raw) _ image-of-ensures.0
+          ∙ image-cut _ _ _ _ (passes c.is_named.ensures c.if-not-is_named.false-raw) _ c.image_of-image.ensures.same
           c.if-node-eq0.false;
-      fit = image-of-ensures.1.1;
+      fit = c.image_of-image.ensures.fit.1;
     }

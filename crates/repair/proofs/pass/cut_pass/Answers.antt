@@ -14,21 +14,17 @@ use Rattle.repair.proofs.Passing.{links-each, links-all, Pass, pass-start, pass-
 use Rattle.repair.proofs.pass.cut_pass.Goals as goal
 
 pub element_code-code-requires : goal.element_code-code-requires
-element_code-code-requires c =
-    let pre = (c.requires.passable, c.requires.le_pass) in
-    pre.1
+element_code-code-requires c = c.requires.le_pass
 
 pub loop-i-init : goal.loop-i-init
 loop-i-init c =
-    let pre = (c.requires.passable, c.requires.le_pass) in
-    (pass-start _ _ _ _ _ _ _ _ _ pre.0.mendable, pre.0.sought, known-none _ _ _ _ _ _ refl refl)
+    (pass-start _ _ _ _ _ _ _ _ _ c.requires.passable.mendable, c.requires.passable.sought, known-none _ _ _ _ _ _ refl refl)
 
 pub cut_named-known-requires : goal.cut_named-known-requires
 cut_named-known-requires c =
-    let pre = (c.requires.passable, c.requires.le_pass) in
     let inv = c.loop-i.invariant in record {
       passable = record { mendable = inv.0.mendable; sought = inv.1 };
-      le_pass = pre.1;
+      le_pass = c.requires.le_pass;
       code_value = c.element_code-code.ensures;
       i_lt_nodes = c.loop-i-test.true;
       known_2 = inv.2;
@@ -42,11 +38,10 @@ loop-i-smaller c = omega arith
 
 pub loop-i-preserved : goal.loop-i-preserved
 loop-i-preserved c =
-    let pre = (c.requires.passable, c.requires.le_pass) in
     let inv = c.loop-i.invariant in (
       pass-turn _ _ _ _ _ _ _ (links-each _ _ _ _) _ _ _ _ inv.0 c.loop-i-test.true _ _
           c.cut_named-known.ensures.tables inv.0.mendable.drawn.fit,
-      λ z. sought-on _ _ _ _ _ _ _ inv.0.mendable _ _ c.cut_named-known.ensures.tables _ pre.1.0 pre.1.1
+      λ z. sought-on _ _ _ _ _ _ _ inv.0.mendable _ _ c.cut_named-known.ensures.tables _ c.requires.le_pass.0 c.requires.le_pass.1
           (inv.1 z),
       c.cut_named-known.ensures.known,
     )
@@ -58,7 +53,6 @@ shape_of-attributes c =
 
 pub returns : goal.returns
 returns c =
-    let pre = (c.requires.passable, c.requires.le_pass) in
     let inv = c.loop-i.invariant in
     pass-done _ _ _ _ _ _ _ (links-each _ _ _ _) _ _ _ _ inv.0 c.loop-i-test.false
-    ∙ ap (applied _) (links-all _ _ _ _ _ c.element_code-code.ensures pre.1.1)
+    ∙ ap (applied _) (links-all _ _ _ _ _ c.element_code-code.ensures c.requires.le_pass.1)

@@ -8,9 +8,9 @@ use Rattle.targets.proofs.mark.find_mark.Goals as goal
 
 pub link_of-requires : goal.link_of-requires
 link_of-requires c =
-    let pre = (c.requires.drawn, c.requires.kept, c.requires.indexed, c.requires.le_pass, c.requires.m_lt_nodes) in record {
-      drawn = pre.0;
-      readable_in = readable-in _ _ pre.1.0 _ pre.1.1.1.1;
+    record {
+      drawn = c.requires.drawn;
+      readable_in = readable-in _ _ c.requires.kept _ c.requires.m_lt_nodes;
     }
 
 pub part_at-id-requires : goal.part_at-id-requires

@@ -5,30 +5,24 @@ use Rattle.targets.proofs.Resolving.{Resolving, resolving-first, resolving-tidy,
 use Rattle.targets.proofs.resolve.resolve.Goals as goal
 
 pub loop-m-init : goal.loop-m-init
-loop-m-init c =
-    let pre = (c.requires.characters_value, c.requires.marked, c.requires.tidy, c.requires.indexed_2, c.requires.nodes_bound, c.requires.le_pass) in
-    resolving-first _ _ _ _ _ _ _ _ pre.1.1.1.0 (start-fit _ _ pre.0 _ c.start-hint.ensures)
+loop-m-init c = resolving-first _ _ _ _ _ _ _ _ c.requires.indexed_2 (start-fit _ _ c.requires.characters_value _ c.start-hint.ensures)
 
 pub resolve_one-hint-requires : goal.resolve_one-hint-requires
 resolve_one-hint-requires c =
-    let pre = (c.requires.characters_value, c.requires.marked, c.requires.tidy, c.requires.indexed_2, c.requires.nodes_bound, c.requires.le_pass) in
-    let more = (c.requires.nodes_bound, c.requires.le_pass) in
     let inv = c.loop-m.invariant in record {
-      drawn = record { checked = pre.0; marked = pre.1.0; fit = inv.fit };
-      tidy = resolving-tidy _ _ _ _ _ _ more.1.0 more.1.1 pre.0 _ pre.1.1.0 _ _ _ inv;
+      drawn = record { checked = c.requires.characters_value; marked = c.requires.marked; fit = inv.fit };
+      tidy = resolving-tidy _ _ _ _ _ _ c.requires.le_pass.0 c.requires.le_pass.1 c.requires.characters_value _ c.requires.tidy _ _ _ inv;
       indexed = inv.indexed;
-      nodes_bound = more.0;
-      le_pass = more.1;
+      nodes_bound = c.requires.nodes_bound;
+      le_pass = c.requires.le_pass;
       m_lt_nodes = c.loop-m-test.true;
       stored_before = record { marks = inv.marks };
     }
 
 pub loop-m-preserved : goal.loop-m-preserved
 loop-m-preserved c =
-    let pre = (c.requires.characters_value, c.requires.marked, c.requires.tidy, c.requires.indexed_2, c.requires.nodes_bound, c.requires.le_pass) in
-    let more = (c.requires.nodes_bound, c.requires.le_pass) in
     let inv = c.loop-m.invariant in
-    resolving-next _ _ _ _ _ _ more.1.0 more.1.1 pre.0 _ pre.1.1.0 _ _ _ inv
+    resolving-next _ _ _ _ _ _ c.requires.le_pass.0 c.requires.le_pass.1 c.requires.characters_value _ c.requires.tidy _ _ _ inv
     c.loop-m-test.true _ _ c.type_inv.recent.ensures.0
     c.type_inv.recent.ensures.1
 

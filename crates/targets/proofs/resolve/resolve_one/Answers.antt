@@ -7,23 +7,20 @@ use borrow.Author.Rules.{rules}
 use Rattle.targets.proofs.resolve.resolve_one.Goals as goal
 
 pub attribute_id-j-requires : goal.attribute_id-j-requires
-attribute_id-j-requires c =
-    let pre = (c.requires.drawn, c.requires.tidy, c.requires.indexed, c.requires.nodes_bound, c.requires.le_pass, c.requires.m_lt_nodes, c.requires.stored_before) in
-    readable _ _ pre.1.0.kept _ pre.1.1.1.1.1.0
+attribute_id-j-requires c = readable _ _ c.requires.tidy.kept _ c.requires.m_lt_nodes
 
 pub returns-then-j-eq0 : goal.returns-then-j-eq0
 returns-then-j-eq0 c =
-    let pre = (c.requires.drawn, c.requires.tidy, c.requires.indexed, c.requires.nodes_bound, c.requires.le_pass, c.requires.m_lt_nodes, c.requires.stored_before) in record {
+    record {
       stored = turn-none _ _ _ _ _ _ _ c.cut_name-name.ensures c.attribute_id-j.ensures.found c.if-j-eq0.true;
-      fit = pre.0.fit;
+      fit = c.requires.drawn.fit;
     }
 
 pub twin_of-twin-requires : goal.twin_of-twin-requires
 twin_of-twin-requires c =
-    let pre = (c.requires.drawn, c.requires.tidy, c.requires.indexed, c.requires.nodes_bound, c.requires.le_pass, c.requires.m_lt_nodes, c.requires.stored_before) in
-    let inside = held-inside _ _ _ (readable _ _ pre.1.0.kept _ pre.1.1.1.1.1.0)
+    let inside = held-inside _ _ _ (readable _ _ c.requires.tidy.kept _ c.requires.m_lt_nodes)
     c.attribute_id-j.ensures.held c.if-j-eq0.false in record {
-      by_index = λ i l. readable _ _ pre.1.0.kept i (omega (arith, l, pre.1.1.1.1.1.0));
+      by_index = λ i l. readable _ _ c.requires.tidy.kept i (omega (arith, l, c.requires.m_lt_nodes));
       j_in_bounds = inside;
     }
 
@@ -32,8 +29,7 @@ entry_word-requires c = omega (arith, (c.twin_of-twin.ensures c.if-twin-ne0.true
 
 pub set_next-requires : goal.set_next-requires
 set_next-requires c =
-    let pre = (c.requires.drawn, c.requires.tidy, c.requires.indexed, c.requires.nodes_bound, c.requires.le_pass, c.requires.m_lt_nodes, c.requires.stored_before) in
-    let inside = held-inside _ _ _ (readable _ _ pre.1.0.kept _ pre.1.1.1.1.1.0)
+    let inside = held-inside _ _ _ (readable _ _ c.requires.tidy.kept _ c.requires.m_lt_nodes)
     c.attribute_id-j.ensures.held
     c.if-j-eq0.false in record {
       j_in_bounds = inside;
@@ -42,7 +38,7 @@ set_next-requires c =
 
 pub returns-then-twin-ne0 : goal.returns-then-twin-ne0
 returns-then-twin-ne0 c =
-    let pre = (c.requires.drawn, c.requires.tidy, c.requires.indexed, c.requires.nodes_bound, c.requires.le_pass, c.requires.m_lt_nodes, c.requires.stored_before) in record {
+    record {
       stored = turn-some _ _ _ _ _ _ _
           c.cut_name-name.ensures
           c.attribute_id-j.ensures.found
@@ -53,41 +49,37 @@ returns-then-twin-ne0 c =
           c.if-j-eq0.false
           (c.twin_of-twin.ensures
           c.if-twin-ne0.true)
-          c.if-twin-ne0.true pre.1.1.1.1.1.1
+          c.if-twin-ne0.true c.requires.stored_before
           c.entry_word.ensures) _ c.set_next.ensures;
-      fit = pre.0.fit;
+      fit = c.requires.drawn.fit;
     }
 
 pub entry_word-requires-2 : goal.entry_word-requires-2
 entry_word-requires-2 c =
-    let pre = (c.requires.drawn, c.requires.tidy, c.requires.indexed, c.requires.nodes_bound, c.requires.le_pass, c.requires.m_lt_nodes, c.requires.stored_before) in
-    let inside = held-inside _ _ _ (readable _ _ pre.1.0.kept _ pre.1.1.1.1.1.0)
+    let inside = held-inside _ _ _ (readable _ _ c.requires.tidy.kept _ c.requires.m_lt_nodes)
     c.attribute_id-j.ensures.held
     c.if-j-eq0.false in
     inside
 
 pub find_mark-found-requires : goal.find_mark-found-requires
 find_mark-found-requires c =
-    let pre = (c.requires.drawn, c.requires.tidy, c.requires.indexed, c.requires.nodes_bound, c.requires.le_pass, c.requires.m_lt_nodes, c.requires.stored_before) in record {
-      drawn = pre.0;
-      kept = pre.1.0.kept;
-      indexed = pre.1.1.0;
-      le_pass = pre.1.1.1.1.0;
-      m_lt_nodes = pre.1.1.1.1.1.0;
+    record {
+      drawn = c.requires.drawn;
+      kept = c.requires.tidy.kept;
+      indexed = c.requires.indexed;
+      le_pass = c.requires.le_pass;
+      m_lt_nodes = c.requires.m_lt_nodes;
     }
 
 pub overflow_cast-mark : goal.overflow_cast-mark
-overflow_cast-mark c =
-    let pre = (c.requires.drawn, c.requires.tidy, c.requires.indexed, c.requires.nodes_bound, c.requires.le_pass, c.requires.m_lt_nodes, c.requires.stored_before) in
-    omega (arith, c.find_mark-found.ensures.fit.1, pre.1.1.1.0)
+overflow_cast-mark c = omega (arith, c.find_mark-found.ensures.fit.1, c.requires.nodes_bound)
 
 pub set_next-requires-2 : goal.set_next-requires-2
 set_next-requires-2 c =
-    let pre = (c.requires.drawn, c.requires.tidy, c.requires.indexed, c.requires.nodes_bound, c.requires.le_pass, c.requires.m_lt_nodes, c.requires.stored_before) in
-    let inside = held-inside _ _ _ (readable _ _ pre.1.0.kept _ pre.1.1.1.1.1.0)
+    let inside = held-inside _ _ _ (readable _ _ c.requires.tidy.kept _ c.requires.m_lt_nodes)
     c.attribute_id-j.ensures.held c.if-j-eq0.false in record {
       j_in_bounds = inside;
-      n_bound = omega (arith, c.find_mark-found.ensures.fit.1, pre.1.1.1.0);
+      n_bound = omega (arith, c.find_mark-found.ensures.fit.1, c.requires.nodes_bound);
     }
 
 pub returns : goal.returns

@@ -19,12 +19,12 @@ returns-then-j-eq0 c =
 pub returns-then-not-is_possible_none : goal.returns-then-not-is_possible_none
 unfolding attribute_of
 returns-then-not-is_possible_none c =
-    let attribute-id-ensures = (c.attribute_id-j.ensures.found, c.attribute_id-j.ensures.held) in record {
+    record {
       found = rw (
-        some-there attribute-id-ensures.0 c.if-j-eq0.false,
+        some-there c.attribute_id-j.ensures.found c.if-j-eq0.false,
         fails c.is_possible_none.ensures c.if-not-is_possible_none.true-raw,
-      ) attribute-id-ensures.0;
-      held = attribute-id-ensures.1;
+      ) c.attribute_id-j.ensures.found;
+      held = c.attribute_id-j.ensures.held;
     }
 
 pub has_value-requires : goal.has_value-requires
@@ -49,13 +49,13 @@ returns-then-has_value c =
 pub returns : goal.returns
 unfolding attribute_of entry_at fixed_bytes fixed_values
 returns c =
-    let attribute-id-ensures = (c.attribute_id-j.ensures.found, c.attribute_id-j.ensures.held) in record {
+    record {
       found = rw (
-        some-there attribute-id-ensures.0 c.if-j-eq0.false,
+        some-there c.attribute_id-j.ensures.found c.if-j-eq0.false,
         passes c.is_possible_none.ensures c.if-not-is_possible_none.false-raw,
-        sym attribute-id-ensures.0,
+        sym c.attribute_id-j.ensures.found,
         sym c.has_value.ensures,
         c.if-has_value.false,
       );
-      held = attribute-id-ensures.1;
+      held = c.attribute_id-j.ensures.held;
     }

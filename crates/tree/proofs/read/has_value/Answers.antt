@@ -18,6 +18,15 @@ returns-then-entry_word-eq0 c =
       eq-eqb _ _ c.if-entry_word-eq0.true,
     ) c.is_fixed.ensures
 
+pub slice_bounds-same-end : goal.slice_bounds-same-end
+unfolding entry_at
+slice_bounds-same-end c =
+    omega (
+      arith,
+      c.requires.1
+          (λ z. c.if-entry_word-eq0.false (c.entry_word.ensures ∙ z)),
+    )
+
 pub returns : goal.returns
 unfolding value_of entry_at
 returns c =
