@@ -33,4 +33,4 @@ returns c =
           c.if-not-c.false,
       not-false c.args.p.default1 c.if-not-p-2.false,
     )
-    (ap (λ k. not (eqb k 0)) c.«?».type_size.ensures)
+    (ap (λ k. not (eqb k 0)) c.size_of.ensures)

@@ -19,7 +19,7 @@ returns-then-size_of-eq0 c =
       not-false c.args.p.last
           c.if-not-p.false,
       not-false c.args.c.c4 c.if-not-c.false,
-      eq-eqb _ 0 (sym c.«?».type_size.ensures ∙ c.if-size_of-eq0.true),
+      eq-eqb _ 0 (sym c.size_of.ensures ∙ c.if-size_of-eq0.true),
     ) refl
 
 pub returns : goal.returns
@@ -28,5 +28,5 @@ returns c =
       not-false c.args.p.last
           c.if-not-p.false,
       not-false c.args.c.c4 c.if-not-c.false,
-      ne_eqb _ 0 (λ z. c.if-size_of-eq0.false (c.«?».type_size.ensures ∙ z)),
+      ne_eqb _ 0 (λ z. c.if-size_of-eq0.false (c.size_of.ensures ∙ z)),
     ) refl

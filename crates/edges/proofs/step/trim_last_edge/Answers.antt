@@ -26,7 +26,7 @@ returns-then-size_of-ne0 c =
           c.if-not-p.false,
       not-false c.args.c.c2
           c.if-not-c.false,
-      ne_eqb _ 0 (λ z. c.if-size_of-ne0.true (c.«?».type_size.ensures ∙ z)),
+      ne_eqb _ 0 (λ z. c.if-size_of-ne0.true (c.size_of.ensures ∙ z)),
     ) refl)
 
 pub returns-then-not-ends_with_space : goal.returns-then-not-ends_with_space
@@ -40,7 +40,7 @@ returns-then-not-ends_with_space c =
       not-false
           c.args.c.c2
           c.if-not-c.false,
-      eq-eqb _ 0 (sym c.«?».type_size.ensures ∙ c.if-size_of-ne0.false),
+      eq-eqb _ 0 (sym c.size_of.ensures ∙ c.if-size_of-ne0.false),
       sym c.ends_with_space.ensures ∙ not-true _ c.if-not-ends_with_space.true-raw,
     ) refl)
 
@@ -59,7 +59,7 @@ returns c =
       not-false c.args.c.c2
           c.if-not-c.false,
       eq-eqb _ 0 (sym
-          c.«?».type_size.ensures
+          c.size_of.ensures
           ∙ c.if-size_of-ne0.false),
       sym c.ends_with_space.ensures
           ∙ not-false _ c.if-not-ends_with_space.false-raw,

@@ -11,7 +11,7 @@ unfolding after_single
 returns-then-size_of-eq1 c =
     rw (
       eq-eqb _ 1 (sym (size_is _ _ c.requires)
-          ∙ sym c.«?».type_size.ensures
+          ∙ sym c.size_of.ensures
           ∙ c.if-size_of-eq1.true),
       ← c.begins_with_space-begins.ensures,
     )
@@ -28,7 +28,7 @@ remove_last_if-requires-2 c =
     λ e. rw c.remove_first_if.ensures
     (single-last _ _ c.requires
     (λ z. c.if-size_of-eq1.false
-    (c.«?».type_size.ensures
+    (c.size_of.ensures
     ∙ z)) c.begins_with_space-begins.result
     (sym c.ends_with_space-ends.ensures ∙ e))
 
@@ -37,7 +37,7 @@ unfolding after_single
 returns c =
     rw (
       ne_eqb _ 1 (λ z. c.if-size_of-eq1.false
-          (c.«?».type_size.ensures
+          (c.size_of.ensures
           ∙ size_is _ _ c.requires ∙ z)),
       ← c.begins_with_space-begins.ensures,
       ← c.ends_with_space-ends.ensures,
