@@ -22,7 +22,7 @@ loop-i-preserved c =
     (
   omega arith,
   reach-join _ _ _ _ c.loop-i.invariant.1
-      (reach-block _ _ 32 (omega arith) (ascii-told _ _ _ _ c.is_ascii.ensures (not-false _ c.if-not-is_ascii.false-raw))),
+      (reach-block _ _ 32 (omega arith) (ascii-told _ _ _ _ c.is_ascii.ensures.beyond (not-false _ c.if-not-is_ascii.false-raw))),
 )
 
 pub returns : goal.returns

@@ -7,6 +7,7 @@ use mathlib.Core.Path.{sym, ◌∙◌}
 use lib.ListN.{length}
 use Rattle.text.proofs.Collapse.{Trims, trims-none, trims-dropped, trims-kept, trims-all}
 use Rattle.text.proofs.trim.trim_text.Goals as goal
+use Rattle.text.proofs.trim.trim_text.Goals.{then-not-is_dropped, else-not-is_dropped}
 
 pub loop-i-init : goal.loop-i-init
 loop-i-init c = trims-none _ _ _ _ _
@@ -29,12 +30,13 @@ loop-i-smaller c = omega arith
 
 pub loop-i-preserved : goal.loop-i-preserved
 loop-i-preserved c =
-    ⊎_elim (λ w. rw (w.1, w.2) (trims-kept _ _ _ _ _ _ _ _ _ c.loop-i.invariant
+    elim c.if-not-is_dropped.branch
+    [ then-not-is_dropped w ↦ rw (w.n-is, w.place-is) (trims-kept _ _ _ _ _ _ _ _ _ c.loop-i.invariant
     c.loop-i-test.true _ c.converted-c.ensures
-    (sym c.is_dropped.ensures ∙ not-true _ w.0.taken)))
-    (λ w. rw (w.1, w.2) (trims-dropped _ _ _ _ _ _ _ _ _ c.loop-i.invariant
+    (sym c.is_dropped.ensures ∙ not-true _ w.if-not-is_dropped.true-raw))
+    | else-not-is_dropped w ↦ rw (w.n-is, w.place-is) (trims-dropped _ _ _ _ _ _ _ _ _ c.loop-i.invariant
     c.loop-i-test.true _ c.converted-c.ensures
-    (sym c.is_dropped.ensures ∙ not-false _ w.0.left))) c.if-not-is_dropped.branch
+    (sym c.is_dropped.ensures ∙ not-false _ w.if-not-is_dropped.false-raw)) ]
 
 pub shape_of-place : goal.shape_of-place
 shape_of-place c = c.loop-i.invariant.size
