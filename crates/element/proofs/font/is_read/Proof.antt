@@ -1,5 +1,5 @@
 use mathlib.Core.Path.{sym}
-use Rattle.element.proofs.Fonts.{held-reading, is_read, not-read}
+use Rattle.element.proofs.Fonts.{held-reading, is-read, not-read}
 use borrow.Author.Rules.{rules}
 use Rattle.element.proofs.font.is_read.Statement.{statement}
 use Rattle.element.proofs.font.is_read.Tie as tie
@@ -15,7 +15,7 @@ enum-told-2 c = search rules
 
 returns : tie.Need-returns
 returns c =
-    is_read _ _ c.before.before.before.before.before.args.v _ _ c.before.before.reading-of.ensures.0 _ _
+    is-read _ _ c.before.before.before.before.before.args.v _ _ c.before.before.reading-of.ensures.0 _ _
     c.enum_told.given.1
 
 returns-2 : tie.Need-returns-2
