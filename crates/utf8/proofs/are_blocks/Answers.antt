@@ -8,8 +8,8 @@ use borrow.Author.Rules.{rules}
 use Rattle.utf8.proofs.are_blocks.Goals as goal
 use Rattle.utf8.proofs.are_blocks.Goals.{then-i-lt3+else-i-lt3-2, else-i-lt3}
 
-pub returns-then-i-lt3+else-i-lt3-2-2 : goal.returns-then-i-lt3+else-i-lt3-2-2
-returns-then-i-lt3+else-i-lt3-2-2 c = sym (c.past_sequences-i.ensures.2 c.if-i-lt3-2.true) ∙ c.past_sequences-i.ensures.1
+pub returns-then-i-lt3-2 : goal.returns-then-i-lt3-2
+returns-then-i-lt3-2 c = sym (c.past_sequences-i.ensures.2 c.if-i-lt3-2.true) ∙ c.past_sequences-i.ensures.1
 
 pub past_blocks-requires : goal.past_blocks-requires
 past_blocks-requires c = elim c.if-i-lt3.branch
