@@ -31,8 +31,10 @@ bounds-script-at-in-1-2 c = omega (arith, c.operands_of.ensures ∙ ap operands 
 pub past-requires : goal.past-requires
 unfolding operands
 past-requires c =
-    let whole = omega (arith, c.operands_of.ensures ∙ ap operands c.in-1.is) in
-    record { bytes_bound = whole.0; texts_le_at = whole.1 }
+    record {
+      bytes_bound = omega (arith, c.operands_of.ensures ∙ ap operands c.in-1.is);
+      texts_le_at = omega (arith, c.operands_of.ensures ∙ ap operands c.in-1.is);
+    }
 
 pub bounds-script-at-in-2 : goal.bounds-script-at-in-2
 unfolding operands
@@ -49,11 +51,10 @@ word-len-requires c = omega (arith, c.operands_of.ensures ∙ ap operands c.in-2
 pub past-requires-in-2 : goal.past-requires-in-2
 unfolding operands
 past-requires-in-2 c =
-    let whole = omega (
-      arith,
-      c.operands_of.ensures ∙ ap operands c.in-2.is,
-    ) in
-    record { bytes_bound = whole.0; texts_le_at = whole.1 }
+    record {
+      bytes_bound = omega (arith, c.operands_of.ensures ∙ ap operands c.in-2.is);
+      texts_le_at = omega (arith, c.operands_of.ensures ∙ ap operands c.in-2.is);
+    }
 
 pub bounds-script-at-in-3 : goal.bounds-script-at-in-3
 unfolding operands
@@ -70,11 +71,10 @@ word-len-requires-in-3 c = omega (arith, c.operands_of.ensures ∙ ap operands c
 pub past-requires-in-3 : goal.past-requires-in-3
 unfolding operands
 past-requires-in-3 c =
-    let whole = omega (
-      arith,
-      c.operands_of.ensures ∙ ap operands c.in-3.is,
-    ) in
-    record { bytes_bound = whole.0; texts_le_at = whole.1 }
+    record {
+      bytes_bound = omega (arith, c.operands_of.ensures ∙ ap operands c.in-3.is);
+      texts_le_at = omega (arith, c.operands_of.ensures ∙ ap operands c.in-3.is);
+    }
 
 pub bounds-script-at-in-4 : goal.bounds-script-at-in-4
 unfolding operands
@@ -91,11 +91,10 @@ word-len-requires-in-4 c = omega (arith, c.operands_of.ensures ∙ ap operands c
 pub past-requires-in-4 : goal.past-requires-in-4
 unfolding operands
 past-requires-in-4 c =
-    let whole = omega (
-      arith,
-      c.operands_of.ensures ∙ ap operands c.in-4.is,
-    ) in
-    record { bytes_bound = whole.0; texts_le_at = whole.1 }
+    record {
+      bytes_bound = omega (arith, c.operands_of.ensures ∙ ap operands c.in-4.is);
+      texts_le_at = omega (arith, c.operands_of.ensures ∙ ap operands c.in-4.is);
+    }
 
 pub word-len-requires-in-5 : goal.word-len-requires-in-5
 unfolding operands
@@ -104,8 +103,10 @@ word-len-requires-in-5 c = omega (arith, c.operands_of.ensures ∙ ap operands c
 pub past-requires-in-5 : goal.past-requires-in-5
 unfolding operands
 past-requires-in-5 c =
-    let whole = omega (arith, c.operands_of.ensures ∙ ap operands c.in-5.is) in
-    record { bytes_bound = whole.0; texts_le_at = whole.1 }
+    record {
+      bytes_bound = omega (arith, c.operands_of.ensures ∙ ap operands c.in-5.is);
+      texts_le_at = omega (arith, c.operands_of.ensures ∙ ap operands c.in-5.is);
+    }
 
 pub returns-in-1 : goal.returns-in-1
 unfolding operands
