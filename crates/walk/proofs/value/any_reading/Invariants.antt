@@ -9,7 +9,7 @@ use Rattle.walk.proofs.Finding.{Reading, reading-first, any-kind, any-hit, any-m
 use Rattle.walk.proofs.value.any_reading.Given as goal
 
 abbrev pub invariant-loop-k : goal.invariant-loop-k
-invariant-loop-k l = Reading (λ s a l.c. any_reading l.kind l.id (readings_in s l.characters a l.c)) l.script l.start l.initial.c l.c
+invariant-loop-k l = Reading (λ s a c. any_reading l.kind l.id (readings_in s l.characters a c)) l.script l.start l.initial.c l.c
 
 abbrev pub decreases-loop-k : goal.decreases-loop-k
 decreases-loop-k l = length l.script - l.c.at

@@ -6,7 +6,7 @@ use mathlib.Core.Logic.{⊎_elim}
 use Rattle.walk.proofs.Walks.{attribute-told}
 use Rattle.walk.proofs.Finding.{Looking, looking, named, other-space, other_name, unnamed}
 use Rattle.walk.proofs.value.attribute_in.Goals as goal
-use Rattle.walk.proofs.value.attribute_in.Goals.{then-s-space, else-s-space}
+use Rattle.walk.proofs.value.attribute_in.Goals.{then-s-space+else-a-name, else-s-space}
 
 pub loop-a-init : goal.loop-a-init
 loop-a-init c = looking _ _ _ _ _ c.requires
@@ -30,7 +30,7 @@ loop-a-smaller c =
 pub loop-a-preserved : goal.loop-a-preserved
 loop-a-preserved c =
     elim c.if-s-space.branch
-    [ then-s-space w ↦ other_name _ _ _ _ _ _ c.loop-a.invariant _ _ _ _
+    [ then-s-space+else-a-name w ↦ other_name _ _ _ _ _ _ c.loop-a.invariant _ _ _ _
     c.in-At.is (c.next_attribute.ensures.same, c.next_attribute.ensures.fit) w.if-s-space.true w.if-a-name.false
     | else-s-space w ↦ other-space _ _ _ _ _ _ c.loop-a.invariant _ _ _ _
     c.in-At.is (c.next_attribute.ensures.same, c.next_attribute.ensures.fit) w.if-s-space.false ]

@@ -9,7 +9,7 @@ use Rattle.walk.proofs.Finding.{Reading, reading-first, of-kind, other-kind, of-
 use Rattle.walk.proofs.value.reading_of.Given as goal
 
 abbrev pub invariant-loop-k : goal.invariant-loop-k
-invariant-loop-k l = Reading (λ s a l.c. reading_of l.kind (readings_in s l.characters a l.c)) l.script l.start l.initial.c l.c
+invariant-loop-k l = Reading (λ s a c. reading_of l.kind (readings_in s l.characters a c)) l.script l.start l.initial.c l.c
 
 abbrev pub decreases-loop-k : goal.decreases-loop-k
 decreases-loop-k l = length l.script - l.c.at
