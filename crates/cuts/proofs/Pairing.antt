@@ -232,12 +232,12 @@ settled-quiet chars values k t known aim ws ws' w p g s = go (ℕ_discrete known
 -- The words hold for the element that was aimed at last.
 pub known-aim : (chars : List ℕ) (values : List Value) (t : Tree) (aim : Aim) (ws : List ℕ) → Aimed chars t aim
     → Quiet chars values aim.pass t aim.element ws → Known chars values aim.pass t aim ws
-known-aim chars values t aim ws w q = record { pass = refl; aimed = λ z. w; quiet = λ z. q }
+known-aim chars vs t aim ws w q = record { pass = refl; aimed = λ z. w; quiet = λ z. q }
 
 -- Nothing is known.
 pub known-none : (chars : List ℕ) (values : List Value) (k : ℕ) (t : Tree) (aim : Aim) (ws : List ℕ) → aim.pass ≡ k → aim.key ≡ 0
     → Known chars values k t aim ws
-known-none chars values k t aim ws p z = record { pass = p; aimed = λ o. absurd (o z); quiet = λ o. absurd (o z) }
+known-none chars vs k t aim ws p z = record { pass = p; aimed = λ o. absurd (o z); quiet = λ o. absurd (o z) }
 
 -- THE LOOP
 

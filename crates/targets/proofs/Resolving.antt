@@ -282,7 +282,7 @@ module _ (ns es : List ℕ) (k m j name x : ℕ) (a : name ≡ cut_name k) (e : 
 
   -- It is there, and what was found is stored.
   pub turn-some : (j ≡ 0 → ⊥) → (y : ℕ) → y ≡ x → (es' : List ℕ) → es' ≡ next_set es (j - 1) y → Stored ns es (cut_name k) m x es'
-  turn-some z y f es' q = record {
+  turn-some z y f fs q = record {
     none = λ o. absurd (z (own ∙ o));
     some = λ o. q ∙ ap (next_set es (j - 1)) f ∙ ap (λ (i : ℕ). next_set es (i - 1) x) own;
   }
