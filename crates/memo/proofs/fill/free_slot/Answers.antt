@@ -27,7 +27,7 @@ overflow_add-result c =
       arith,
       c.loop-left.invariant.1,
       unit-low c.args.slots.now,
-      c.well-formed,
+      c.well_formed,
     )
 
 pub returns-then-slot_at-eq0 : goal.returns-then-slot_at-eq0

@@ -12,7 +12,7 @@ overflow_mul-result-2 c =
       part_low c.args.slots.now 6 _ (c.args.key / 4096) c.unit.ensures.same
           (omega (arith, unit-some c.args.slots.now c.requires)),
       unit-low c.args.slots.now,
-      c.well-formed,
+      c.well_formed,
     )
 
 pub overflow_add-result : goal.overflow_add-result
@@ -22,7 +22,7 @@ overflow_add-result c =
       part_low c.args.slots.now 6 _ (c.args.key / 4096) c.unit.ensures.same
           (omega (arith, unit-some c.args.slots.now c.requires)),
       unit-low c.args.slots.now,
-      c.well-formed,
+      c.well_formed,
     )
 
 pub returns : goal.returns

@@ -10,17 +10,14 @@ stands_for-c-requires c =
 
 pub is_default_at-default1-requires : goal.is_default_at-default1-requires
 is_default_at-default1-requires c =
-    let whole = rw c.stands_for-c.ensures
-    (parent-ready _ _ _ _ _ _ c.requires.fair _
-    (stands-text c.args.nodes.now
-    c.args.nodes.now
-    c.args.element
-    c.args.count
-    c.args.turn.a
-    c.args.turn.kept
-    c.requires.text_of
-    c.requires.text_of_3)) in
-    record { i_in_bounds = whole.0; i_nonzero = whole.1.0; readable_in = whole.1.1 }
+    let ready = parent-ready _ _ _ _ _ _ c.requires.fair _
+    (stands-text c.args.nodes.now c.args.nodes.now c.args.element c.args.count c.args.turn.a c.args.turn.kept c.requires.text_of
+    c.requires.text_of_3) in
+    record {
+      i_in_bounds = rw c.stands_for-c.ensures ready.0;
+      i_nonzero = rw c.stands_for-c.ensures ready.1.0;
+      readable_in = rw c.stands_for-c.ensures ready.1.1;
+    }
 
 pub is_default_at-default2-requires : goal.is_default_at-default2-requires
 is_default_at-default2-requires c =
