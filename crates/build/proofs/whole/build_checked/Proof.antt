@@ -1,7 +1,7 @@
 use mathlib.Core.Path.{◌∙◌}
 use native.Mathlib.Omega.{arith}
 use Rattle.build.proofs.Answering.{refused-answer}
-use Rattle.build.proofs.Building.{no-root, root-room, root-alone, with_root}
+use Rattle.build.proofs.Building.{no-root, root-room, root-alone, with-root}
 use borrow.Author.Rules.{rules}
 use Rattle.build.proofs.whole.build_checked.Statement.{statement}
 use Rattle.build.proofs.whole.build_checked.Tie as tie
@@ -66,7 +66,7 @@ same-length-6 c = search rules
 returns-2 : tie.Need-returns-2
 returns-2 c =
     c.before.before.before.before.before.before.fill.ensures
-    ∙ with_root _ _ c.before.before.before.before.before.before.before.before.before.before.before.before.before.before.before.before.before.before.before.before.before.before.before.before.before.before.before.before.before.before.before.before.args.nodes.now
+    ∙ with-root _ _ c.before.before.before.before.before.before.before.before.before.before.before.before.before.before.before.before.before.before.before.before.before.before.before.before.before.before.before.before.before.before.before.before.args.nodes.now
     c.before.before.before.before.before.before.before.before.before.before.before.before.before.before.before.before.before.before.before.before.before.before.before.before.before.before.before.before.before.before.before.before.args.attributes.now c.before.before.before.before.before.before.before.before.before.before.before.before.before.before.before.before.before.before.before.before.before.before.before.before.before.before.before.before.before.before.before.before.args.text.now _ _ _
     c.before.before.before.before.before.before.before.before.before.before.before.before.before.before.before.before.before.before.before.before.before.before.before.before.before.before.before.before.before.before.before.before.requires c.before.before.before.before.before.before.before.before.before.before.before.before.before.before.before.before.before.before.before.before.before.before.before.clear.ensures _
     c.before.before.before.before.before.before.before.before.before.before.before.before.before.before.before.node-room.ensures
