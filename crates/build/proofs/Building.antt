@@ -229,10 +229,10 @@ module _ (script chars ns es bs ns₁ es₁ bs₁ : List ℕ) (checked : check s
         root = is-root ∙ ap rooted (sym same-empty);
       }
 
-      pub with_root : answered chars (cleared_as ns₂ es₁ bs₁) (with_repairs chars (events script chars)
+      pub with-root : answered chars (cleared_as ns₂ es₁ bs₁) (with_repairs chars (events script chars)
           (then (parsed (plain chars) (events script chars) (tree_of ns₂ es₁ bs₁ root_alone)) tested))
           ≡ build script chars (length ns) (length es) (length bs)
-      with_root = rw (same-empty, is-root) (built-from true (lt-ltb 0 room (omega arith)))
+      with-root = rw (same-empty, is-root) (built-from true (lt-ltb 0 room (omega arith)))
 
 -- check's number first.
 pub check-refused : (script chars : List ℕ) (n m b k : ℕ) → k ≡ check script chars → (k ≡ 0 → ⊥) →

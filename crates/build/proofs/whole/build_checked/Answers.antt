@@ -1,7 +1,7 @@
 use mathlib.Core.Path.{◌∙◌}
 use native.Mathlib.Omega.{arith}
 use Rattle.build.proofs.Answering.{refused-answer}
-use Rattle.build.proofs.Building.{no-root, root-room, root-alone, with_root}
+use Rattle.build.proofs.Building.{no-root, root-room, root-alone, with-root}
 use borrow.Author.Rules.{rules}
 use Rattle.build.proofs.whole.build_checked.Goals as goal
 
@@ -38,7 +38,7 @@ fill-requires c =
 pub returns : goal.returns
 returns c =
     c.fill.ensures
-    ∙ with_root _ _ c.args.nodes.now
+    ∙ with-root _ _ c.args.nodes.now
     c.args.attributes.now c.args.text.now _ _ _
     c.requires c.clear.ensures _
     c.node_room.ensures
