@@ -13,7 +13,7 @@ pass_unbuilt-requires c =
 pub parse_xml_node_children-refused-requires : goal.parse_xml_node_children-refused-requires
 parse_xml_node_children-refused-requires c =
     let rooted = c.requires.rooted in
-    let skip = c.type_inv.place.ensures in record {
+    let skip = c.pass_unbuilt.ensures in record {
       underway = begins-behind _ _ _ _ _ rooted _ refl _ _ skip refl refl;
       place_len = (skip.long, refl);
       memo = c.requires.memo;
@@ -22,12 +22,12 @@ parse_xml_node_children-refused-requires c =
 pub returns-then-refused-ne0 : goal.returns-then-refused-ne0
 returns-then-refused-ne0 c =
     let rooted = c.requires.rooted in
-    let told = c.type_inv.taken.ensures.0
+    let told = c.parse_xml_node_children-refused.ensures.outcome
     ∙ all-behind _ _ _ _ _ c.requires.rooted _ refl _ _
-    c.type_inv.place.ensures refl refl in
+    c.pass_unbuilt.ensures refl refl in
     c.refuse.ensures _
     ∙ fill-refused _ _ _ _ _ rooted _ refl _ _ _ _
-    c.type_inv.taken.result told
+    c.parse_xml_node_children-refused.result told
     c.nodes-1.given c.attributes-1.given
     c.text-1.given
     c.if-refused-ne0.true
@@ -35,21 +35,21 @@ returns-then-refused-ne0 c =
 pub finish-requires : goal.finish-requires
 finish-requires c =
     let rooted = c.requires.rooted in
-    let told = c.type_inv.taken.ensures.0 ∙ all-behind _ _ _ _ _ c.requires.rooted _ refl _ _
-    c.type_inv.place.ensures refl refl in
+    let told = c.parse_xml_node_children-refused.ensures.outcome ∙ all-behind _ _ _ _ _ c.requires.rooted _ refl _ _
+    c.pass_unbuilt.ensures refl refl in
     fill-tended _ _ _ _ _ rooted _ refl _ _ _ _
-    c.type_inv.taken.result told _ _ _ _ _ c.type_inv.taken.ensures.1 c.if-refused-ne0.false _
+    c.parse_xml_node_children-refused.result told _ _ _ _ _ c.parse_xml_node_children-refused.ensures.behind c.if-refused-ne0.false _
     c.counted-counts.ensures
 
 pub returns : goal.returns
 returns c =
     let rooted = c.requires.rooted in
-    let told = c.type_inv.taken.ensures.0
+    let told = c.parse_xml_node_children-refused.ensures.outcome
     ∙ all-behind _ _ _ _ _ c.requires.rooted _ refl _ _
-    c.type_inv.place.ensures refl refl in
+    c.pass_unbuilt.ensures refl refl in
     c.finish.ensures
     ∙ fill_done _ _ _ _ _ rooted _ refl _ _ _ _
-    c.type_inv.taken.result told
+    c.parse_xml_node_children-refused.result told
     c.nodes-1.given c.attributes-1.given
     c.text-1.given c.if-refused-ne0.false _
     c.counted-counts.ensures

@@ -24,7 +24,7 @@ pub mend-requires : goal.mend-requires
 mend-requires c =
     record {
       characters_value = c.requires.characters_value;
-      marked = c.type_inv.marks.ensures;
+      marked = c.set_marks.ensures;
       tidy = c.requires.tidy;
       indexed = indexed-none _ _ _;
       resolved = λ z. absurd (z (replicate-zero 2049 2048));
@@ -39,7 +39,7 @@ pub prepare-requires : goal.prepare-requires
 prepare-requires c =
     record {
       characters_value = c.requires.characters_value;
-      marked = c.type_inv.marks.ensures;
+      marked = c.set_marks.ensures;
       tidy = c.requires.tidy;
       heads_len = heads-none;
       nodes_bound = (c.has_room.ensures (not-false _ c.if-not-has_room.false-raw)).0;
@@ -49,11 +49,11 @@ pub mend-requires-2 : goal.mend-requires-2
 mend-requires-2 c =
     record {
       characters_value = c.requires.characters_value;
-      marked = c.type_inv.marks.ensures;
-      tidy = like-tidy _ _ _ _ _ _ c.type_inv.heads.ensures.0
+      marked = c.set_marks.ensures;
+      tidy = like-tidy _ _ _ _ _ _ c.prepare.ensures.like
           c.requires.tidy;
-      indexed = c.type_inv.heads.ensures.1.0;
-      resolved = c.type_inv.heads.ensures.1.1;
+      indexed = c.prepare.ensures.indexed;
+      resolved = c.prepare.ensures.resolved;
     }
 
 pub unchain-requires : goal.unchain-requires
@@ -61,7 +61,7 @@ unchain-requires c =
     omega (
       arith,
       c.requires.tidy.kept.fits.entries,
-      c.type_inv.heads.ensures.0.long,
+      c.prepare.ensures.like.long,
       long-on [] [] [] [] _ _ c.args.counts _ _
           c.mend-2.ensures,
     )
@@ -72,4 +72,4 @@ returns c =
     c.requires.tidy
     (unchained _ _ _ _ c.args.counts _ _ _ _ c.requires.tidy (c.has_room.ensures
     (not-false _ c.if-not-has_room.false-raw)).1
-    c.type_inv.heads.ensures.0 c.mend-2.ensures c.unchain.ensures)
+    c.prepare.ensures.like c.mend-2.ensures c.unchain.ensures)

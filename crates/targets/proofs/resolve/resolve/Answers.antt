@@ -23,8 +23,8 @@ pub loop-m-preserved : goal.loop-m-preserved
 loop-m-preserved c =
     let inv = c.loop-m.invariant in
     resolving-next _ _ _ _ _ _ c.requires.le_pass.0 c.requires.le_pass.1 c.requires.characters_value _ c.requires.tidy _ _ _ inv
-    c.loop-m-test.true _ _ c.type_inv.recent.ensures.0
-    c.type_inv.recent.ensures.1
+    c.loop-m-test.true _ _ c.resolve_one-hint.ensures.stored
+    c.resolve_one-hint.ensures.fit
 
 pub shape_of-attributes : goal.shape_of-attributes
 shape_of-attributes c =
