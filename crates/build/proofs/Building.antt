@@ -85,7 +85,8 @@ pub cleared-same : (ns es bs ns' es' bs' : List ℕ) → length ns' ≡ length n
     cleared_as ns' es' bs' ≡ cleared_as ns es bs
 cleared-same ns es bs ns' es' bs' p q r = λ i. cleared (p i) (q i) (r i)
 
-module _ (script chars ns es bs : List ℕ) (h : Rooted script chars (tree_of ns es bs root_alone)) (from : Cursor) (e : from ≡ at_start) where
+module _ (script chars ns es bs : List ℕ) (h : Rooted script chars (tree_of ns es bs root_alone)) (from : Cursor)
+    (e : from ≡ at_start) where
   abbrev first : Tree
   first = tree_of ns es bs root_alone
 
@@ -154,12 +155,14 @@ module _ (script chars ns es bs : List ℕ) (h : Rooted script chars (tree_of ns
           answered chars (cleared_as ns' es' bs') (with_repairs chars (events script chars) (tested (tree_of ns' es' bs' c)))
           ≡ answered chars (cleared_as ns es bs) (whole (parsed (plain chars) (events script chars) first))
       fill_done z c g =
-          ap (λ (m : Counts). answered chars (cleared_as ns' es' bs') (with_repairs chars (events script chars) (tested (tree_of ns' es' bs' m)))) g
+          ap (λ (m : Counts). answered chars (cleared_as ns' es' bs')
+              (with_repairs chars (events script chars) (tested (tree_of ns' es' bs' m)))) g
           ∙ same_answer (done (tree_of ns' es' bs' (counts_in k')))
           (is-parsed (done (tree_of ns' es' bs' (counts_in k'))) (ap (outcome_of k' (tree_of ns' es' bs' (counts_in k'))) z))
 
     pub fill-tended : (xs : List Event) (low n origin : ℕ) (s' : List ℕ) →
-        (r ≡ 0 → Reached script chars origin xs low n s' k' (tree_of ns' es' bs' (counts_in k'))) → r ≡ 0 → (c : Counts) → c ≡ counts_in k' →
+        (r ≡ 0 → Reached script chars origin xs low n s' k' (tree_of ns' es' bs' (counts_in k'))) → r ≡ 0 → (c : Counts) →
+        c ≡ counts_in k' →
         Tended script chars (tree_of ns' es' bs' c)
     fill-tended xs low n origin s' g z c f =
         subst (λ (m : Counts). Tended script chars (tree_of ns' es' bs' m)) (sym f)

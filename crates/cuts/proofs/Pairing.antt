@@ -99,7 +99,8 @@ module _ (script chars ns es : List ℕ) (c : Counts) (aim : Aim) (w : Aimed cha
 
 -- ONE PAIR AFTER ANOTHER
 
-module _ (size : ℕ) (chars : List ℕ) (values : List Value) (bare : readings_of 0 values ≡ []) (k : ℕ) (other : cut_name k ≡ AId.Id → ⊥) where
+module _ (size : ℕ) (chars : List ℕ) (values : List Value) (bare : readings_of 0 values ≡ []) (k : ℕ)
+    (other : cut_name k ≡ AId.Id → ⊥) where
   pub nodes-aimed : (aim : Aim) (ms : List ℕ) (t : Tree) → Tidy size t → Aimed chars t aim → Aimed chars (cut_nodes chars values k t ms) aim
   unfolding cuts_along applied
   nodes-aimed aim [] t g w = w

@@ -168,7 +168,8 @@ pub record Forgotten (ws : List ℕ) (b : ℕ) : Type 0 where
 pub forgotten-more : (ws : List ℕ) (b : ℕ) → Forgotten ws b → Forgotten (set ws b 0) (b + 1)
 forgotten-more ws b h = record { zero = λ x l. go x l (set_cases ws b 0 x) }
   where
-    go : (x : ℕ) → x < b + 1 → (get_or (set ws b 0) x 0 ≡ get_or ws x 0) ⊎ ((x ≡ b) × (get_or (set ws b 0) x 0 ≡ 0)) → get_or (set ws b 0) x 0 ≡ 0
+    go : (x : ℕ) → x < b + 1 → (get_or (set ws b 0) x 0 ≡ get_or ws x 0) ⊎ ((x ≡ b) × (get_or (set ws b 0) x 0 ≡ 0))
+        → get_or (set ws b 0) x 0 ≡ 0
     go x l (inr e) = e.1
     go x l (inl e) = at (ℕ_discrete x b)
       where

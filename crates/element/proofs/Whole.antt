@@ -142,13 +142,15 @@ module _ (ns ats : List ℕ) (c : Counts) (p tag : ℕ) (ready : Ready ns ats c 
     pub entries-alike : entries_of t p tag ignored (element_of script chars e) ≡ es
     unfolding entries_of
     entries-alike =
-        writes-alike (declarations_in script chars e.inside) (folded (add_attribute t p tag ignored) [] (attributes_in script chars e.inside))
+        writes-alike (declarations_in script chars e.inside)
+            (folded (add_attribute t p tag ignored) [] (attributes_in script chars e.inside))
         ∙ ap (λ (l : List Entry). folded (declared_in ns at ats) l (declarations_in script chars e.inside))
         (adds-alike (attributes_in script chars e.inside) [])
 
     -- What the element comes to, from its entries.
     abbrev pub comes : Bool → Bool → Bool → Out Tree
-    comes fits few free = pick fits (λ u. pick few (λ v. pick free (λ w. done (add_element tag es p t)) (λ w. refused 22)) (λ v. refused 20))
+    comes fits few free =
+        pick fits (λ u. pick few (λ v. pick free (λ w. done (add_element tag es p t)) (λ w. refused 22)) (λ v. refused 20))
         (λ u. refused 23)
 
     whole : parse_svg_element (element_of script chars e) tag ignored p t

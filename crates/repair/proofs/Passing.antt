@@ -183,7 +183,8 @@ pub record Pass (script chars marks heads ns : List ℕ) (c : Counts) (f : Tree 
       ≡ applied (seen_of ns es₀ c) (f (seen_of ns es₀ c) (up_from 0 c.nodes))
 
 module _ (script chars marks heads ns : List ℕ) (c : Counts) (f : Tree → List ℕ → List Cut) where
-  pub pass-start : (es : List ℕ) (hint : Cursor) → Mendable script chars marks heads ns es c hint → Pass script chars marks heads ns c f es es 0 hint
+  pub pass-start : (es : List ℕ) (hint : Cursor) → Mendable script chars marks heads ns es c hint
+      → Pass script chars marks heads ns c f es es 0 hint
   pass-start es hint g =
       let e : c.nodes - 0 ≡ c.nodes = omega arith in
       record {
@@ -259,5 +260,6 @@ module _ (script chars marks heads ns es : List ℕ) (c : Counts) (g : Mendable 
       (values-bare (length chars) (events script chars) (all-inside script chars g.drawn.checked)) k f l (seen_of ns es c) g.tidy
       (s i m n (sym same ∙ h)) cs)
 
-  pub resolved-on : Resolved chars (values_of script chars) (seen_of ns es c) 6 → Resolved chars (values_of script chars) (seen_of ns es' c) 6
+  pub resolved-on : Resolved chars (values_of script chars) (seen_of ns es c) 6
+      → Resolved chars (values_of script chars) (seen_of ns es' c) 6
   resolved-on r = record { sought = λ k f l. sought-on k f (omega arith) (r.sought k f l) }

@@ -168,7 +168,8 @@ module _ (chars : List ℕ) (t : Tree) (id : List ℕ) where
       go (yes z) (no e) = rw (for-none z e) z
 
 -- An element with that id is found, or a later one.
-last_some : (chars : List ℕ) (t : Tree) (id : List ℕ) (n i : ℕ) → i < n → has_id_bytes chars t id i ≡ true → last_with_id chars t id n ≡ 0 → ⊥
+last_some : (chars : List ℕ) (t : Tree) (id : List ℕ) (n i : ℕ) → i < n → has_id_bytes chars t id i ≡ true → last_with_id chars t id n ≡ 0
+    → ⊥
 unfolding last_with_id
 last_some chars t id zero i l h z = omega arith
 last_some chars t id (suc n) i l h z = go (has_id_bytes chars t id n) refl z (ℕ_discrete i n) (λ d. last_some chars t id n i d h)

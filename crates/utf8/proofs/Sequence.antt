@@ -105,7 +105,8 @@ unfolding same_row
 row_is [] [] e = refl
 row_is [] (q ∷ qs) e = no e
 row_is (r ∷ rs) [] e = no e
-row_is (r ∷ rs) (q ∷ qs) e = ap₂ (λ a b. a ∷ b) (range-is r q (and_left (same_range r q) _ e)) (row_is rs qs (and_right (same_range r q) _ e))
+row_is (r ∷ rs) (q ∷ qs) e =
+    ap₂ (λ a b. a ∷ b) (range-is r q (and_left (same_range r q) _ e)) (row_is rs qs (and_right (same_range r q) _ e))
 
 rows_are : (r q : List (List Range)) → same_rows r q ≡ true → r ≡ q
 unfolding same_rows
@@ -187,7 +188,8 @@ length_most b h = leb-true (length_of b) 4 (below 256 sized all-sized b h)
 module _ (b : ℕ) (h : b < 256) (l : 0x80 ≤ b) where
   length-by-ones : length_of b ≡ by_ones (count_leading_zeros 8 (255 - b)) b
   unfolding ones-right
-  length-by-ones = eqb-true (length_of b) (by_ones (count_leading_zeros 8 (255 - b)) b) (sym (simp (le-ltb b 0x80 l)) ∙ below 256 ones-right all_ones b h)
+  length-by-ones = eqb-true (length_of b) (by_ones (count_leading_zeros 8 (255 - b)) b)
+      (sym (simp (le-ltb b 0x80 l)) ∙ below 256 ones-right all_ones b h)
 
   pub ones-two : count_leading_zeros 8 (255 - b) ≡ 2 → 0xC2 ≤ b → length_of b ≡ 2
   unfolding by_ones
@@ -209,11 +211,13 @@ module _ (b : ℕ) (h : b < 256) (l : 0x80 ≤ b) where
   unfolding by_ones
   ones-four-none e m = length-by-ones ∙ rw (e, lt-ltb 0xF4 b m)
 
-  pub ones_none : (count_leading_zeros 8 (255 - b) ≡ 2 → ⊥) → (count_leading_zeros 8 (255 - b) ≡ 3 → ⊥) → (count_leading_zeros 8 (255 - b) ≡ 4 → ⊥)
+  pub ones_none : (count_leading_zeros 8 (255 - b) ≡ 2 → ⊥) → (count_leading_zeros 8 (255 - b) ≡ 3 → ⊥)
+      → (count_leading_zeros 8 (255 - b) ≡ 4 → ⊥)
       → length_of b ≡ 0
   unfolding by_ones
   ones_none x y z = length-by-ones ∙ rw
-      (ne_eqb (count_leading_zeros 8 (255 - b)) 2 x, ne_eqb (count_leading_zeros 8 (255 - b)) 3 y, ne_eqb (count_leading_zeros 8 (255 - b)) 4 z)
+      (ne_eqb (count_leading_zeros 8 (255 - b)) 2 x, ne_eqb (count_leading_zeros 8 (255 - b)) 3 y,
+          ne_eqb (count_leading_zeros 8 (255 - b)) 4 z)
 
   -- Not two: none, three or four.
   ones-others : (count_leading_zeros 8 (255 - b) ≡ 2 → ⊥) → length_of b ≡ 0 ⊎ 3 ≤ length_of b
@@ -390,7 +394,8 @@ module _ (s : List ℕ) (i n : ℕ) (h : i < length s) (f : get_or s i 0 < 256) 
   cut l = cut_off v n (q ∷ tail ∷ tail ∷ []) s (i + 1) stage1 (omega (arith, length_most (get_or s i 0) f)) (omega arith) (omega arith)
 
   -- Fewer than three bytes are left for a sequence of none, three or four.
-  pub few : 0x80 ≤ get_or s i 0 → (count_leading_zeros 8 (255 - get_or s i 0) ≡ 2 → ⊥) → length s < i + 3 → 0 ≡ sequence_of well_formed (drop i s)
+  pub few : 0x80 ≤ get_or s i 0 → (count_leading_zeros 8 (255 - get_or s i 0) ≡ 2 → ⊥) → length s < i + 3
+      → 0 ≡ sequence_of well_formed (drop i s)
   few l x m = ⊎_elim (λ z. sym (e ∙ z) ∙ one (omega (arith, e, z))) (λ z. cut (omega (arith, e, z))) (ones-others (get_or s i 0) f l x)
 
   pub bad-second : i + n ≤ length s → 2 ≤ n → is_within (get_or s (i + 1) 0) (second_of (get_or s i 0)) ≡ false
