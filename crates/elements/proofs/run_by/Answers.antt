@@ -19,13 +19,13 @@ advance-requires c =
 
 pub loop-n-smaller : goal.loop-n-smaller
 loop-n-smaller c =
-    let on = turn-told _ _ _ _ _ _ _ _ c.in-On.is
+    let on = turn-told _ _ _ _ _ c.loop-n.s _ _ c.in-On.is
     c.advance.ensures in
     omega (arith, on.1, on.0.fit.at)
 
 pub loop-n-preserved : goal.loop-n-preserved
 loop-n-preserved c =
-    let on = turn-told _ _ _ _ _ _ _ _ c.in-On.is
+    let on = turn-told _ _ _ _ _ c.loop-n.s _ _ c.in-On.is
     c.advance.ensures in
     (on.0, search rules, search rules, search rules)
 

@@ -16,6 +16,6 @@ returns c =
     record {
       tables = c.cut_below-end.ensures.tables;
       quiet = quiet-more _ _ _ _ _ _
-          (quiet-on _ _ _ _ _ _ _ c.args.aim c.pre.0 _ c.pre.1.1.0 _ _ c.cut_below-end.ensures.tables) _ _
+          (quiet-on _ _ _ _ _ _ _ c.args.aim c.requires.cuttable _ c.requires.quiet_2 _ _ c.cut_below-end.ensures.tables) _ _
           c.cut_below-end.ensures.range c.cut_below-end.ensures.silent _ c.hush.ensures;
     }
