@@ -16,12 +16,9 @@ use Rattle.model.specs.Element.{inherit_word, marker, inherited_from, copy_from,
 use Rattle.model.specs.Element.{add_attribute, standing, insert_entry, font_parts, insert_attribute, reset_to, insert_part, is_read}
 use Rattle.model.specs.Element.{write_declaration, entries_of}
 use Rattle.standards.specs.CssCascade.{first_of, last_of, those, winner}
+use Rattle.standards.specs.Theorems.Cascade.{kept}
 
 -- THE TWO RULES
-
--- What the Rust keeps: the first important one, else the last.
-unfoldable pub kept : {A : Type 0} → (A → Bool) → List A → Option A
-kept important ds = or_else (first_of (those important ds)) (last_of ds)
 
 pub one-of-one : {A : Type 0} (xs : List A) → length xs ≤ 1 → first_of xs ≡ last_of xs
 unfolding last_of

@@ -34,7 +34,8 @@ use Rattle.model.proofs.Theorems.Always.{always-then}
 use Rattle.model.proofs.Theorems.Whole.{build-checked, build-noted}
 use Rattle.standards.specs.SvgSpace.{NEWLINE, BLANK, RETURN, without, convert, as_default, as_preserve}
 use Rattle.standards.proofs.Theorems.Trimmings.{told, run-told}
-use Rattle.standards.proofs.Theorems.Shaved.{Shaved, whole, shaved-then, trimming-kept, shaved-shorter, shaved-visible, shaved-no-two}
+use Rattle.standards.specs.Theorems.Shaved.{Shaved, whole}
+use Rattle.standards.proofs.Theorems.Shaved.{shaved-then, trimming-kept, shaved-shorter, shaved-visible, shaved-no-two}
 use Rattle.standards.proofs.Theorems.Shaved.{shaved-utf8}
 use Rattle.standards.proofs.Theorems.Spaces.{NoTwo, trim-no-two, trim-visible}
 use Rattle.standards.proofs.Theorems.Sequences.{trim-text-utf8, joined-utf8}

@@ -18,12 +18,7 @@ use Rattle.standards.specs.SvgSpace.{without}
 use Rattle.standards.proofs.Theorems.Spaces.{NoTwo}
 use Rattle.standards.proofs.Theorems.Sequences.{first-space-utf8, last-space-utf8}
 use Rattle.standards.proofs.Theorems.Trimmings.{cut_list, with_text, told}
-
--- The second text is the first with spaces taken off its ends.
-pub data Shaved : List ℕ → List ℕ → Type 0 where
-  whole : {v : List ℕ} → Shaved v v
-  front : {v w : List ℕ} → Shaved v (SPACE ∷ w) → Shaved v w
-  back : {v w : List ℕ} → Shaved v (w ++ (SPACE ∷ [])) → Shaved v w
+use Rattle.standards.specs.Theorems.Shaved.{Shaved, whole, front, back}
 
 -- ONE SPACE OFF AN END
 

@@ -18,7 +18,8 @@ use Rattle.model.proofs.Theorems.Laws.{appended-new, room_fits}
 use Rattle.model.proofs.Theorems.Agree.{sets-in}
 use Rattle.model.proofs.Theorems.Entries.{entries-long}
 use Rattle.standards.proofs.Theorems.Inheritance.{own_entry}
-use Rattle.standards.proofs.Theorems.Cascade.{kept, entry_of, is_important, longhand, all_applying, value-stands}
+use Rattle.standards.specs.Theorems.Cascade.{kept}
+use Rattle.standards.proofs.Theorems.Cascade.{entry_of, is_important, longhand, all_applying, value-stands}
 
 -- The entries from j on are these.
 abbrev Stored : Tree → ℕ → List Entry → Type 0
