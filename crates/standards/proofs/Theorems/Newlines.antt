@@ -11,7 +11,8 @@ use Rattle.standards.proofs.Theorems.Spaces.{no_first, no_last, none-converted, 
 pub default-without-newline : (bs : List ℕ) → Free NEWLINE bs → Free RETURN bs → no_last (no_first (trim_text default bs)) ≡ as_default bs
 default-without-newline bs h g =
     default-is-standard bs
-    ∙ ap (λ r. as_default (convert NEWLINE BLANK r)) (none-converted RETURN NEWLINE bs g) ∙ ap as_default (none-converted NEWLINE BLANK bs h)
+    ∙ ap (λ r. as_default (convert NEWLINE BLANK r)) (none-converted RETURN NEWLINE bs g)
+    ∙ ap as_default (none-converted NEWLINE BLANK bs h)
 
 -- WHICH TEXTS WITH NEWLINES STILL AGREE: those in which newlines alone stand nowhere between two visible characters, such as
 -- "\n  a\n  b\n", the usual indented text.
@@ -20,7 +21,8 @@ newline-agrees bs h g =
     default-is-standard bs ∙ ap (λ r. as_default (convert NEWLINE BLANK r)) (none-converted RETURN NEWLINE bs h) ∙ seams-none bs g
 
 -- THE DIFFERENCE: every other text is longer than the standard's, by one space for each seam.
-pub newline-differs : (bs : List ℕ) → Free RETURN bs → length (no_last (no_first (trim_text default bs))) ≡ length (as_default bs) + seams bs
+pub newline-differs : (bs : List ℕ) → Free RETURN bs → length (no_last (no_first (trim_text default bs)))
+    ≡ length (as_default bs) + seams bs
 newline-differs bs h =
     ap length (default-is-standard bs ∙ ap (λ r. as_default (convert NEWLINE BLANK r)) (none-converted RETURN NEWLINE bs h))
     ∙ seams-longer bs

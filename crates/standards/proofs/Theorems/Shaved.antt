@@ -11,7 +11,8 @@ use Rattle.std.proofs.Math.Dec.{eqb}
 use Rattle.std.proofs.Math.Seq.{slice, take-length}
 use Rattle.model.specs.Base.{pick, and, given}
 use Rattle.model.specs.Utf8.{is_blank, is_utf8}
-use Rattle.model.specs.Text.{XmlSpace, SPACE, is_default, Trimming, cut_from, cut_to, TextNode, begins_with_space, ends_with_space, is_empty}
+use Rattle.model.specs.Text.{XmlSpace, SPACE, is_default, Trimming, cut_from, cut_to, TextNode, begins_with_space, ends_with_space}
+use Rattle.model.specs.Text.{is_empty}
 use Rattle.model.specs.Text.{single, outer_spaces, last_edge, pair, stands_for, is_nil, pairs, trimming}
 use Rattle.model.proofs.Theorems.Sim.{and_left, and_right}
 use Rattle.standards.specs.SvgSpace.{without}

@@ -235,7 +235,8 @@ removed_pass at_break = word
 -- One character more for each seam, and the same text where there is none.
 abbrev ApartBy : Place → ℕ → List ℕ → List ℕ → Type 0
 ApartBy p n x y =
-    (length (words (spaces_pass p) x) ≡ length (words (removed_pass p) y) + n) × (n ≡ 0 → words (spaces_pass p) x ≡ words (removed_pass p) y)
+    (length (words (spaces_pass p) x) ≡ length (words (removed_pass p) y) + n)
+    × (n ≡ 0 → words (spaces_pass p) x ≡ words (removed_pass p) y)
 
 longer : (a b n : ℕ) (x y : List ℕ) → a ≡ b → (length x ≡ length y + n) × (n ≡ 0 → x ≡ y) →
     (length (a ∷ x) ≡ length (b ∷ y) + n) × (n ≡ 0 → a ∷ x ≡ b ∷ y)
@@ -290,7 +291,8 @@ seams-none bs h = rw ((as-words bs).0, (as-words bs).1) ((apart_by bs ahead).1 h
 pub newline-case :
     (no_last (no_first (trim_text default (97 ∷ 10 ∷ 98 ∷ []))) ≡ 97 ∷ 32 ∷ 98 ∷ []) × (as_default (97 ∷ 10 ∷ 98 ∷ []) ≡ 97 ∷ 98 ∷ [])
     × (seams (97 ∷ 10 ∷ 98 ∷ []) ≡ 1)
-unfolding trim_text trim_text_after converted among no_last as_default without convert no_leading no_trailing consolidated seams seams_from sort_of
+unfolding trim_text trim_text_after converted among no_last as_default without convert no_leading no_trailing consolidated seams seams_from
+    sort_of
 newline-case = (refl, refl, refl)
 
 -- A carriage return, which only a character reference can write, becomes a space; the standard names it nowhere and keeps it.
@@ -332,7 +334,8 @@ unfolding squeezed
 squeezed-no-two [] p = (tt, λ e. refl)
 squeezed-no-two (b ∷ bs) p = go (and (eqb b BLANK) (eqb b p)) refl (squeezed-no-two bs p) (squeezed-no-two bs b)
   where
-    go : (c : Bool) → and (eqb b BLANK) (eqb b p) ≡ c → NoTwo (squeezed p bs) × (eqb p BLANK ≡ true → is_blank_next (squeezed p bs) ≡ false) →
+    go : (c : Bool) → and (eqb b BLANK) (eqb b p) ≡ c → NoTwo (squeezed p bs)
+        × (eqb p BLANK ≡ true → is_blank_next (squeezed p bs) ≡ false) →
         NoTwo (squeezed b bs) × (eqb b BLANK ≡ true → is_blank_next (squeezed b bs) ≡ false) →
         NoTwo (pick c (λ u. squeezed p bs) (λ u. b ∷ squeezed b bs))
         × (eqb p BLANK ≡ true → is_blank_next (pick c (λ u. squeezed p bs) (λ u. b ∷ squeezed b bs)) ≡ false)

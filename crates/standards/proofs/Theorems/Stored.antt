@@ -11,7 +11,8 @@ use Rattle.model.specs.Names.{is_presentation, allows_inherit_value}
 use Rattle.model.specs.EId
 use Rattle.model.specs.AId
 use Rattle.model.specs.Drawing.{Part, Declaration, Element}
-use Rattle.model.specs.Tables.{Tree, Out, refused, done, ELEMENT, word, Entry, entries_words, entry_word, entry_at, find_entry, attribute_id}
+use Rattle.model.specs.Tables.{Tree, Out, refused, done, ELEMENT, word, Entry, entries_words, entry_word, entry_at, find_entry}
+use Rattle.model.specs.Tables.{attribute_id}
 use Rattle.model.specs.Tables.{node_room, attribute_room, add_element}
 use Rattle.model.specs.Element.{inherit_word, resolve_inherit, append_attribute, entries_of, most_nodes, parse_svg_element}
 use Rattle.model.proofs.Theorems.Laws.{appended-new, room_fits}
