@@ -1,5 +1,7 @@
 // The elements and text elements of a drawing, each below the one that it stands in: what tests/elements replays and bench/ measures.
 // Uses, depth and repairs are left out; nothing else uses it.
+#![tactic(auto)]
+
 ghost use Rattle.std.specs.Prelude.{◌≡◌, ◌+◌, ◌*◌, ◌≤◌, ◌<◌, length};
 ghost use Rattle.model.specs.Check.{check};
 ghost use Rattle.model.specs.Tables.{word};
@@ -19,7 +21,7 @@ use tree::{Counts, word};
 use walk::node::{Item, Opened, next_item, past_element};
 
 // A place in the drawing, the node that is open there, and how much of the tables is taken.
-#[derive(Drop)]
+#[derive(Clone, Copy)]
 pub struct State {
     pub c: Cursor,
     pub parent: u32,
@@ -27,7 +29,7 @@ pub struct State {
 }
 
 // What a turn comes to.
-#[derive(Drop)]
+#[derive(Clone, Copy)]
 pub enum Turn {
     On(State),
     Refused(u32),
@@ -36,7 +38,7 @@ pub enum Turn {
 
 // A number, 0 where nothing stands against the drawing, and how many nodes, entries and bytes of texts there are.
 #[repr(C)]
-#[derive(Drop)]
+#[derive(Clone, Copy)]
 pub struct Built {
     pub number: u32,
     pub nodes: u32,

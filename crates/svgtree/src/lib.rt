@@ -1,4 +1,6 @@
 // The operations for a host, by the C calling convention: a slice is a pointer and a length. include/svgtree.h declares them.
+#![tactic(auto)]
+
 ghost use Rattle.std.specs.Prelude.{◌≡◌, length};
 ghost use Rattle.model.specs.Check.{check};
 ghost use Rattle.model.specs.Build.{build, exchange};

@@ -1,4 +1,6 @@
 // The walks as functions that bench/ measures. Nothing else uses them; what they answer only shows that the walk was made.
+#![tactic(auto)]
+
 use links::link::use_target;
 use links::uses::{NextUse, next_use};
 use memo::fill::fill;
