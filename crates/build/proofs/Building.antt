@@ -14,8 +14,8 @@ use Rattle.model.specs.Tables.{Tree, Out, refused, done, then, word, set_word, n
 use Rattle.model.specs.Parse.{each, node, plain}
 use Rattle.model.specs.Repair.{repaired}
 use Rattle.model.specs.Build.{with_root, parsed, first_is_svg, tested, parse_tree, with_repairs, answered, build}
-use Rattle.model.specs.Theorems.Inside.{all-inside}
-use Rattle.model.specs.Theorems.Kept.{tidy-root}
+use Rattle.model.proofs.Theorems.Inside.{all-inside}
+use Rattle.model.proofs.Theorems.Kept.{tidy-root}
 use Rattle.script.specs.declared.cursor.Cursor.{Cursor}
 use Rattle.script.specs.Step.{at_start, commands_at}
 use Rattle.script.proofs.Commands.{placed_first}
@@ -85,7 +85,8 @@ pub cleared-same : (ns es bs ns' es' bs' : List ℕ) → length ns' ≡ length n
     cleared_as ns' es' bs' ≡ cleared_as ns es bs
 cleared-same ns es bs ns' es' bs' p q r = λ i. cleared (p i) (q i) (r i)
 
-module _ (script chars ns es bs : List ℕ) (h : Rooted script chars (tree_of ns es bs root_alone)) (from : Cursor) (e : from ≡ at_start) where
+module _ (script chars ns es bs : List ℕ) (h : Rooted script chars (tree_of ns es bs root_alone)) (from : Cursor)
+    (e : from ≡ at_start) where
   abbrev first : Tree
   first = tree_of ns es bs root_alone
 
@@ -154,12 +155,14 @@ module _ (script chars ns es bs : List ℕ) (h : Rooted script chars (tree_of ns
           answered chars (cleared_as ns' es' bs') (with_repairs chars (events script chars) (tested (tree_of ns' es' bs' c)))
           ≡ answered chars (cleared_as ns es bs) (whole (parsed (plain chars) (events script chars) first))
       fill_done z c g =
-          ap (λ (m : Counts). answered chars (cleared_as ns' es' bs') (with_repairs chars (events script chars) (tested (tree_of ns' es' bs' m)))) g
+          ap (λ (m : Counts). answered chars (cleared_as ns' es' bs')
+              (with_repairs chars (events script chars) (tested (tree_of ns' es' bs' m)))) g
           ∙ same_answer (done (tree_of ns' es' bs' (counts_in k')))
           (is-parsed (done (tree_of ns' es' bs' (counts_in k'))) (ap (outcome_of k' (tree_of ns' es' bs' (counts_in k'))) z))
 
     pub fill-tended : (xs : List Event) (low n origin : ℕ) (s' : List ℕ) →
-        (r ≡ 0 → Reached script chars origin xs low n s' k' (tree_of ns' es' bs' (counts_in k'))) → r ≡ 0 → (c : Counts) → c ≡ counts_in k' →
+        (r ≡ 0 → Reached script chars origin xs low n s' k' (tree_of ns' es' bs' (counts_in k'))) → r ≡ 0 → (c : Counts) →
+        c ≡ counts_in k' →
         Tended script chars (tree_of ns' es' bs' c)
     fill-tended xs low n origin s' g z c f =
         subst (λ (m : Counts). Tended script chars (tree_of ns' es' bs' m)) (sym f)
@@ -229,10 +232,10 @@ module _ (script chars ns es bs ns₁ es₁ bs₁ : List ℕ) (checked : check s
         root = is-root ∙ ap rooted (sym same-empty);
       }
 
-      pub with_root : answered chars (cleared_as ns₂ es₁ bs₁) (with_repairs chars (events script chars)
+      pub with-root : answered chars (cleared_as ns₂ es₁ bs₁) (with_repairs chars (events script chars)
           (then (parsed (plain chars) (events script chars) (tree_of ns₂ es₁ bs₁ root_alone)) tested))
           ≡ build script chars (length ns) (length es) (length bs)
-      with_root = rw (same-empty, is-root) (built-from true (lt-ltb 0 room (omega arith)))
+      with-root = rw (same-empty, is-root) (built-from true (lt-ltb 0 room (omega arith)))
 
 -- check's number first.
 pub check-refused : (script chars : List ℕ) (n m b k : ℕ) → k ≡ check script chars → (k ≡ 0 → ⊥) →

@@ -10,8 +10,8 @@ use Rattle.model.specs.Base.{pick}
 use Rattle.model.specs.Drawing.{Value, events}
 use Rattle.model.specs.Tables.{Tree}
 use Rattle.model.specs.Repair.{up_from, descendants, Cut, cut_at, applied}
-use Rattle.model.specs.Theorems.Inside.{all-inside}
-use Rattle.model.specs.Theorems.Images.{values-bare}
+use Rattle.model.proofs.Theorems.Inside.{all-inside}
+use Rattle.model.proofs.Theorems.Images.{values-bare}
 use Rattle.model.specs.Theorems.GoingOn.{passing, leads_to, cuts_along}
 use Rattle.tree.specs.declared.Counts.{Counts}
 use Rattle.leads.specs.Links.{values_of}

@@ -15,8 +15,8 @@ use Rattle.model.specs.Drawing.{Part, Value, events, reading_of, readings_of}
 use Rattle.model.specs.Tables.{Tree, attribute_id, attribute_of, has_id_bytes, last_with_id, element_by_id}
 use Rattle.model.specs.Repair.{up_from, descendants, readings_of_attribute, link_of, node_attribute}
 use Rattle.model.specs.Repair.{Cut, cut_name, cut_at, apply_cut, applied}
-use Rattle.model.specs.Theorems.Inside.{all-inside}
-use Rattle.model.specs.Theorems.Images.{values-bare}
+use Rattle.model.proofs.Theorems.Inside.{all-inside}
+use Rattle.model.proofs.Theorems.Images.{values-bare}
 use Rattle.model.specs.Theorems.Kept.{Tidy}
 use Rattle.model.specs.Theorems.GoingOn.{passing, leads_to, target_of, nodes_at, cuts_along, with_each, going_on}
 use Rattle.tree.specs.declared.Counts.{Counts}
@@ -99,7 +99,8 @@ module _ (script chars ns es : List ℕ) (c : Counts) (aim : Aim) (w : Aimed cha
 
 -- ONE PAIR AFTER ANOTHER
 
-module _ (size : ℕ) (chars : List ℕ) (values : List Value) (bare : readings_of 0 values ≡ []) (k : ℕ) (other : cut_name k ≡ AId.Id → ⊥) where
+module _ (size : ℕ) (chars : List ℕ) (values : List Value) (bare : readings_of 0 values ≡ []) (k : ℕ)
+    (other : cut_name k ≡ AId.Id → ⊥) where
   pub nodes-aimed : (aim : Aim) (ms : List ℕ) (t : Tree) → Tidy size t → Aimed chars t aim → Aimed chars (cut_nodes chars values k t ms) aim
   unfolding cuts_along applied
   nodes-aimed aim [] t g w = w
@@ -232,12 +233,12 @@ settled-quiet chars values k t known aim ws ws' w p g s = go (ℕ_discrete known
 -- The words hold for the element that was aimed at last.
 pub known-aim : (chars : List ℕ) (values : List Value) (t : Tree) (aim : Aim) (ws : List ℕ) → Aimed chars t aim
     → Quiet chars values aim.pass t aim.element ws → Known chars values aim.pass t aim ws
-known-aim chars values t aim ws w q = record { pass = refl; aimed = λ z. w; quiet = λ z. q }
+known-aim chars vs t aim ws w q = record { pass = refl; aimed = λ z. w; quiet = λ z. q }
 
 -- Nothing is known.
 pub known-none : (chars : List ℕ) (values : List Value) (k : ℕ) (t : Tree) (aim : Aim) (ws : List ℕ) → aim.pass ≡ k → aim.key ≡ 0
     → Known chars values k t aim ws
-known-none chars values k t aim ws p z = record { pass = p; aimed = λ o. absurd (o z); quiet = λ o. absurd (o z) }
+known-none chars vs k t aim ws p z = record { pass = p; aimed = λ o. absurd (o z); quiet = λ o. absurd (o z) }
 
 -- THE LOOP
 

@@ -15,7 +15,7 @@ use Rattle.model.specs.Drawing.{Value, readings_of}
 use Rattle.model.specs.Tables.{Tree, word, parent_of, attribute_id, set_none}
 use Rattle.model.specs.Repair.{up_from, below_from, descendants, cut_name, cut_at, apply_cut, applied}
 use Rattle.model.specs.Theorems.Kept.{Tidy}
-use Rattle.model.specs.Theorems.Agree.{set_cases}
+use Rattle.model.proofs.Theorems.Agree.{set_cases}
 use Rattle.model.specs.Theorems.GoingOn.{passing, leads_to, cuts_along}
 use Rattle.cuts.specs.Seen.{cut_back, cut_nodes, Range, told_first, told_end, Ranges, Silent, Quiet}
 use Rattle.cuts.specs.Seen.{Covered, Remembered, Told, Hushed, Spread}
@@ -168,7 +168,8 @@ pub record Forgotten (ws : List ℕ) (b : ℕ) : Type 0 where
 pub forgotten-more : (ws : List ℕ) (b : ℕ) → Forgotten ws b → Forgotten (set ws b 0) (b + 1)
 forgotten-more ws b h = record { zero = λ x l. go x l (set_cases ws b 0 x) }
   where
-    go : (x : ℕ) → x < b + 1 → (get_or (set ws b 0) x 0 ≡ get_or ws x 0) ⊎ ((x ≡ b) × (get_or (set ws b 0) x 0 ≡ 0)) → get_or (set ws b 0) x 0 ≡ 0
+    go : (x : ℕ) → x < b + 1 → (get_or (set ws b 0) x 0 ≡ get_or ws x 0) ⊎ ((x ≡ b) × (get_or (set ws b 0) x 0 ≡ 0))
+        → get_or (set ws b 0) x 0 ≡ 0
     go x l (inr e) = e.1
     go x l (inl e) = at (ℕ_discrete x b)
       where

@@ -14,11 +14,13 @@ use Rattle.model.specs.Drawing.{Part, Value, reading_of, readings_of}
 use Rattle.model.specs.Tables.{Tree, entry_at, attribute_id, attribute_of, element_by_id, set_none}
 use Rattle.model.specs.Repair.{up_from, link_kind, element_id, readings_of_attribute, link_of, paints_with, node_attribute}
 use Rattle.model.specs.Repair.{cut_name, cut_at, apply_cut, applied}
-use Rattle.model.specs.Theorems.Whole.{cuts-tidy}
-use Rattle.model.specs.Theorems.Kept.{Tidy, attribute-any}
-use Rattle.model.specs.Theorems.Cuts as cuts
-use Rattle.model.specs.Theorems.Cuts.{by-id-kept, element-id-kept}
-use Rattle.model.specs.Theorems.GoingOn.{passing, Without, leads_to, cuts_along, cut-is, leads-without}
+use Rattle.model.proofs.Theorems.Whole.{cuts-tidy}
+use Rattle.model.specs.Theorems.Kept.{Tidy}
+use Rattle.model.proofs.Theorems.Kept.{attribute-any}
+use Rattle.model.proofs.Theorems.Cuts as cuts
+use Rattle.model.proofs.Theorems.Cuts.{by-id-kept, element-id-kept}
+use Rattle.model.specs.Theorems.GoingOn.{passing, Without, leads_to, cuts_along}
+use Rattle.model.proofs.Theorems.GoingOn.{cut-is, leads-without}
 use Rattle.tree.specs.declared.Counts.{Counts}
 use Rattle.tree.specs.Lent.{read_of, entries_of}
 use Rattle.tree.proofs.Alike.{id_same}

@@ -15,12 +15,12 @@ use Rattle.model.specs.Drawing.{events, readings_of}
 use Rattle.model.specs.Tables.{Tree, entry_word, entry_at, value_at_entry, attribute_id, set_none}
 use Rattle.model.specs.Repair.{element_id, Cut, cut_name, cut_entry, cut_at, apply_cut, applied}
 use Rattle.model.specs.Theorems.Kept.{Tidy}
-use Rattle.model.specs.Theorems.Agree.{sets-out}
-use Rattle.model.specs.Theorems.Cuts as cuts
-use Rattle.model.specs.Theorems.Cuts.{element-id-kept}
-use Rattle.model.specs.Theorems.Whole.{cuts-tidy}
-use Rattle.model.specs.Theorems.Inside.{all-inside}
-use Rattle.model.specs.Theorems.Images.{values-bare}
+use Rattle.model.proofs.Theorems.Agree.{sets-out}
+use Rattle.model.proofs.Theorems.Cuts as cuts
+use Rattle.model.proofs.Theorems.Cuts.{element-id-kept}
+use Rattle.model.proofs.Theorems.Whole.{cuts-tidy}
+use Rattle.model.proofs.Theorems.Inside.{all-inside}
+use Rattle.model.proofs.Theorems.Images.{values-bare}
 use Rattle.script.specs.declared.cursor.Cursor.{Cursor}
 use Rattle.script.specs.Step.{Fit}
 use Rattle.tree.specs.declared.Counts.{Counts}

@@ -1,4 +1,6 @@
 // What leads back to one element is cut (document 01, section 5).
+#![tactic(auto)]
+
 pub mod back;
 pub mod below;
 pub mod cut;
@@ -7,7 +9,7 @@ pub mod pair;
 pub mod quiet;
 
 // An element to which links may lead: the pass that asks, the element's index, and the mark of the links that lead to it.
-#[derive(Drop)]
+#[derive(Clone, Copy)]
 pub struct Aim {
     pub pass: u32,
     pub element: u32,

@@ -82,7 +82,8 @@ unfolding is_blank
 blank_none s = record { within = omega arith; same = refl }
 
 module _ (s : List ℕ) (i : ℕ) (h : i < length s) (r : Blank s i) (n : ℕ) (e : n ≡ sequence_of well_formed (drop i s)) where
-  open_up : is_blank s ≡ pick (is_within_any (code_point n (drop i s)) white_spaces) (λ u. is_blank_from (n - 1) (drop (suc i) s)) (λ u. false)
+  open_up : is_blank s
+      ≡ pick (is_within_any (code_point n (drop i s)) white_spaces) (λ u. is_blank_from (n - 1) (drop (suc i) s)) (λ u. false)
   unfolding is_blank_from
   open_up = sym r.same ∙ rw (e, drop-cons s i 0 h) refl
 

@@ -1,4 +1,5 @@
 // The edges of text nodes: blank texts, spaces at the ends, and the steps of `trim_text_nodes` for one text and for a pair.
+#![tactic(auto)]
 
 pub mod blank;
 pub mod edge;
@@ -6,7 +7,7 @@ pub mod step;
 
 // A pair of text nodes: their indexes, whether the second stands deeper, whether it is the first pair of the element and the last one, and
 // whether the space of each is Default.
-#[derive(Drop)]
+#[derive(Clone, Copy)]
 pub struct Pair {
     pub node1: u32,
     pub node2: u32,
@@ -19,7 +20,7 @@ pub struct Pair {
 
 // Which edges of the two texts of a pair have a space: >text<..>text<
 //                                                      1  2    3  4
-#[derive(Drop)]
+#[derive(Clone, Copy)]
 pub struct Edges {
     pub c1: bool,
     pub c2: bool,

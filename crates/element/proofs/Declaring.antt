@@ -34,7 +34,8 @@ module _ (script chars ns ats : List ℕ) (place : Place) (n important : ℕ) (v
 
   pub font-written : read 9 ≡ true → read 10 ≡ true → (r : Stored) (m : List ℕ) →
       Leaves ats place
-      (folded (parts_of script chars ns place important v ats) (folded (reset_as important) (so_far ats place n) font_resets) font_parts) r m →
+      (folded (parts_of script chars ns place important v ats)
+      (folded (reset_as important) (so_far ats place n) font_resets) font_parts) r m →
       Leaves ats place (font_in script chars ns place important v ats (so_far ats place n)) r m
   font-written e f r m h = rw (e, f) h
 

@@ -167,9 +167,9 @@ module _ (script chars : List ℕ) (v : ValueAt) (h : Held script chars v) where
 
 module _ (script chars : List ℕ) (v : ValueAt) (k : ℕ) (r : FoundPart)
     (e : part_of chars r ≡ reading_of k (readings_in script chars v.own.chars v.behind)) where
-  pub is_read : (a l : ℕ) → r ≡ found.At a l → true ≡ is_read (read_of [] []) 0 0 (declaration_of script chars 0 0 v) k
+  pub is-read : (a l : ℕ) → r ≡ found.At a l → true ≡ is_read (read_of [] []) 0 0 (declaration_of script chars 0 0 v) k
   unfolding value_at
-  is_read a l q = rw (← e, q) refl
+  is-read a l q = rw (← e, q) refl
 
   pub not-read : r ≡ found.Nothing → false ≡ is_read (read_of [] []) 0 0 (declaration_of script chars 0 0 v) k
   unfolding value_at

@@ -13,9 +13,12 @@ use Rattle.model.specs.Drawing.{Element}
 use Rattle.model.specs.Tables.{Tree, Entry, Out, refused, done, most, node_room, attribute_room, add_element}
 use Rattle.model.specs.Element.{entries_of, most_nodes, parse_svg_element}
 use Rattle.model.specs.Theorems.Sim.{Every}
-use Rattle.model.specs.Theorems.Entries.{Closed, every-entry}
-use Rattle.model.specs.Theorems.Inside.{LiesPart, LiesElement, lies-read}
-use Rattle.model.specs.Theorems.Kept.{KeptEntry, Kept, kept-attribute, last_within, Tidy, tidy-element}
+use Rattle.model.specs.Theorems.Entries.{Closed}
+use Rattle.model.proofs.Theorems.Entries.{every-entry}
+use Rattle.model.specs.Theorems.Inside.{LiesPart, LiesElement}
+use Rattle.model.proofs.Theorems.Inside.{lies-read}
+use Rattle.model.specs.Theorems.Kept.{KeptEntry, Kept, Tidy}
+use Rattle.model.proofs.Theorems.Kept.{kept-attribute, last_within, tidy-element}
 use Rattle.tree.specs.declared.Counts.{Counts}
 use Rattle.tree.specs.Lent.{tree_of}
 use Rattle.element.specs.Runs.{Ready}

@@ -15,7 +15,7 @@ use Rattle.model.specs.Check.{most_bytes}
 use Rattle.model.specs.Tables.{Tree, Entry}
 use Rattle.model.specs.Element.{append_attribute, is_taken, has_entry, on_first, with_value, with_more, add_attribute}
 use Rattle.model.specs.Element.{marker, insert_attribute, reset_to, insert_part, font_parts, is_read, write_declaration}
-use Rattle.model.specs.Theorems.Runs.{add_same, write_same}
+use Rattle.model.proofs.Theorems.Runs.{add_same, write_same}
 use Rattle.model.specs.Theorems.Sim.{Every}
 use Rattle.model.specs.Theorems.Inside.{LiesValue}
 use Rattle.script.specs.declared.cursor.Cursor.{Cursor}

@@ -6,7 +6,7 @@ use native.Mathlib.Omega.{arith}
 use lib.ListN.{length}
 use Rattle.model.specs.Base.{folded}
 use Rattle.model.specs.Tables.{Entry}
-use Rattle.model.specs.Theorems.Runs.{run-own, run_length}
+use Rattle.model.proofs.Theorems.Runs.{run-own, run_length}
 use Rattle.entries.specs.declared.Place.{Place}
 use Rattle.entries.specs.declared.Stored.{Stored}
 use Rattle.entries.specs.declared.Stored.TheVariants.{Next, Full}

@@ -11,7 +11,8 @@ use Rattle.model.specs.Base.{pick, folded}
 use Rattle.model.specs.Drawing.{Attribute, Declaration}
 use Rattle.model.specs.Tables.{Tree, Entry, Out, refused, done, ELEMENT, word, appended, add_element, node_room, attribute_room}
 use Rattle.model.specs.Element.{add_attribute, write_declaration, entries_of, most_nodes, parse_svg_element}
-use Rattle.model.specs.Theorems.Runs.{table_of, entries_from, with_run, add_same, write_same}
+use Rattle.model.specs.Theorems.Runs.{table_of, entries_from, with_run}
+use Rattle.model.proofs.Theorems.Runs.{add_same, write_same}
 use Rattle.script.specs.declared.cursor.Cursor.{Cursor}
 use Rattle.walk.specs.declared.node.Opened.{Opened}
 use Rattle.walk.specs.Nodes.{element_of}
@@ -141,13 +142,15 @@ module _ (ns ats : List ℕ) (c : Counts) (p tag : ℕ) (ready : Ready ns ats c 
     pub entries-alike : entries_of t p tag ignored (element_of script chars e) ≡ es
     unfolding entries_of
     entries-alike =
-        writes-alike (declarations_in script chars e.inside) (folded (add_attribute t p tag ignored) [] (attributes_in script chars e.inside))
+        writes-alike (declarations_in script chars e.inside)
+            (folded (add_attribute t p tag ignored) [] (attributes_in script chars e.inside))
         ∙ ap (λ (l : List Entry). folded (declared_in ns at ats) l (declarations_in script chars e.inside))
         (adds-alike (attributes_in script chars e.inside) [])
 
     -- What the element comes to, from its entries.
     abbrev pub comes : Bool → Bool → Bool → Out Tree
-    comes fits few free = pick fits (λ u. pick few (λ v. pick free (λ w. done (add_element tag es p t)) (λ w. refused 22)) (λ v. refused 20))
+    comes fits few free =
+        pick fits (λ u. pick few (λ v. pick free (λ w. done (add_element tag es p t)) (λ w. refused 22)) (λ v. refused 20))
         (λ u. refused 23)
 
     whole : parse_svg_element (element_of script chars e) tag ignored p t

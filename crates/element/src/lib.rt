@@ -1,4 +1,5 @@
 // `parse_svg_element`: an element's attributes and declarations become entries of the lent table, and the element a node.
+#![tactic(auto)]
 
 ghost use Rattle.std.specs.Prelude.{◌≡◌, ◌≤◌};
 ghost use Rattle.model.specs.Check.{most_bytes};
@@ -14,7 +15,7 @@ pub mod font;
 pub mod parse;
 
 // Where a run of steps left the entries, and the cursor behind what was read; or there is no room for an entry.
-#[derive(Drop)]
+#[derive(Clone, Copy)]
 pub enum Run {
     Next(u32, Cursor),
     Full,
@@ -22,7 +23,7 @@ pub enum Run {
 
 // What an element comes to: a refusal's number; or how much of the tables is taken then, and the cursor behind what belongs to it,
 // where its children begin.
-#[derive(Drop)]
+#[derive(Clone, Copy)]
 pub enum Parsed {
     Refused(u32),
     Done(tree::Counts, Cursor),

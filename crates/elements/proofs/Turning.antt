@@ -16,8 +16,8 @@ use Rattle.model.specs.Tables.{Tree, Out, done, word, set_word, rooted, cleared,
 use Rattle.model.specs.Element.{parse_svg_element}
 use Rattle.model.specs.Check as C
 use Rattle.model.specs.Check.{check, check_from, most_bytes}
-use Rattle.model.specs.Theorems.Inside.{all-inside}
-use Rattle.model.specs.Theorems.Kept.{tidy-root}
+use Rattle.model.proofs.Theorems.Inside.{all-inside}
+use Rattle.model.proofs.Theorems.Kept.{tidy-root}
 use Rattle.script.specs.declared.cursor.Cursor.{Cursor}
 use Rattle.script.specs.Step.{Fit, at_start, commands_at}
 use Rattle.script.proofs.Commands.{placed_first}

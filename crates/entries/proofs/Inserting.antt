@@ -10,7 +10,7 @@ use Rattle.model.specs.Base.{pick}
 use Rattle.model.specs.Drawing.{part_at}
 use Rattle.model.specs.Tables.{Entry}
 use Rattle.model.specs.Element.{append_attribute, has_entry, on_first, standing, insert_entry}
-use Rattle.model.specs.Theorems.Runs.{run-outside, append-same}
+use Rattle.model.proofs.Theorems.Runs.{run-outside, append-same}
 use Rattle.tree.specs.Lent.{read_of, entry_of, Climbable}
 use Rattle.tree.specs.declared.Entry as T
 use Rattle.entries.specs.declared.Place.{Place}

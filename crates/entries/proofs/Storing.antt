@@ -12,8 +12,9 @@ use lib.Seq.{sets, length-sets}
 use Rattle.model.specs.Base.{pick}
 use Rattle.model.specs.Tables.{Entry, entry_words, entry_at, find_entry}
 use Rattle.model.specs.Element.{has_entry, on_first, standing, insert_entry}
-use Rattle.model.specs.Theorems.Runs.{table_of, entries_from, with_run, own-words, run-own, run_length, entries-count, put-more, first-none}
-use Rattle.model.specs.Theorems.Runs.{first_some, put_first, from-run, run-over}
+use Rattle.model.specs.Theorems.Runs.{table_of, entries_from, with_run}
+use Rattle.model.proofs.Theorems.Runs.{own-words, run-own, run_length, entries-count, put-more, first-none}
+use Rattle.model.proofs.Theorems.Runs.{first_some, put_first, from-run, run-over}
 use Rattle.entries.specs.declared.Place.{Place}
 use Rattle.entries.specs.declared.Stored.{Stored}
 use Rattle.entries.specs.declared.Stored.TheVariants.{Next, Full}

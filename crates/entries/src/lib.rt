@@ -1,5 +1,7 @@
 // The entries of one element, stored in the lent table behind those that are taken: what one attribute becomes, and one value of a
 // declaration.
+#![tactic(auto)]
+
 ghost use Rattle.std.specs.Prelude.{◌≡◌};
 ghost use Rattle.tree.specs.Lent.{entry_of};
 ghost use Rattle.entries.specs.Space.{own_entry};
@@ -12,21 +14,21 @@ pub mod inherit;
 pub mod insert;
 
 // Where a step left the entries of the element: behind the last one, or there is no room for one.
-#[derive(Drop)]
+#[derive(Clone, Copy)]
 pub enum Stored {
     Next(u32),
     Full,
 }
 
 // What becomes of a value: the entry for it, or it is dropped.
-#[derive(Drop)]
+#[derive(Clone, Copy)]
 pub enum Resolved {
     Kept(Entry),
     Dropped,
 }
 
 // What `append_attribute` makes of a value: an entry with the value itself, the entry that it inherits, or none.
-#[derive(Drop)]
+#[derive(Clone, Copy)]
 pub enum Appended {
     Itself,
     Other(Entry),
@@ -34,7 +36,7 @@ pub enum Appended {
 }
 
 // A value: its place in the characters, and the number of its command.
-#[derive(Drop)]
+#[derive(Clone, Copy)]
 pub struct Value {
     pub start: u32,
     pub size: u32,
@@ -42,7 +44,7 @@ pub struct Value {
 }
 
 // Where an element's entries go: its parent's index, its name in the tree, its first entry, and how many entries there is room for.
-#[derive(Drop)]
+#[derive(Clone, Copy)]
 pub struct Place {
     pub parent: u32,
     pub tag: u32,

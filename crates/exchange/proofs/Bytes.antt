@@ -7,7 +7,7 @@ use native.Mathlib.Omega.{arith}
 use native.Mathlib.Decide.{dec_lt, dec_le}
 use lib.ListN.{length, get_or, take, drop, set, length-set, length-take, length-drop, drop_of_length-le}
 use lib.Seq.{sets, sets-eq, take-append_seam, drop-cons, ext_get_or, length-sets, length-take-le, get_or-drop, get_or-take}
-use Rattle.model.specs.Theorems.Agree.{sets-in, sets-out}
+use Rattle.model.proofs.Theorems.Agree.{sets-in, sets-out}
 
 -- The loop that has put the first k bytes: those that are left make of the table now what all make of it at first.
 pub record Putting (table₀ bytes table : List ℕ) (at k : ℕ) : Type 0 where

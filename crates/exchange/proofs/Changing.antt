@@ -19,12 +19,14 @@ use Rattle.model.specs.Parse.{plain}
 use Rattle.model.specs.Build.{with_repairs, Result, answered, build}
 use Rattle.model.specs.Noted.{Noted, stripped, noted_tree}
 use Rattle.model.specs.Theorems.Sim.{Rel, both, same, Events}
-use Rattle.model.specs.Theorems.Agree.{Agree, agree-sym, agree-outs, sets-in}
-use Rattle.model.specs.Theorems.Inside.{LiesElement, LiesText, bounded, check-walk, all-inside}
-use Rattle.model.specs.Theorems.Spelled.{SpelledElement}
-use Rattle.model.specs.Theorems.Related.{Outer, Fine, Harmless}
-use Rattle.model.specs.Theorems.Places.{Outside, Ahead, ahead, within, events-same, check-same}
-use Rattle.model.specs.Theorems.Whole.{trees-related, build-noted}
+use Rattle.model.specs.Theorems.Agree.{Agree}
+use Rattle.model.proofs.Theorems.Agree.{agree-sym, agree-outs, sets-in}
+use Rattle.model.specs.Theorems.Inside.{LiesElement, LiesText}
+use Rattle.model.proofs.Theorems.Inside.{bounded, check-walk, all-inside}
+use Rattle.model.proofs.Theorems.Spelled.{SpelledElement}
+use Rattle.model.proofs.Theorems.Related.{Outer, Fine, Harmless}
+use Rattle.model.proofs.Theorems.Places.{Outside, Ahead, ahead, within, events-same, check-same}
+use Rattle.model.proofs.Theorems.Whole.{trees-related, build-noted}
 use Rattle.exchange.specs.Changes.{Changeable}
 
 -- What a run of stores leaves in its place.

@@ -5,8 +5,8 @@ use lib.ListN.{length, length-replicate}
 use Rattle.model.specs.Tables.{Tree, cleared}
 use Rattle.model.specs.Build.{Result, build, exchanged}
 use Rattle.model.specs.Demand3.{Exchangeable}
-use Rattle.model.specs.Theorems.Whole.{demand3}
-use Rattle.model.specs.Theorems.Sealed.{built-as-lent, built-characters}
+use Rattle.model.proofs.Theorems.Whole.{demand3}
+use Rattle.model.proofs.Theorems.Sealed.{built-as-lent, built-characters}
 use Rattle.exchange.specs.Demand.{Demand3OfCalls}
 
 pub demand3-of-calls : Demand3OfCalls

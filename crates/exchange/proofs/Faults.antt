@@ -11,8 +11,8 @@ use Rattle.model.specs.Utf8.{is_utf8}
 use Rattle.model.specs.Drawing.{Source, source_at, events, text_numbered, is_in_style}
 use Rattle.model.specs.Check.{◌if◌, Test, first_of, check}
 use Rattle.model.specs.Build.{exchanged, exchange_fault, changed}
-use Rattle.model.specs.Refusals.{fault-30}
-use Rattle.model.specs.Theorems.Inside.{first-drop}
+use Rattle.model.proofs.Refusals.{fault-30}
+use Rattle.model.proofs.Theorems.Inside.{first-drop}
 use Rattle.script.specs.declared.cursor.Cursor.{Cursor}
 use Rattle.script.specs.Step.{mark_of}
 use Rattle.places.specs.declared.seek.FoundText.{FoundText}

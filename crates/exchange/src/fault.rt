@@ -9,7 +9,7 @@ use script::check::check;
 use utf8::is_utf8;
 
 // The number of a fault, or where the text begins.
-#[derive(Drop)]
+#[derive(Clone, Copy)]
 pub enum Target {
     Fault(u32),
     At(usize),

@@ -1,4 +1,6 @@
 // exchange (document 01, section 7): one text of a drawing becomes other bytes of equal length, and the tables are built anew.
+#![tactic(auto)]
+
 pub mod fault;
 pub mod put;
 pub mod whole;

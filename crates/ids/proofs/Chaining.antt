@@ -13,8 +13,9 @@ use Rattle.model.specs.Base.{pick}
 use Rattle.model.specs.AId
 use Rattle.model.specs.Tables.{Tree, entry_word, attribute_id}
 use Rattle.model.specs.Repair.{element_id}
-use Rattle.model.specs.Theorems.Kept.{Tidy, attribute-any}
-use Rattle.model.specs.Theorems.Cuts.{one-owner}
+use Rattle.model.specs.Theorems.Kept.{Tidy}
+use Rattle.model.proofs.Theorems.Kept.{attribute-any}
+use Rattle.model.proofs.Theorems.Cuts.{one-owner}
 use Rattle.tree.specs.declared.Counts.{Counts}
 use Rattle.tree.specs.Lent.{tree_of, read_of}
 use Rattle.tree.proofs.Alike.{id_same}
@@ -111,7 +112,8 @@ linking-first chars ns es c hs w h = record {
   off = h.1 2048;
 }
 
-last_more : (chars : List ℕ) (t : Tree) (b n : ℕ) → last_in chars t b (n + 1) ≡ pick (is_in chars t b n) (λ u. n + 1) (λ u. last_in chars t b n)
+last_more : (chars : List ℕ) (t : Tree) (b n : ℕ)
+    → last_in chars t b (n + 1) ≡ pick (is_in chars t b n) (λ u. n + 1) (λ u. last_in chars t b n)
 unfolding last_in
 last_more chars t b n = let e : n + 1 ≡ suc n = omega arith in ap (last_in chars t b) e
 
@@ -218,11 +220,13 @@ module _ (size : ℕ) (chars ns es₀ : List ℕ) (c : Counts) (g : Tidy size (t
 
           -- The words behind importance, by the entries of t.
           word : (m : ℕ) → m < i + 1 → (attribute_id t m AId.Id ≡ 0 → ⊥)
-              → get_or (next_set es e x) (5 * (attribute_id t m AId.Id - 1) + 1) 0 / 2 ≡ last_in chars t (bucket_of (element_id chars t m)) m
+              → get_or (next_set es e x) (5 * (attribute_id t m AId.Id - 1) + 1) 0 / 2
+              ≡ last_in chars t (bucket_of (element_id chars t m)) m
           word m l y = at (ℕ_discrete m i)
             where
               at : Dec (m ≡ i)
-                  → get_or (next_set es e x) (5 * (attribute_id t m AId.Id - 1) + 1) 0 / 2 ≡ last_in chars t (bucket_of (element_id chars t m)) m
+                  → get_or (next_set es e x) (5 * (attribute_id t m AId.Id - 1) + 1) 0 / 2
+                  ≡ last_in chars t (bucket_of (element_id chars t m)) m
               at (yes d) =
                   rw d
                   (ap (λ (n : ℕ). n / 2) (get_or-set_same es (5 * e + 1) v 0 (omega (arith, inside, tidy.kept.fits.entries)))

@@ -52,7 +52,8 @@ module _ (chars : List ℕ) (t : Tree) where
   not_in id i h = go (ℕ_discrete (attribute_id t i AId.Id) 0)
     where
       go : Dec (attribute_id t i AId.Id ≡ 0)
-          → pick (eqb (attribute_id t i AId.Id) 0) (λ u. false) (λ u. same_bytes (value_at_entry chars t (attribute_id t i AId.Id)) id) ≡ false
+          → pick (eqb (attribute_id t i AId.Id) 0) (λ u. false) (λ u. same_bytes (value_at_entry chars t (attribute_id t i AId.Id)) id)
+          ≡ false
       go (yes e) = rw (eq-eqb (attribute_id t i AId.Id) 0 e) refl
       go (no e) = rw (ne_eqb (attribute_id t i AId.Id) 0 e) (bytes (same_bytes (value_at_entry chars t (attribute_id t i AId.Id)) id) refl)
         where

@@ -24,7 +24,8 @@ summing-more s h i w l b e = record {
   high = omega arith;
   small = omega arith;
   same =
-      let on : bucket_from h (drop i s) ≡ bucket_from ((h * 7735 + get_or s i 0) % 2048) (drop (suc i) s) = ap (bucket_from h) (drop-cons s i 0 l) in
+      let on : bucket_from h (drop i s) ≡ bucket_from ((h * 7735 + get_or s i 0) % 2048) (drop (suc i) s) =
+            ap (bucket_from h) (drop-cons s i 0 l) in
       rw (e, add-one i) (sym on ∙ w.same);
 }
 

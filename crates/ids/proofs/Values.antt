@@ -62,12 +62,14 @@ module _ (chars : List ℕ) (t : Tree) (j n : ℕ) (c : n ≡ entry_word t j 4) 
   pub read-fixed : n ≡ 0 → value_of chars (entry_at t j) ≡ fixed_bytes s
   read-fixed z = value-fixed chars t j (sym c ∙ z) ∙ ap fixed_bytes (sym a)
 
-  pub read-part : (n ≡ 0 → ⊥) → (l : ℕ) → l ≡ entry_word t j 3 → (p : List ℕ) → p ≡ slice s (s + l) chars → p ≡ value_of chars (entry_at t j)
+  pub read-part : (n ≡ 0 → ⊥) → (l : ℕ) → l ≡ entry_word t j 3 → (p : List ℕ) → p ≡ slice s (s + l) chars
+      → p ≡ value_of chars (entry_at t j)
   read-part z l b p q =
       q ∙ ap (λ (x : ℕ). slice x (x + l) chars) a ∙ ap (λ (y : ℕ). slice (entry_word t j 2) (entry_word t j 2 + y) chars) b
       ∙ sym (value-part chars t j (λ x. z (c ∙ x)))
 
 -- An element that has an id.
-pub own-id : (chars : List ℕ) (t : Tree) (i j : ℕ) → j ≡ attribute_id t i AId.Id → (j ≡ 0 → ⊥) → element_id chars t i ≡ value_at_entry chars t j
+pub own-id : (chars : List ℕ) (t : Tree) (i j : ℕ) → j ≡ attribute_id t i AId.Id → (j ≡ 0 → ⊥)
+    → element_id chars t i ≡ value_at_entry chars t j
 unfolding element_id
 own-id chars t i j e h = rw (ne_eqb (attribute_id t i AId.Id) 0 (λ z. h (e ∙ z)), ← e) refl

@@ -15,10 +15,11 @@ use Rattle.model.specs.Tables.{Tree, refused, done, most, ELEMENT, TEXT, word, n
 use Rattle.model.specs.Tables.{entries_words, appended, add_element, add_text}
 use Rattle.model.specs.Element.{entries_of, most_nodes, parse_svg_element}
 use Rattle.model.specs.Text.{XmlSpace, get_xmlspace, space_of, trim_text, total_size, joined, append_text}
-use Rattle.model.specs.Theorems.Agree.{sets-out}
-use Rattle.model.specs.Theorems.Laws.{appended-old, appended-new}
+use Rattle.model.proofs.Theorems.Agree.{sets-out}
+use Rattle.model.proofs.Theorems.Laws.{appended-old, appended-new}
 use Rattle.model.specs.Theorems.Inside.{LiesElement}
-use Rattle.model.specs.Theorems.Kept.{Tidy, tidy-text}
+use Rattle.model.specs.Theorems.Kept.{Tidy}
+use Rattle.model.proofs.Theorems.Kept.{tidy-text}
 use Rattle.element.proofs.Keeping.{element-grown}
 use Rattle.label.specs.Walk.{Sound, quote_of}
 use Rattle.label.proofs.Handing.{says_same}

@@ -13,8 +13,8 @@ use Rattle.model.specs.AId
 use Rattle.model.specs.Tables.{Tree, ELEMENT, kind_of, parent_of, from_of, to_of, find_entry, attribute_id, has_attribute}
 use Rattle.model.specs.Tables.{value_of, value_at_entry, holder_from}
 use Rattle.model.specs.Text.{XmlSpace, default, preserve, preserve_word, get_xmlspace, space_of}
-use Rattle.model.specs.Theorems.Entries.{entry-by-words}
-use Rattle.model.specs.Theorems.Kept.{find-within}
+use Rattle.model.proofs.Theorems.Entries.{entry-by-words}
+use Rattle.model.proofs.Theorems.Kept.{find-within}
 use Rattle.tree.proofs.Climbs.{climb, holder-climbs, climb-step}
 
 -- The space from the node whose index plus 1 is w.
@@ -91,7 +91,8 @@ module _ (chars : List ℕ) (t u : Tree) (n i : ℕ) (kind : kind_of u i ≡ kin
   unfolding attribute_id
   id_same a = rw (kind, from, to) (go (ℕ_discrete (kind_of t i) ELEMENT))
     where
-      go : Dec (kind_of t i ≡ ELEMENT) → pick (eqb (kind_of t i) ELEMENT) (λ u'. find_entry u a (from_of t i) (to_of t i - from_of t i)) (λ u'. 0)
+      go : Dec (kind_of t i ≡ ELEMENT)
+          → pick (eqb (kind_of t i) ELEMENT) (λ u'. find_entry u a (from_of t i) (to_of t i - from_of t i)) (λ u'. 0)
           ≡ pick (eqb (kind_of t i) ELEMENT) (λ u'. find_entry t a (from_of t i) (to_of t i - from_of t i)) (λ u'. 0)
       go (yes e) =
           let r = range e in
@@ -127,14 +128,16 @@ module _ (chars : List ℕ) (t u : Tree) (n i : ℕ) (kind : kind_of u i ≡ kin
           (entry-by-words u t (attribute_id t i AId.Space - 1) (λ k b. agree (5 * (attribute_id t i AId.Space - 1) + k) (omega arith)))
 
 -- The space of every node that was there stays.
-module _ (chars : List ℕ) (t u : Tree) (n : ℕ) (says : (i : ℕ) → i < n → (w : XmlSpace) → get_xmlspace chars u i w ≡ get_xmlspace chars t i w)
+module _ (chars : List ℕ) (t u : Tree) (n : ℕ)
+    (says : (i : ℕ) → i < n → (w : XmlSpace) → get_xmlspace chars u i w ≡ get_xmlspace chars t i w)
     (parents : (i : ℕ) → i < n → parent_of u i ≡ parent_of t i) (falls : (i : ℕ) → i < n → parent_of t i ≤ i) where
   from-same : (m w : ℕ) → w ≤ m → w ≤ n → space_from chars u w ≡ space_from chars t w
   unfolding holder_from
   from-same zero w h l = let z : w ≡ 0 = omega arith in rw z refl
   from-same (suc m) w h l = go (ℕ_discrete w 0) (λ v a b. from-same m v a b)
     where
-      go : Dec (w ≡ 0) → ((v : ℕ) → v ≤ m → v ≤ n → space_from chars u v ≡ space_from chars t v) → space_from chars u w ≡ space_from chars t w
+      go : Dec (w ≡ 0) → ((v : ℕ) → v ≤ m → v ≤ n → space_from chars u v ≡ space_from chars t v)
+          → space_from chars u w ≡ space_from chars t w
       go (yes z) r = rw z refl
       go (no z) r =
           let i : ℕ = w - 1 in

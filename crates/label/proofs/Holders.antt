@@ -10,9 +10,11 @@ use Rattle.model.specs.Base.{pick}
 use Rattle.model.specs.Drawing.{Element, Source, events, quoted}
 use Rattle.model.specs.Tables.{Tree, Out, refused, done, most, parent_of, node_room, text_room, add_text}
 use Rattle.model.specs.Text.{XmlSpace, space_of, trim_text, total_size, joined, append_text}
-use Rattle.model.specs.Theorems.Sim.{Every, texts-quoted}
+use Rattle.model.specs.Theorems.Sim.{Every}
+use Rattle.model.proofs.Theorems.Sim.{texts-quoted}
 use Rattle.model.specs.Theorems.Inside.{LiesElement, LiesText}
-use Rattle.model.specs.Theorems.Kept.{with_attributes, last_within}
+use Rattle.model.specs.Theorems.Kept.{with_attributes}
+use Rattle.model.proofs.Theorems.Kept.{last_within}
 use Rattle.walk.specs.declared.node.Opened.{Opened}
 use Rattle.walk.specs.Nodes.{Standing}
 use Rattle.memo.specs.declared.plain.FoundElement.{FoundElement}

@@ -10,7 +10,8 @@ use Rattle.pieces.specs.Levels.{Told, Pushed}
 use Rattle.pieces.specs.Levels.{node_above, space_above, Recalled}
 use Rattle.label.proofs.Handing.{old-space}
 
-module _ (chars : List ℕ) (t u : Tree) (n : ℕ) (says : (i : ℕ) → i < n → (w : XmlSpace) → get_xmlspace chars u i w ≡ get_xmlspace chars t i w)
+module _ (chars : List ℕ) (t u : Tree) (n : ℕ)
+    (says : (i : ℕ) → i < n → (w : XmlSpace) → get_xmlspace chars u i w ≡ get_xmlspace chars t i w)
     (parents : (i : ℕ) → i < n → parent_of u i ≡ parent_of t i) (falls : (i : ℕ) → i < n → parent_of t i ≤ i) where
   same_above : (j p : ℕ) → p < n → (node_above u p j ≡ node_above t p j) × (node_above t p j < n)
   same_above zero p l = (ap (λ k. k - 1) (parents p l), omega (arith, falls p l))

@@ -14,7 +14,8 @@ use Rattle.model.specs.Text.{Trimming, stop, look, cut, run, cut_text, space_of,
 use Rattle.model.specs.Parse.{inside, label, plain}
 use Rattle.model.specs.Theorems.Kept.{Tidy}
 use Rattle.model.specs.Theorems.Reach as R
-use Rattle.model.specs.Theorems.Reach.{IsText, tidy-cut, within-trimming, own-collected}
+use Rattle.model.specs.Theorems.Reach.{IsText}
+use Rattle.model.proofs.Theorems.Reach.{tidy-cut, within-trimming, own-collected}
 use Rattle.script.specs.declared.cursor.Cursor.{Cursor}
 use Rattle.walk.specs.declared.node.Opened.{Opened}
 use Rattle.walk.specs.Nodes.{element_of, leave}

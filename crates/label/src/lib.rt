@@ -1,4 +1,6 @@
 // The inside of a text element: the texts that it holds and that its trefs quote, and the elements that are read in it.
+#![tactic(auto)]
+
 use pieces::Levels;
 use script::cursor::Cursor;
 use text::XmlSpace;
@@ -9,7 +11,7 @@ pub mod within;
 
 // A place inside a text element, the node of the element that is open there, how much of the tables is taken, and the space that the open
 // node hands down.
-#[derive(Drop)]
+#[derive(Clone, Copy)]
 pub struct State {
     pub c: Cursor,
     pub p: u32,
@@ -18,7 +20,7 @@ pub struct State {
 }
 
 // What a turn of the walk comes to; at the end, how much of the tables is taken, and the cursor behind the text element.
-#[derive(Drop)]
+#[derive(Clone, Copy)]
 pub enum Turn {
     On(State, Levels),
     Refused(u32),

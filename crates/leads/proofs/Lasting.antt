@@ -96,7 +96,8 @@ module _ (chars : List ℕ) (t : Tree) (i : ℕ) where
   has_same id h = go (ℕ_discrete (attribute_id t i AId.Id) 0) h
     where
       go : Dec (attribute_id t i AId.Id ≡ 0)
-          → pick (eqb (attribute_id t i AId.Id) 0) (λ u. false) (λ u. same_bytes (value_at_entry chars t (attribute_id t i AId.Id)) id) ≡ true
+          → pick (eqb (attribute_id t i AId.Id) 0) (λ u. false) (λ u. same_bytes (value_at_entry chars t (attribute_id t i AId.Id)) id)
+          ≡ true
           → same_bytes id (pick (eqb (attribute_id t i AId.Id) 0) (λ u. []) (λ u. value_at_entry chars t (attribute_id t i AId.Id))) ≡ true
       go (yes e) k = absurd (false≢true (rw (eq-eqb (attribute_id t i AId.Id) 0 e) at k))
       go (no e) k = rw (ne_eqb (attribute_id t i AId.Id) 0 e)

@@ -11,8 +11,8 @@ use Rattle.model.specs.Check.{check}
 use Rattle.model.specs.Drawing.{Part, events, reading_of, readings_of}
 use Rattle.model.specs.Tables.{Tree, entry_word, entry_at, attribute_of}
 use Rattle.model.specs.Repair.{any_reading, readings_of_attribute, link_of}
-use Rattle.model.specs.Theorems.Inside.{all-inside}
-use Rattle.model.specs.Theorems.Images.{values-bare}
+use Rattle.model.proofs.Theorems.Inside.{all-inside}
+use Rattle.model.proofs.Theorems.Images.{values-bare}
 use Rattle.script.specs.declared.cursor.Cursor.{Cursor}
 use Rattle.script.specs.Step.{place_of}
 use Rattle.places.specs.Seeks.{readings_here}

@@ -18,14 +18,14 @@ use tree::word::entry_word;
 use walk::value::{NextReading, next_reading, part_at};
 
 // Do filters lead to an id? And a place in the script from which to look for the next link.
-#[derive(Drop)]
+#[derive(Clone, Copy)]
 pub struct Filtered {
     pub back: bool,
     pub hint: Cursor,
 }
 
 // What one reading of a value tells of its filter links: one leads to an id, more readings follow, or there are none.
-#[derive(Drop)]
+#[derive(Clone, Copy)]
 pub enum Look {
     Back,
     On(Cursor),

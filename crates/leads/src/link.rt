@@ -14,7 +14,7 @@ use walk::value::FoundPart;
 
 // A link that is looked for: where its id stands in the characters, start and length. Either way a place in the script from which to
 // look for the next link.
-#[derive(Drop)]
+#[derive(Clone, Copy)]
 pub enum FoundLink {
     At(usize, u32, Cursor),
     Nothing(Cursor),

@@ -168,7 +168,8 @@ module _ (s chars id : List ℕ) where
       xs : List Event
       xs = events_from chars (past (mark_of d) (opening a b)) (commands_at s m)
 
-      go : (t : Bool) → (number_of (pick t (λ u. begin (element_at chars (mark_of d) a b (commands_at s m)) ∷ xs) (λ u. first_with_id id xs))
+      go : (t : Bool)
+          → (number_of (pick t (λ u. begin (element_at chars (mark_of d) a b (commands_at s m)) ∷ xs) (λ u. first_with_id id xs))
           ≡ d.number + 1 → ⊥)
           → pick t (λ u. begin (element_at chars (mark_of d) a b (commands_at s m)) ∷ xs) (λ u. first_with_id id xs) ≡ first_with_id id xs
       go true q = absurd (q refl)
@@ -203,7 +204,8 @@ module _ (s chars id : List ℕ) where
       where
         go : Stands s d
             → ((m : Cursor) → place_from k m (commands_at s m) ≡ e.own → e.own.number ≡ m.number + k
-            → number_of (first_with_id id (events_at s chars m)) ≡ e.own.number + 1 → first_with_id id (events_at s chars m) ≡ node_at s chars e)
+            → number_of (first_with_id id (events_at s chars m)) ≡ e.own.number + 1
+            → first_with_id id (events_at s chars m) ≡ node_at s chars e)
             → first_with_id id (events_at s chars d) ≡ node_at s chars e
         go (nothing-there z) ih = absurd (let y : d ≡ e.own = rw z at p in omega (arith, ap (λ (v : Cursor). v.number) y, n))
         go (broken-there b z) ih = absurd (let y : d ≡ e.own = rw z at p in omega (arith, ap (λ (v : Cursor). v.number) y, n))
@@ -261,7 +263,8 @@ module _ (s chars : List ℕ) (e : Opened) (w : Standing s e) where
 
   -- A link leads to an element exactly if it names the element's leading id.
   pub leads-to-own : (p : Option model.Part)
-      → eqb (number_of (linked_by (events s chars) p)) (e.own.number + 1) ≡ same_parts p (leading_id (events s chars) (element_of s chars e))
+      → eqb (number_of (linked_by (events s chars) p)) (e.own.number + 1)
+      ≡ same_parts p (leading_id (events s chars) (element_of s chars e))
   leads-to-own none = nowhere e.own.number
   leads-to-own (some p) = by_value p.bytes _ refl ∙ ap (same_parts (some p)) (is_leading _ refl)
 

@@ -62,7 +62,8 @@ module _ (s chars : List ℕ) (r : FoundValue) where
   module _ (p : FoundPart) (a b : Option model.Value) (f : value_in s chars r ≡ a) where
     pub href-first : (v : ValueAt) → r ≡ found.At v → part_of chars p ≡ iri_of (value_in s chars r) → part_of chars p ≡ iri_of (or_else a b)
     href-first v t h =
-        h ∙ ap (λ w. iri_of (value_in s chars w)) t ∙ ap (λ w. iri_of (or_else (value_in s chars w) b)) (sym t) ∙ ap (λ w. iri_of (or_else w b)) f
+        h ∙ ap (λ w. iri_of (value_in s chars w)) t ∙ ap (λ w. iri_of (or_else (value_in s chars w) b)) (sym t)
+            ∙ ap (λ w. iri_of (or_else w b)) f
 
     pub href-second : (n : Cursor) → r ≡ found.Nothing n → (w : FoundValue) → value_in s chars w ≡ b
         → part_of chars p ≡ iri_of (value_in s chars w)
@@ -245,7 +246,8 @@ node-led s chars v l xs e f = ap (node_of s chars) (sym e) ∙ f
 
 module _ (s chars : List ℕ) (e : Opened) (origin : ℕ) (p : Option model.Part) (f : p ≡ use_href (element_of s chars e)) (v : FoundElement)
     (g : node_of s chars v ≡ linked_by (events s chars) p) where
-  target : copied (events s chars) (element_of s chars e) origin (node_of s chars v) ≡ use_target (events s chars) (element_of s chars e) origin
+  target : copied (events s chars) (element_of s chars e) origin (node_of s chars v)
+      ≡ use_target (events s chars) (element_of s chars e) origin
   unfolding use_target use_href
   target = ap (copied (events s chars) (element_of s chars e) origin) (g ∙ ap (linked_by (events s chars)) f)
 
@@ -310,7 +312,8 @@ module _ (s chars : List ℕ) (e : Opened) (p : Option model.Part) (f : p ≡ tr
     quotes-texts a = sym (rw (sym h ∙ a)) ∙ quotes
 
 -- No `use` leads back where there is none.
-pub back_none : (s chars : List ℕ) (c : Cursor) (k : ℕ) (r : NextUse) → r ≡ next_use.End → UseIs s chars c k r → (all : List Event) (n m : ℕ)
+pub back_none : (s chars : List ℕ) (c : Cursor) (k : ℕ) (r : NextUse) → r ≡ next_use.End → UseIs s chars c k r
+    → (all : List Event) (n m : ℕ)
     → false ≡ leads_back all n m (uses_in k (events_at s chars c))
 unfolding leads_back
 back_none s chars c k r t i all n m = ap (leads_back all n m) (use-told s chars c k r next_use.End t i).0

@@ -12,7 +12,7 @@ use script::cursor::Cursor;
 use walk::node::{Item, Opened, next_item, past_others};
 
 // The next use in the SVG namespace inside an element, at any depth, and how many elements are open inside it, itself among them.
-#[derive(Drop)]
+#[derive(Clone, Copy)]
 pub enum NextUse {
     At(Opened, usize),
     End,

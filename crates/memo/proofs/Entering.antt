@@ -157,7 +157,8 @@ module _ (s chars : List ℕ) (e : Opened) (r : FoundValue) (h : IdIs s chars e 
 
     pub entered-id : Entered s chars slots next e slots' v.behind
     entered-id =
-        let w : Kept slots slots' × Known s chars slots' next (events_at s chars e.inside) = id-entered s chars slots next m e y few p named slots' i in
+        let w : Kept slots slots' × Known s chars slots' next (events_at s chars e.inside) =
+              id-entered s chars slots next m e y few p named slots' i in
         let a : SameNodes s chars e.inside v.behind = (value-fit s chars e.inside r v t h.1).rest.nodes in
         record {
           nodes = a;

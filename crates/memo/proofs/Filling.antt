@@ -29,7 +29,9 @@ use Rattle.memo.proofs.Ids.{IdIs, has-none}
 use Rattle.memo.proofs.Parts.{unit-some, unit-low, same-unit, same-mark, same-slot, same-spacing, same-open, apart-set, apart-join}
 use Rattle.memo.proofs.Within.{Some, within-hit, within-less}
 use Rattle.memo.proofs.Probing.{OnThis, OnFound, found-holds, probing-same}
-use Rattle.memo.proofs.Knowing.{open-closed, probed-shut, probed-open, known-closed, seen-empty, known_on, known_past, same_seen, same-placed}
+use Rattle.memo.proofs.Knowing.{
+    open-closed, probed-shut, probed-open, known-closed, seen-empty, known_on, known_past, same_seen, same-placed
+}
 
 -- THE LAST MARK
 
@@ -77,7 +79,8 @@ module _ (s chars slots : List ℕ) (next left : ℕ) (e : Opened) (h : Filling 
 
 -- AN ELEMENT WITHOUT AN ID
 
-pub passed-bare : (s chars slots : List ℕ) (next left : ℕ) (e : Opened) → Filling s chars slots next left (node_at s chars e) → (r : FoundValue)
+pub passed-bare : (s chars slots : List ℕ) (next left : ℕ) (e : Opened) → Filling s chars slots next left (node_at s chars e)
+    → (r : FoundValue)
     → IdIs s chars e r → (n : Cursor) → r ≡ found.Nothing n → Filling s chars slots next (left - 1) (events_at s chars n)
 passed-bare s chars slots next left e h r i n t = record {
   long = h.long;
@@ -214,7 +217,8 @@ module _ (s chars slots : List ℕ) (next : ℕ) (e : Opened)
     marks = marks';
     used = λ i n. let l : mark_of (slot_in slots i) < next = h.known.used i (λ z. n (put-slots i ∙ z)) in
         subst (λ w. mark_of w < next + 1) (sym (put-slots i)) (omega (arith, l));
-    told = λ id. subst (Told s chars slots' (next + 1) (node_at s chars e) id) (sym (same-search id)) (told' id (probed s chars slots id) (h.known.told id));
+    told = λ id. subst (Told s chars slots' (next + 1) (node_at s chars e) id) (sym (same-search id))
+        (told' id (probed s chars slots id) (h.known.told id));
   }
 
   -- From it on a search meets what comes next.
@@ -259,7 +263,8 @@ filling-past s chars slots next left xs ys h f g = record {
 
 -- THE BEGINNING
 
-pub known-first : (s chars slots : List ℕ) (xs : List Event) → Blank slots → ((id : List ℕ) → first_with_id id xs ≡ first_with_id id (events s chars))
+pub known-first : (s chars slots : List ℕ) (xs : List Event) → Blank slots
+    → ((id : List ℕ) → first_with_id id xs ≡ first_with_id id (events s chars))
     → Known s chars slots 0 xs
 known-first s chars slots xs b f = record {
   marks = λ m l. absurd (omega (arith, l));
@@ -308,7 +313,8 @@ memo-none s chars slots z = record {
   known = record {
     marks = λ m l. absurd (omega (arith, l));
     used = λ i n. absurd (n (word (4 * unit slots + i)));
-    told = λ id. subst (Told s chars slots 0 [] id) (sym (probed-shut s chars slots id (open-closed slots (key_of id) (word (unit slots))))) tt;
+    told = λ id. subst (Told s chars slots 0 [] id)
+        (sym (probed-shut s chars slots id (open-closed slots (key_of id) (word (unit slots))))) tt;
   };
 }
   where
@@ -321,7 +327,8 @@ pub blank-first : (s t u : List ℕ) (n : ℕ) → s ≡ replicate (length s) 0 
 blank-first s t u n z l a e = record {
   long = omega (arith, l, a.long, apart.long);
   none = λ i. same-slot t u (unit t) 1 apart i (λ b c. omega (arith, c, words, some))
-      ∙ same-slot s t 0 (unit s) a i (λ b c. omega (arith, c)) ∙ ap (λ x. get_or x (4 * unit s + i) 0) z ∙ zeros (length s) (4 * unit s + i);
+      ∙ same-slot s t 0 (unit s) a i (λ b c. omega (arith, c)) ∙ ap (λ x. get_or x (4 * unit s + i) 0) z
+      ∙ zeros (length s) (4 * unit s + i);
 }
   where
     apart : Apart t (unit t) 1 u

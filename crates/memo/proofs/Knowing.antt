@@ -21,7 +21,9 @@ use Rattle.memo.specs.declared.table.Probe.{Probe}
 use Rattle.memo.specs.Plain.{node_of, NodeFit}
 use Rattle.memo.specs.Words.{unit, spacing, mark_in, slot_in, mark_of, print_in, print_of, probes, start_of, step_of, next_slot}
 use Rattle.memo.specs.Words.{is_wanted, is_open, key_of, SlotPut}
-use Rattle.memo.specs.Table.{within, Seen, this, another, empty, seen_nodes, seen_by, Outcome, found, free, over, probing, sees, probed_from, probed}
+use Rattle.memo.specs.Table.{
+    within, Seen, this, another, empty, seen_nodes, seen_by, Outcome, found, free, over, probing, sees, probed_from, probed
+}
 use Rattle.memo.specs.Table.{seen_as, LookFit, outcome_as, ProbeFit, Placed, Held, Ahead, Told, Known, Memo}
 use Rattle.memo.proofs.Ids.{id-miss}
 use Rattle.memo.proofs.Parts.{unit-some, same-unit, same-mark, same-slot, same-spacing, same-open}
@@ -122,7 +124,8 @@ module _ (s chars slots id : List ℕ) (i : ℕ) where
 
       go : Dec (print_in (slot_in slots i) ≡ print_of (key_of id)) → IsEmpty (sees s chars slots id i) → ⊥
       go (yes m) h =
-          nodes (within (spacing slots) id (events_at s chars (mark_in slots (mark_of (slot_in slots i))))) (subst IsEmpty (seen-within n m) h)
+          nodes (within (spacing slots) id (events_at s chars (mark_in slots (mark_of (slot_in slots i)))))
+              (subst IsEmpty (seen-within n m) h)
       go (no m) h = subst IsEmpty (seen-print n m) h
 
   not-empty : (IsEmpty (sees s chars slots id i) → ⊥) → slot_in slots i ≡ 0 → ⊥
@@ -134,7 +137,8 @@ module _ (s chars slots id : List ℕ) (i : ℕ) where
       → OnThis (λ ys. ys ≡ first_with_id id (events s chars)) (sees s chars slots id i)
   seen_first next used ahead = go (ℕ_discrete (slot_in slots i) 0)
     where
-      nodes : (xs : List Event) → (Some xs → xs ≡ first_with_id id (events s chars)) → OnThis (λ ys. ys ≡ first_with_id id (events s chars)) (seen_nodes xs)
+      nodes : (xs : List Event) → (Some xs → xs ≡ first_with_id id (events s chars))
+          → OnThis (λ ys. ys ≡ first_with_id id (events s chars)) (seen_nodes xs)
       nodes [] h = tt
       nodes (x ∷ xs) h = h tt
 
@@ -159,7 +163,8 @@ known-held s chars slots next xs h i n = h.marks (mark_of (slot_in slots i)) (h.
 -- Other nodes are still to come: of an id whose search ends at a free slot they say the same.
 pub known_on : (s chars slots : List ℕ) (next : ℕ) (xs ys : List Event) → Known s chars slots next xs
     → ((id : List ℕ) → IsFree (probed s chars slots id) → first_with_id id ys ≡ first_with_id id xs) → Known s chars slots next ys
-known_on s chars slots next xs ys h g = record { marks = h.marks; used = h.used; told = λ id. go id (probed s chars slots id) refl (h.told id) }
+known_on s chars slots next xs ys h g =
+    record { marks = h.marks; used = h.used; told = λ id. go id (probed s chars slots id) refl (h.told id) }
   where
     go : (id : List ℕ) (o : Outcome) → probed s chars slots id ≡ o → Told s chars slots next xs id o → Told s chars slots next ys id o
     go id (found zs) q t = t
@@ -291,7 +296,8 @@ module _ (s chars slots : List ℕ) (next : ℕ) (xs : List Event) (h : Known s 
       go true e =
           subst (Told s chars slots' next xs id) (sym (probed-open s chars slots' id (put-open (key_of id) ∙ e)
           ∙ ap (λ u. probed_from (sees s chars slots' id) u (key_of id)) words))
-          (by (probed_from (sees s chars slots id) (unit slots) (key_of id)) refl (subst (Told s chars slots next xs id) (probed-open s chars slots id e) (h.told id)))
+          (by (probed_from (sees s chars slots id) (unit slots) (key_of id)) refl
+              (subst (Told s chars slots next xs id) (probed-open s chars slots id e) (h.told id)))
       go false e = subst (Told s chars slots' next xs id) (sym (probed-shut s chars slots' id (put-open (key_of id) ∙ e))) tt
 
   pub known-put : Known s chars slots' next xs

@@ -13,7 +13,9 @@ use lib.ListN.{length, get_or, set, drop, length-set, drop_of_length-le}
 use lib.Seq.{get_or-set_same, get_or-set_other, drop-cons}
 use Rattle.model.specs.Base.{pick, and, folded}
 use Rattle.script.specs.declared.cursor.Cursor.{Cursor}
-use Rattle.memo.specs.Words.{mixed, key_of, unit, mark_at, spacing, cursor_of, upper_of, cursor_in, mark_in, slot_count, slot_in, is_wanted, is_open}
+use Rattle.memo.specs.Words.{
+    mixed, key_of, unit, mark_at, spacing, cursor_of, upper_of, cursor_in, mark_in, slot_count, slot_in, is_wanted, is_open
+}
 use Rattle.memo.specs.Words.{powers, bit_of, has_bit, next_slot, Apart, RoomFor, MarkPut, SlotPut}
 
 -- KEYS
@@ -236,7 +238,8 @@ module _ (slots : List ℕ) (key : ℕ) where
   unfolding is_open
   open-wanted h e = rw (le-leb 16 (length slots) h, ne_eqb (spacing slots) 0 e) refl
 
-  pub open-bit : (b w p : ℕ) (r : Bool) → b ≡ bit_of slots key → w ≡ get_or slots (b / 16) 0 → p ≡ get_or powers (b % 16) 0 → r ≡ has_bit w p
+  pub open-bit : (b w p : ℕ) (r : Bool) → b ≡ bit_of slots key → w ≡ get_or slots (b / 16) 0 → p ≡ get_or powers (b % 16) 0
+      → r ≡ has_bit w p
       → 16 ≤ length slots → (spacing slots ≡ 0 → ⊥) → r ≡ is_open slots key
   open-bit b w p r e f g t h n =
       t ∙ ap (λ x. has_bit x p) f ∙ ap (λ x. has_bit (get_or slots (b / 16) 0) x) g

@@ -41,7 +41,8 @@ upper_of c = c.at / 65536 + 16 * (c.chars / 65536) + 256 * (c.number / 65536) + 
 
 -- The five words from k on as a cursor.
 abbrev pub cursor_in : List ℕ → ℕ → Cursor
-cursor_in slots k = cursor_of (get_or slots k 0) (get_or slots (k + 1) 0) (get_or slots (k + 2) 0) (get_or slots (k + 3) 0) (get_or slots (k + 4) 0)
+cursor_in slots k =
+    cursor_of (get_or slots k 0) (get_or slots (k + 1) 0) (get_or slots (k + 2) 0) (get_or slots (k + 3) 0) (get_or slots (k + 4) 0)
 
 -- Mark m: a cursor.
 abbrev pub mark_in : List ℕ → ℕ → Cursor

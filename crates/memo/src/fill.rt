@@ -21,7 +21,7 @@ use walk::value::{FoundPart, FoundValue, attribute_in, part_at, reading_of};
 const HREF: u8 = aid::HREF as u8;
 
 // How far the filling is: the cursor, how many marks are set, and how many elements more are looked at from the last mark on.
-#[derive(Drop)]
+#[derive(Clone, Copy)]
 pub struct Progress {
     pub place: Cursor,
     pub next: usize,

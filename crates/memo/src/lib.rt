@@ -1,4 +1,6 @@
 // Elements by their ids: the plain search, and a table that is filled once and makes the search short.
+#![tactic(auto)]
+
 pub mod fill;
 pub mod key;
 pub mod link;

@@ -15,14 +15,14 @@ use walk::value::{FoundValue, attribute_in, part_at};
 const ID: u8 = aid::ID as u8;
 
 // An element that is looked for.
-#[derive(Drop)]
+#[derive(Clone, Copy)]
 pub enum FoundElement {
     At(Opened),
     Nothing,
 }
 
 // An element asked for its id: it has it, or not, with the cursor behind the attributes that were read.
-#[derive(Drop)]
+#[derive(Clone, Copy)]
 pub enum Asked {
     Has,
     HasNot(Cursor),

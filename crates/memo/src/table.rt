@@ -15,7 +15,7 @@ use script::cursor::Cursor;
 use walk::node::{Item, Opened, next_item};
 
 // What stands in a slot, for the search of an id: an element with it, another, or nothing.
-#[derive(Drop)]
+#[derive(Clone, Copy)]
 pub enum Look {
     This(Opened),
     Another,
@@ -23,7 +23,7 @@ pub enum Look {
 }
 
 // Where the search for an id ends: at an element with it, at a free slot, or nowhere within the slots that may be looked at.
-#[derive(Drop)]
+#[derive(Clone, Copy)]
 pub enum Probe {
     Found(Opened),
     Free,

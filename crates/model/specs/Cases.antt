@@ -1,8 +1,7 @@
--- Drawings with known results (document 01, section 8): one table of cases, the starred ones among them, and one claim that the
--- definitions give them.
-use Rattle.std.specs.Prelude.{ℕ, zero, suc, ◌+◌, ◌-◌, ◌≡◌, refl, Bool, true, false, List, [], ◌∷◌, ◌++◌, eqb, length}
+-- Drawings with known results: one table of cases, the starred ones among them. The claim that the definitions give them is `starred`
+-- in proofs/Cases.antt.
+use Rattle.std.specs.Prelude.{ℕ, zero, suc, ◌+◌, ◌-◌, Bool, true, false, List, [], ◌∷◌, ◌++◌, eqb, length}
 use Prim.Native.Char.{code}
-use Prim.Native.String
 use Prim.Native.String.{String}
 use Rattle.model.specs.Base.{pick, same_bytes}
 use Rattle.model.specs.EId
@@ -269,12 +268,3 @@ unfolding ascii joined_pieces seen_from same_lists comes_out all_come_out cases 
     Build.parsed Build.first_is_svg Build.tested Build.parse_tree Build.build Build.exchanged Build.exchange_fault Build.changed
     Build.exchange
 computed = tt
-
--- THE CLAIM
-
--- The definitions give what the table wants. With few levels, where build has 1025: of 5, a comment at depth 4 passes, and at depth 5
--- it is 20; of 9, a `use` of the `g` around it passes, the same in no namespace is 20, and so are two groups that use each other.
-pub starred : (all_come_out cases ≡ true) × (comment_at 5 4 ≡ 0) × (comment_at 5 5 ≡ 20)
-    × (number_within 9 (uses_itself 1) ≡ 0) × (number_within 9 (uses_itself 0) ≡ 20) × (number_within 9 use_each_other ≡ 20)
-unfolding computed
-starred = (refl, refl, refl, refl, refl, refl)

@@ -1,5 +1,5 @@
 -- DEMAND 3: any text outside `style` of a drawing that was built may be exchanged for any valid characters of equal length.
--- The statement is the record `Demand3` at the end; it is proved for every `Exchangeable` as `demand3` in Theorems/Whole.antt.
+-- The statement is the record `Demand3` at the end; it is proved for every `Exchangeable` as `demand3` in proofs/Theorems/Whole.antt.
 use Rattle.std.specs.Prelude.{ℕ, zero, suc, ◌+◌, ◌<◌, ◌≤◌, ◌≡◌, true, false, List, [], ◌∷◌, ◌++◌, map, length, take, drop, eqb}
 use Rattle.std.proofs.Math.Option.{some}
 use Rattle.model.specs.Base.{pick, among}

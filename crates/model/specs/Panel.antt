@@ -1,5 +1,5 @@
 -- WHAT THE SEALED PANEL RELIES ON, in its own words: three statements that follow from the definitions and from demand 3.
--- They are proved as `every-exchange-accepted`, `answers_stay` and `built-passes` in Theorems/Sealed.antt.
+-- They are proved as `every-exchange-accepted`, `answers_stay` and `built-passes` in proofs/Theorems/Sealed.antt.
 use Rattle.std.specs.Prelude.{ℕ, zero, ◌+◌, ◌*◌, ◌≤◌, ◌≡◌, true, false, List, [], ◌∷◌, length, get_or, replicate}
 use Rattle.std.proofs.Math.Option.{some}
 use Rattle.std.proofs.Math.Seq.{slice}

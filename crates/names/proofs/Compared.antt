@@ -25,7 +25,8 @@ differ (x ∷ a) (y ∷ b) h = go (eqb x y) (differ a b (λ e. h (ap suc e)))
     go false e = refl
 
 pub same_step : (a b : List ℕ) (i : ℕ) → i < length a → i < length b
-    → same_bytes (drop i a) (drop i b) ≡ pick (eqb (get_or a i 0) (get_or b i 0)) (λ u. same_bytes (drop (i + 1) a) (drop (i + 1) b)) (λ u. false)
+    → same_bytes (drop i a) (drop i b)
+    ≡ pick (eqb (get_or a i 0) (get_or b i 0)) (λ u. same_bytes (drop (i + 1) a) (drop (i + 1) b)) (λ u. false)
 unfolding same_bytes
 same_step a b i h k = rw (drop-cons a i 0 h, drop-cons b i 0 k, add-one)
 

@@ -1,5 +1,7 @@
 // Names: the classes of attribute names, the fixed values, and comparisons with the words that the tree knows.
 // Of codes that follow one another, each second one stands in an arm of its own: in one arm they would make a range.
+#![tactic(auto)]
+
 ghost use Rattle.std.specs.Prelude.{◌≡◌};
 ghost use Rattle.model.specs.Base.{same_bytes, among_words};
 ghost use Rattle.model.specs.Names.{is_element, is_attribute, is_presentation, is_non_inheritable, is_inheritable, allows_inherit_value};

@@ -73,7 +73,8 @@ module _ (script chars : List ℕ) (left i : ℕ) (s k : List ℕ) (t : Tree) (b
   rest-none = none_left begun fit
 
 -- Where it is done, it was not refused before.
-low-code : (script chars : List ℕ) (left i : ℕ) (s k : List ℕ) (t u : Tree) (code : ℕ) → done u ≡ rest_built script chars left i s k t code →
+low-code : (script chars : List ℕ) (left i : ℕ) (s k : List ℕ) (t u : Tree) (code : ℕ) →
+    done u ≡ rest_built script chars left i s k t code →
     code < 3
 low-code script chars left i s k t u zero q = omega arith
 low-code script chars left i s k t u (suc zero) q = omega arith
@@ -250,7 +251,8 @@ module _ (script chars : List ℕ) (left origin p : ℕ) (from : Cursor) (n : �
           behind = ap (leave 0) after.behind ∙ leave-next xs first.opens ∙ g.behind;
           more = omega (arith, g.more, after.more);
           same = ap (λ x. level_built script chars left x p (place_in s'') v) (sym g.by)
-              ∙ ap (λ zs. each (node (plain chars) (events script chars) left) (children_from zero zs) (origin_in s) (is_copied (origin_in s)) p v)
+              ∙ ap (λ zs. each (node (plain chars) (events script chars) left) (children_from zero zs) (origin_in s)
+                  (is_copied (origin_in s)) p v)
               after.behind
               ∙ then-done v (first_of script chars left (origin_in s) p xs t) others (ap (outcome_of k'' v) (sym z) ∙ node-is)
               ∙ whole;

@@ -52,6 +52,8 @@ Handed close = ⊥
 pub handed-next : (x : Event) → Handed x → (zs : List Event) → Opens (x ∷ zs) × (zs ≡ next_of (x ∷ zs))
 handed-next (model.Event.text a) h zs = (tt, refl)
 handed-next (model.Event.other) h zs = (tt, refl)
+handed-next (begin _) h zs = elim h [ ]
+handed-next close h zs = elim h [ ]
 
 -- It is handed over where a level is left, and refused where none is.
 module _ (chars : List ℕ) (all : List Event) (left origin : ℕ) (ignored : Bool) (p : ℕ) (t : Tree) where
@@ -60,6 +62,8 @@ module _ (chars : List ℕ) (all : List Event) (left origin : ℕ) (ignored : Bo
       sym (ap (λ (f : Builder Tree). f (model.Event.text a ∷ zs) origin ignored p t) (node-level (plain chars) all left l))
   handed-done (model.Event.other) h zs l =
       sym (ap (λ (f : Builder Tree). f (model.Event.other ∷ zs) origin ignored p t) (node-level (plain chars) all left l))
+  handed-done (begin _) h zs l = elim h [ ]
+  handed-done close h zs l = elim h [ ]
 
   pub handed-deep : left ≡ 0 → (zs : List Event) → refused 20 ≡ node (plain chars) all left zs origin ignored p t
   handed-deep h zs = ap (λ l. node (plain chars) all l zs origin ignored p t) (sym h)

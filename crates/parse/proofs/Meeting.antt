@@ -30,7 +30,8 @@ use Rattle.parse.proofs.Nodes.{target-begins}
 -- WHAT A USE COPIES
 
 module _ (script chars : List ℕ) (e : Opened) (children : Cursor) (s : List ℕ) (r : FoundElement)
-    (same : node_of script chars r ≡ use_target (events script chars) (element_of script chars e) (origin_in s)) (fit : NodeFit script r) where
+    (same : node_of script chars r ≡ use_target (events script chars) (element_of script chars e) (origin_in s))
+    (fit : NodeFit script r) where
   pub copy-found : (l : Opened) → r ≡ found.At l → (s' : List ℕ) → StoodAside s l.own children (e.own.number + 1) s' →
       CopyAt script chars e children s s'
   copy-found l q s' h = record {

@@ -12,7 +12,7 @@ use Rattle.model.specs.Names.{is_element}
 use Rattle.model.specs.Drawing.{Element, events, use_target}
 use Rattle.model.specs.Tables.{Tree, done, add_element}
 use Rattle.model.specs.Element.{parse_svg_element}
-use Rattle.model.specs.Theorems.Sim.{and_left, and_right, events-target}
+use Rattle.model.proofs.Theorems.Sim.{and_left, and_right, events-target}
 use Rattle.model.specs.Theorems.Inside.{LiesElement, LiesText}
 use Rattle.script.specs.declared.cursor.Cursor.{Cursor}
 use Rattle.script.specs.Step.{Fit}

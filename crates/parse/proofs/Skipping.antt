@@ -157,7 +157,8 @@ skipped-none script chars left s f h = record {
   same = λ o p t. refl;
 }
 
-pub skipped-past : (script chars : List ℕ) (left : ℕ) (s : List ℕ) → (left ≡ 0 → ⊥) → (from : Cursor) → from ≡ place_in s → (past : Cursor) →
+pub skipped-past : (script chars : List ℕ) (left : ℕ) (s : List ℕ) → (left ≡ 0 → ⊥) → (from : Cursor) → from ≡ place_in s →
+    (past : Cursor) →
     events_at script chars past ≡ past_unbuilt 0 (events_at script chars from) → Fit script past → from.at ≤ past.at → (s' : List ℕ) →
     Stood s past s' → Skipped script chars left s s'
 skipped-past script chars left s h from is past q f l s' w =

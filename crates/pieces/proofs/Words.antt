@@ -88,7 +88,8 @@ module _ (top full : ℕ) where
 
 module _ (ws : List ℕ) (v : Levels) where
   -- The word that was split has n spaces or more, and the words before it the others.
-  split-told : (top full n : ℕ) (f : ℕ → XmlSpace) → 2 ≤ top → top ≡ word_of n f → (length ws ≡ 32) × (full ≤ 32) → Stored ws full (past n f) →
+  split-told : (top full n : ℕ) (f : ℕ → XmlSpace) → 2 ≤ top → top ≡ word_of n f → (length ws ≡ 32) × (full ≤ 32) →
+      Stored ws full (past n f) →
       (s : Space) (r : Levels) → SplitFit top full (above.Known s r) → (space_in s ≡ f 0) × Told ws r (behind f)
   split-told top full zero f l q few st s r h = absurd (omega arith)
   split-told top full (suc n) f l q few st s r h =

@@ -1,4 +1,6 @@
 // The pieces of a text element: which elements are read in it, the texts that its trefs quote, and the spaces of its open levels.
+#![tactic(auto)]
+
 use text::XmlSpace;
 
 pub mod content;
@@ -7,14 +9,14 @@ pub mod remember;
 
 // The spaces that the nodes above the open one hand down, from the nearest on, as far as they are remembered: a bit for each, first those
 // of `top` below its highest bit, from the lowest on, then those of the words before the word `full`, the last of them first.
-#[derive(Drop)]
+#[derive(Clone, Copy)]
 pub struct Levels {
     pub top: u64,
     pub full: usize,
 }
 
 // The nearest of the spaces that are remembered, and the others.
-#[derive(Drop)]
+#[derive(Clone, Copy)]
 pub enum Above {
     Known(XmlSpace, Levels),
     Unknown,

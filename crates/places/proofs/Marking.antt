@@ -7,8 +7,8 @@ use native.Mathlib.Decide.{ℕ_discrete}
 use lib.ListN.{length, get_or, set, replicate, length-set, length-replicate}
 use lib.Seq.{sets, length-sets, get_or-set_other}
 use Rattle.model.specs.Check.{most_bytes}
-use Rattle.model.specs.Theorems.Agree.{sets-in, sets-out}
-use Rattle.model.specs.Theorems.Unused.{replicate-zero}
+use Rattle.model.proofs.Theorems.Agree.{sets-in, sets-out}
+use Rattle.model.proofs.Theorems.Unused.{replicate-zero}
 use Rattle.script.specs.declared.cursor.Cursor.{Cursor}
 use Rattle.script.specs.Step.{Fit, at_start}
 use Rattle.script.proofs.Commands.{placed_first}

@@ -66,7 +66,8 @@ module _ (chars : List ℕ) where
   to_come check.attributes m cs =
       map (λ (a : model.Attribute). a.value) (attributes_at chars m cs)
       ++ map (λ (d : model.Declaration). d.value) (declarations_at chars m cs) ++ values_in (events_from chars m cs)
-  to_come check.declarations m cs = map (λ (d : model.Declaration). d.value) (declarations_at chars m cs) ++ values_in (events_from chars m cs)
+  to_come check.declarations m cs =
+      map (λ (d : model.Declaration). d.value) (declarations_at chars m cs) ++ values_in (events_from chars m cs)
   to_come check.children m cs = values_in (events_from chars m cs)
 
   module _ (size : ℕ) where
@@ -190,7 +191,8 @@ module _ (chars : List ℕ) where
 
   module _ (s : List ℕ) where
     -- Where no whole command stands there is no value.
-    no-command : (d : Cursor) (n : ℕ) → commands_at s d ≡ [] → readings_here s chars d ≡ readings_of n (values_from (mark_of d) (commands_at s d))
+    no-command : (d : Cursor) (n : ℕ) → commands_at s d ≡ []
+        → readings_here s chars d ≡ readings_of n (values_from (mark_of d) (commands_at s d))
     unfolding values_from readings_of readings_next
     no-command d n z = ap (readings_next chars (mark_of d)) z ∙ sym (ap (λ cs. readings_of n (values_from (mark_of d) cs)) z)
 
@@ -200,7 +202,8 @@ module _ (chars : List ℕ) where
     no_whole d n b z = ap (readings_next chars (mark_of d)) z ∙ sym (ap (λ cs. readings_of n (values_from (mark_of d) cs)) z)
 
     at_place : (k : ℕ) (d : Cursor)
-        → readings_here s chars (place_from k d (commands_at s d)) ≡ readings_of (d.number + k + 1) (values_from (mark_of d) (commands_at s d))
+        → readings_here s chars (place_from k d (commands_at s d))
+        ≡ readings_of (d.number + k + 1) (values_from (mark_of d) (commands_at s d))
     unfolding place_from
     at_place zero d = next-value (mark_of d) (commands_at s d)
         ∙ ap (λ n. readings_of n (values_from (mark_of d) (commands_at s d))) (let z : d.number + 1 ≡ d.number + 0 + 1 = omega arith in z)
@@ -225,7 +228,8 @@ pub checked-readings : (s chars : List ℕ) → check.check s chars ≡ 0 → (k
     → readings_here s chars (place_of s k) ≡ readings_of (k + 1) (values_in (events s chars))
 unfolding check.check events place_of commands_at starting
 checked-readings s chars h k =
-    at_place chars s k at_start ∙ ap (λ n. readings_of n (values_from chars start (commands s))) (let z : 0 + k + 1 ≡ k + 1 = omega arith in z)
+    at_place chars s k at_start
+        ∙ ap (λ n. readings_of n (values_from chars start (commands s))) (let z : 0 + k + 1 ≡ k + 1 = omega arith in z)
     ∙ ap (readings_of (k + 1)) (sym
     (all-values chars (length chars) (commands s) starting check.children start refl
     (go (or (ltb most_bytes (length s)) (ltb most_bytes (length chars))) h)))

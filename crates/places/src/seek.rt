@@ -17,7 +17,7 @@ use walk::value::{FoundPart, any_reading, reading_of};
 const STYLE: u8 = eid::STYLE as u8;
 
 // A text that is looked for: its own place, its length, and whether it stands inside an element named style.
-#[derive(Drop)]
+#[derive(Clone, Copy)]
 pub enum FoundText {
     At(Cursor, u32, bool),
     Nothing,

@@ -13,7 +13,7 @@ use Rattle.model.specs.Tables.{Tree, ELEMENT, TEXT, kind_of, first_child_of, fro
 use Rattle.model.specs.Check.{first_of}
 use Rattle.model.specs.Questions.{is_sound, question_fault, TextPart, text_of_node, text_at, text_question}
 use Rattle.model.specs.Theorems.Kept.{Kept}
-use Rattle.model.specs.Theorems.Sound.{both, sound-kept}
+use Rattle.model.proofs.Theorems.Sound.{both, sound-kept}
 use Rattle.tree.specs.Lent.{nodes_read}
 use Rattle.tree.proofs.Facts.{readable}
 use Rattle.questions.specs.Answers.{TextReadable}

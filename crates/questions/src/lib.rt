@@ -1,4 +1,5 @@
 // The four questions about the tree in the three lent tables, and the test that the tables are sound.
+#![tactic(auto)]
 
 pub mod find;
 pub mod question;
@@ -6,7 +7,7 @@ pub mod sound;
 
 // The answer of a question: a number, 0 if nothing stands against it; whether there is an index, 1 or 0; and the index.
 #[repr(C)]
-#[derive(Drop)]
+#[derive(Clone, Copy)]
 pub struct Answer {
     pub number: u32,
     pub found: u32,
@@ -15,7 +16,7 @@ pub struct Answer {
 
 // A part of the text table.
 #[repr(C)]
-#[derive(Drop)]
+#[derive(Clone, Copy)]
 pub struct Part {
     pub start: u32,
     pub size: u32,

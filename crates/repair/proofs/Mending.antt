@@ -14,12 +14,13 @@ use Rattle.model.specs.Check.{check}
 use Rattle.model.specs.Drawing.{Value, events}
 use Rattle.model.specs.Tables.{Tree, is_named, entry_at, attribute_id, set_none}
 use Rattle.model.specs.Repair.{up_from, all_named, Cut, cut_name, apply_cut, applied, repairs, repaired}
-use Rattle.model.specs.Theorems.Unused.{replicate-zero}
-use Rattle.model.specs.Theorems.Inside.{all-inside}
-use Rattle.model.specs.Theorems.SameRepair.{repairs-same}
+use Rattle.model.proofs.Theorems.Unused.{replicate-zero}
+use Rattle.model.proofs.Theorems.Inside.{all-inside}
+use Rattle.model.proofs.Theorems.SameRepair.{repairs-same}
 use Rattle.model.specs.Theorems.Kept.{KeptNode, Tidy}
 use Rattle.model.specs.Theorems.GoingOn.{element_of, pairs_of, going_on}
-use Rattle.model.specs.Theorems.Images.{images_on, pass_on, passes_on, repairs-going-on, values-bare}
+use Rattle.model.specs.Theorems.Images.{images_on, pass_on, passes_on}
+use Rattle.model.proofs.Theorems.Images.{repairs-going-on, values-bare}
 use Rattle.script.specs.declared.cursor.Cursor.{Cursor}
 use Rattle.script.specs.Step.{Fit, at_start}
 use Rattle.places.specs.Marks.{Marked}
@@ -149,7 +150,8 @@ module _ (script chars marks heads ns : List ℕ) (c : Counts) (es₀ : List ℕ
     same = refl;
   }
 
-  pub before-next : (k : ℕ) (ks es : List ℕ) (hint : Cursor) → Before script chars marks heads ns c (k ∷ ks) es₀ es hint → (es' : List ℕ) (n : Cursor)
+  pub before-next : (k : ℕ) (ks es : List ℕ) (hint : Cursor) → Before script chars marks heads ns c (k ∷ ks) es₀ es hint
+      → (es' : List ℕ) (n : Cursor)
       → seen_of ns es' c ≡ applied (seen_of ns es c) (pass_on chars (values_of script chars) k (seen_of ns es c)) → Fit script n
       → Before script chars marks heads ns c ks es₀ es' n
   unfolding passes_on
@@ -172,7 +174,8 @@ module _ (script chars marks heads ns : List ℕ) (c : Counts) (es₀ : List ℕ
   unfolding up_from
   before-first h m g k = before-all h m g k at_start refl
 
-  pub before-turn : (k : ℕ) (es : List ℕ) → k < 7 → Before script chars marks heads ns c (up_from k (7 - k)) es₀ es at_start → (es' : List ℕ)
+  pub before-turn : (k : ℕ) (es : List ℕ) → k < 7 → Before script chars marks heads ns c (up_from k (7 - k)) es₀ es at_start
+      → (es' : List ℕ)
       → seen_of ns es' c ≡ applied (seen_of ns es c) (pass_on chars (values_of script chars) k (seen_of ns es c))
       → Before script chars marks heads ns c (up_from (k + 1) (7 - (k + 1))) es₀ es' at_start
   before-turn k es l q es' e =

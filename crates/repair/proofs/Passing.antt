@@ -12,11 +12,12 @@ use Rattle.model.specs.EId
 use Rattle.model.specs.Drawing.{Value, events}
 use Rattle.model.specs.Tables.{Tree, ELEMENT, word, kind_of, is_named, attribute_id, set_none}
 use Rattle.model.specs.Repair.{up_from, all_named, descendants, recursive_fe_image, Cut, cut_name, cut_entry, cut_at, apply_cut, applied}
-use Rattle.model.specs.Theorems.Sim.{and_left}
-use Rattle.model.specs.Theorems.Cuts as cuts
+use Rattle.model.proofs.Theorems.Sim.{and_left}
+use Rattle.model.proofs.Theorems.Cuts as cuts
 use Rattle.model.specs.Theorems.GoingOn.{with_each, pairs_of, going_on, element_of}
-use Rattle.model.specs.Theorems.Inside.{all-inside}
-use Rattle.model.specs.Theorems.Images.{images_on, pass_on, values-bare}
+use Rattle.model.proofs.Theorems.Inside.{all-inside}
+use Rattle.model.specs.Theorems.Images.{images_on, pass_on}
+use Rattle.model.proofs.Theorems.Images.{values-bare}
 use Rattle.script.specs.declared.cursor.Cursor.{Cursor}
 use Rattle.script.specs.Step.{Fit, at_start}
 use Rattle.tree.specs.declared.Counts.{Counts}
@@ -182,7 +183,8 @@ pub record Pass (script chars marks heads ns : List ℕ) (c : Counts) (f : Tree 
       ≡ applied (seen_of ns es₀ c) (f (seen_of ns es₀ c) (up_from 0 c.nodes))
 
 module _ (script chars marks heads ns : List ℕ) (c : Counts) (f : Tree → List ℕ → List Cut) where
-  pub pass-start : (es : List ℕ) (hint : Cursor) → Mendable script chars marks heads ns es c hint → Pass script chars marks heads ns c f es es 0 hint
+  pub pass-start : (es : List ℕ) (hint : Cursor) → Mendable script chars marks heads ns es c hint
+      → Pass script chars marks heads ns c f es es 0 hint
   pass-start es hint g =
       let e : c.nodes - 0 ≡ c.nodes = omega arith in
       record {
@@ -258,5 +260,6 @@ module _ (script chars marks heads ns es : List ℕ) (c : Counts) (g : Mendable 
       (values-bare (length chars) (events script chars) (all-inside script chars g.drawn.checked)) k f l (seen_of ns es c) g.tidy
       (s i m n (sym same ∙ h)) cs)
 
-  pub resolved-on : Resolved chars (values_of script chars) (seen_of ns es c) 6 → Resolved chars (values_of script chars) (seen_of ns es' c) 6
+  pub resolved-on : Resolved chars (values_of script chars) (seen_of ns es c) 6
+      → Resolved chars (values_of script chars) (seen_of ns es' c) 6
   resolved-on r = record { sought = λ k f l. sought-on k f (omega arith) (r.sought k f l) }

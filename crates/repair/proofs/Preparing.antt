@@ -51,7 +51,8 @@ sought-named t code a i false e h r q = absurd (true≢false h)
 -- One pass more: it looks at no element with links, or its marks were stored.
 module _ (chars : List ℕ) (values : List Value) (ns es : List ℕ) (c : Counts) (k : ℕ)
     (r : Resolved chars values (seen_of ns es c) k) (code a : ℕ) (d : code ≡ element_of k) (n : a ≡ cut_name k) where
-  pub resolved-none : ((i : ℕ) → i < c.nodes → is_sought (seen_of ns es c) code a i ≡ false) → Resolved chars values (seen_of ns es c) (k + 1)
+  pub resolved-none : ((i : ℕ) → i < c.nodes → is_sought (seen_of ns es c) code a i ≡ false)
+      → Resolved chars values (seen_of ns es c) (k + 1)
   resolved-none h = record { sought = λ p f l. go p f l (ℕ_discrete p k) }
     where
       both : (i : ℕ) → is_named (seen_of ns es c) (element_of k) i ≡ true → has_links (seen_of ns es c) (cut_name k) i ≡ true

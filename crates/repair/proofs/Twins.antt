@@ -16,8 +16,9 @@ use Rattle.model.specs.Drawing.{Value, reading_of}
 use Rattle.model.specs.Tables.{Tree, word, entry_at, value_of, entry_word, attribute_id, attribute_of, has_id_bytes, last_with_id, element_by_id, set_none, parent_of}
 use Rattle.model.specs.Repair.{up_from, all_named, link_kind, link_of, element_id, readings_of_attribute, paints_with, node_attribute}
 use Rattle.model.specs.Repair.{recursive_fe_image, Cut, cut_name, cut_at, apply_cut, applied}
-use Rattle.model.specs.Theorems.Agree.{agree-sets, sets-out}
-use Rattle.model.specs.Theorems.GoingOn.{given_both, leads_to, target_of, nodes_at, cuts_along, going_on, element_of, pairs_of}
+use Rattle.model.proofs.Theorems.Agree.{agree-sets, sets-out}
+use Rattle.model.specs.Theorems.GoingOn.{leads_to, target_of, nodes_at, cuts_along, going_on, element_of, pairs_of}
+use Rattle.model.proofs.Theorems.GoingOn.{given_both}
 use Rattle.model.specs.Theorems.Images.{images_on, pass_on, passes_on}
 use Rattle.model.specs.Theorems.Kept.{Tidy, with_attributes}
 use Rattle.tree.specs.declared.Counts.{Counts}
@@ -129,7 +130,8 @@ module _ (n : ℕ) (t u : Tree) (w : Twin n t u) where
 
 -- WHAT IS CUT
 
-like-none : (n j : ℕ) (es₀ es : List ℕ) → Like n es₀ es → Like n (sets es₀ (5 * j + 2) (1 ∷ 0 ∷ 0 ∷ [])) (sets es (5 * j + 2) (1 ∷ 0 ∷ 0 ∷ []))
+like-none : (n j : ℕ) (es₀ es : List ℕ) → Like n es₀ es
+    → Like n (sets es₀ (5 * j + 2) (1 ∷ 0 ∷ 0 ∷ [])) (sets es (5 * j + 2) (1 ∷ 0 ∷ 0 ∷ []))
 like-none n j es₀ es w = record {
   long = length-sets es (5 * j + 2) vs ∙ w.long ∙ sym (length-sets es₀ (5 * j + 2) vs);
   words = λ i k l d. at (5 * i + k) (w.words i k l d);
@@ -167,7 +169,8 @@ module _ (n : ℕ) (chars : List ℕ) (values : List Value) where
   unfolding cuts_along
   twin-along k [] t u w = refl
   twin-along k (m ∷ ms) t u w =
-      rw (twin-cut n t u w k m, twin-along k ms (apply_cut t (cut_at t k m)) (apply_cut u (cut_at t k m)) (twin-apply n t u w (cut_at t k m))) refl
+      rw (twin-cut n t u w k m,
+          twin-along k ms (apply_cut t (cut_at t k m)) (apply_cut u (cut_at t k m)) (twin-apply n t u w (cut_at t k m))) refl
 
   twin-going : (k : ℕ) (ps : List Pair) (t u : Tree) → Twin n t u → going_on chars values k u ps ≡ going_on chars values k t ps
   unfolding going_on

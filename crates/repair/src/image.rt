@@ -18,7 +18,7 @@ use tree::{Counts, word};
 use walk::value::part_at;
 
 // A node that a feImage cuts, as its index plus 1, 0 for none; and a place in the script from which to look for the next link.
-#[derive(Drop)]
+#[derive(Clone, Copy)]
 pub struct Image {
     pub node: u32,
     pub hint: Cursor,

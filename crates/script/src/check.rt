@@ -14,7 +14,7 @@ use names::{is_attribute, is_element};
 use utf8::is_utf8;
 
 // What may come inside the innermost open element: attributes and all else; declarations and children; children alone.
-#[derive(Drop)]
+#[derive(Clone, Copy)]
 pub enum Stage {
     Attributes,
     Declarations,
@@ -22,14 +22,14 @@ pub enum Stage {
 }
 
 // The value that readings may follow: where it begins, its length, and a bit for each kind of its readings.
-#[derive(Drop)]
+#[derive(Clone, Copy)]
 pub enum Last {
     Nothing,
     Value(usize, usize, u32),
 }
 
 // What check knows between two commands, besides the cursor.
-#[derive(Drop)]
+#[derive(Clone, Copy)]
 pub struct State {
     pub depth: usize,
     pub stage: Stage,
@@ -38,14 +38,14 @@ pub struct State {
 }
 
 // A command judged: what check knows behind it, or the number of its first failing test.
-#[derive(Drop)]
+#[derive(Clone, Copy)]
 pub enum Judgement {
     Passed(State),
     Refused(u32),
 }
 
 // What a turn leads to: the next one, or check's answer.
-#[derive(Drop)]
+#[derive(Clone, Copy)]
 pub enum Turn {
     On(State, Cursor),
     Stop(u32),

@@ -5,7 +5,7 @@ ghost use Rattle.model.specs.Drawing.{operands, word_at};
 ghost use Rattle.script.specs.Step.{Fit, at_start, step_at, Going};
 
 // A place between two commands: in the script, in the characters, and the commands and texts so far.
-#[derive(Drop)]
+#[derive(Clone, Copy)]
 pub struct Cursor {
     pub at: usize,
     pub chars: usize,
@@ -14,7 +14,7 @@ pub struct Cursor {
 }
 
 // What stands at a cursor: a command with the cursor behind it, a broken command's byte, or the end.
-#[derive(Drop)]
+#[derive(Clone, Copy)]
 pub enum Step {
     Open(u8, u8, Cursor),
     Attribute(u8, u8, u32, Cursor),

@@ -1,3 +1,5 @@
 // The commands of a script, and check.
+#![tactic(auto)]
+
 pub mod check;
 pub mod cursor;

@@ -2,4 +2,3 @@ pub mod SvgSpace
 pub mod SvgHref
 pub mod CssCascade
 pub mod SvgProperties
-pub mod Theorems

@@ -1,5 +1,5 @@
 -- SVG 2, chapter 16, Linking: "URL reference attributes" and "Deprecated XLink URL reference attributes".
-use Rattle.std.specs.Prelude.{ℕ, Bool, List, [], eqb}
+use Rattle.std.specs.Prelude.{ℕ, Bool, List, eqb}
 use Rattle.std.proofs.Math.Option.{Option, none, some}
 use Rattle.model.specs.Base.{and, or_else}
 use Rattle.model.specs.AId

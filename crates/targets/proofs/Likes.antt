@@ -8,7 +8,7 @@ use Rattle.model.specs.AId
 use Rattle.model.specs.Drawing.{Value, reading_of}
 use Rattle.model.specs.Tables.{Tree, entry_at, attribute_id, attribute_of, has_id_bytes, last_with_id, element_by_id}
 use Rattle.model.specs.Repair.{readings_of_attribute, link_of, cut_name}
-use Rattle.model.specs.Theorems.GoingOn.{given_both}
+use Rattle.model.proofs.Theorems.GoingOn.{given_both}
 use Rattle.tree.specs.declared.Counts.{Counts}
 use Rattle.tree.specs.Lent.{tree_of}
 use Rattle.ids.specs.Chains.{Like}

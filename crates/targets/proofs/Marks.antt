@@ -15,12 +15,14 @@ use Rattle.model.specs.Drawing.{Part, Value, readings_of, reading_of}
 use Rattle.model.specs.Tables.{Tree, Entry, entry_at, entry_word, attribute_id, has_id_bytes, last_with_id, element_by_id, set_none}
 use Rattle.model.specs.Repair.{link_kind, link_of, element_id, paints_with, node_attribute, Cut, cut_name, cut_entry}
 use Rattle.model.specs.Repair.{apply_cut, applied}
-use Rattle.model.specs.Theorems.Kept.{Tidy, attribute-any}
-use Rattle.model.specs.Theorems.Entries.{none-entry}
-use Rattle.model.specs.Theorems.Cuts as cuts
-use Rattle.model.specs.Theorems.Cuts.{entry_kept, readings-kept, readings-gone, by-id-kept}
-use Rattle.model.specs.Theorems.Whole.{cuts-tidy}
-use Rattle.model.specs.Theorems.GoingOn.{given_both, leads_to, target_of}
+use Rattle.model.specs.Theorems.Kept.{Tidy}
+use Rattle.model.proofs.Theorems.Kept.{attribute-any}
+use Rattle.model.proofs.Theorems.Entries.{none-entry}
+use Rattle.model.proofs.Theorems.Cuts as cuts
+use Rattle.model.proofs.Theorems.Cuts.{entry_kept, readings-kept, readings-gone, by-id-kept}
+use Rattle.model.proofs.Theorems.Whole.{cuts-tidy}
+use Rattle.model.specs.Theorems.GoingOn.{leads_to, target_of}
+use Rattle.model.proofs.Theorems.GoingOn.{given_both}
 use Rattle.ids.proofs.Values.{same-eq, same-itself}
 use Rattle.leads.proofs.Lasting.{has-own, compared}
 use Rattle.targets.specs.Targets.{pass_kind, mark_for, mark_of, stored_mark, Targeted}
@@ -166,7 +168,8 @@ module _ (chars : List ℕ) (t : Tree) (id : List ℕ) where
       go (yes z) (no e) = rw (for-none z e) z
 
 -- An element with that id is found, or a later one.
-last_some : (chars : List ℕ) (t : Tree) (id : List ℕ) (n i : ℕ) → i < n → has_id_bytes chars t id i ≡ true → last_with_id chars t id n ≡ 0 → ⊥
+last_some : (chars : List ℕ) (t : Tree) (id : List ℕ) (n i : ℕ) → i < n → has_id_bytes chars t id i ≡ true → last_with_id chars t id n ≡ 0
+    → ⊥
 unfolding last_with_id
 last_some chars t id zero i l h z = omega arith
 last_some chars t id (suc n) i l h z = go (has_id_bytes chars t id n) refl z (ℕ_discrete i n) (λ d. last_some chars t id n i d h)

@@ -96,7 +96,8 @@ stored_there t a i h g = rw (ne_eqb (attribute_id t i a) 0 h, ne_eqb (entry_word
 -- Node m's mark in pass k is the one that is stored at a twin of its entry.
 pub twin-mark : (chars : List ℕ) (values : List Value) (ns es : List ℕ) (c : Counts) (k m j name r x : ℕ) → name ≡ cut_name k
     → j ≡ attribute_id (read_of ns es) m name → (j ≡ 0 → ⊥) → Twin ns es name m (j - 1) r → (r ≡ 0 → ⊥)
-    → StoredBefore chars values k (seen_of ns es c) m → x ≡ get_or es (5 * (r - 1) + 1) 0 → x / 2 ≡ mark_of chars values k (seen_of ns es c) m
+    → StoredBefore chars values k (seen_of ns es c) m → x ≡ get_or es (5 * (r - 1) + 1) 0
+    → x / 2 ≡ mark_of chars values k (seen_of ns es c) m
 twin-mark chars values ns es c k m j name r x a e z w y s q =
     let t = seen_of ns es c in
     let i : ℕ = w.node in

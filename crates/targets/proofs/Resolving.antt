@@ -14,10 +14,11 @@ use Rattle.model.specs.Check.{check}
 use Rattle.model.specs.Drawing.{Value, events, readings_of, reading_of}
 use Rattle.model.specs.Tables.{Tree, entry_at, entry_word, attribute_id, attribute_of}
 use Rattle.model.specs.Repair.{readings_of_attribute, cut_name}
-use Rattle.model.specs.Theorems.Inside.{all-inside}
-use Rattle.model.specs.Theorems.Images.{values-bare}
-use Rattle.model.specs.Theorems.Kept.{Tidy, attribute-any}
-use Rattle.model.specs.Theorems.Cuts.{attribute-there, one-owner}
+use Rattle.model.proofs.Theorems.Inside.{all-inside}
+use Rattle.model.proofs.Theorems.Images.{values-bare}
+use Rattle.model.specs.Theorems.Kept.{Tidy}
+use Rattle.model.proofs.Theorems.Kept.{attribute-any}
+use Rattle.model.proofs.Theorems.Cuts.{attribute-there, one-owner}
 use Rattle.script.specs.declared.cursor.Cursor.{Cursor}
 use Rattle.script.specs.Step.{Fit}
 use Rattle.tree.specs.declared.Counts.{Counts}
@@ -281,7 +282,7 @@ module _ (ns es : List ℕ) (k m j name x : ℕ) (a : name ≡ cut_name k) (e : 
 
   -- It is there, and what was found is stored.
   pub turn-some : (j ≡ 0 → ⊥) → (y : ℕ) → y ≡ x → (es' : List ℕ) → es' ≡ next_set es (j - 1) y → Stored ns es (cut_name k) m x es'
-  turn-some z y f es' q = record {
+  turn-some z y f fs q = record {
     none = λ o. absurd (z (own ∙ o));
     some = λ o. q ∙ ap (next_set es (j - 1)) f ∙ ap (λ (i : ℕ). next_set es (i - 1) x) own;
   }

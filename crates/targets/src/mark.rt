@@ -19,7 +19,7 @@ use tree::{Counts, word};
 use walk::value::part_at;
 
 // The mark of a link, and a place in the script from which to look for the next one.
-#[derive(Drop)]
+#[derive(Clone, Copy)]
 pub struct FoundMark {
     pub mark: usize,
     pub hint: Cursor,

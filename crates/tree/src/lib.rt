@@ -1,4 +1,5 @@
 // The three tables of the tree, lent by the caller: what is read in them, and what a build writes.
+#![tactic(auto)]
 
 pub mod read;
 pub mod room;
@@ -7,7 +8,7 @@ pub mod write;
 
 // How many records, entries and bytes of the tables are taken.
 #[repr(C)]
-#[derive(Drop)]
+#[derive(Clone, Copy)]
 pub struct Counts {
     pub nodes: u32,
     pub attributes: u32,
@@ -15,7 +16,7 @@ pub struct Counts {
 }
 
 // An attribute's record. A fixed value has command 0, its number as start, and size 0.
-#[derive(Drop)]
+#[derive(Clone, Copy)]
 pub struct Entry {
     pub name: u32,
     pub important: u32,
@@ -25,7 +26,7 @@ pub struct Entry {
 }
 
 // What a step of the build comes to: a refusal's number, or how much of the tables is taken then.
-#[derive(Drop)]
+#[derive(Clone, Copy)]
 pub enum Outcome {
     Refused(u32),
     Done(Counts),

@@ -120,7 +120,8 @@ module _ (chars es : List ℕ) (w : XmlSpace) (e n : ℕ) where
       stand : IsTextOf ns₀ e n (stands_by ns a kept)
       stand = stands-text ns₀ ns e n a kept p.at p.last
 
-      module _ (ns' bs' : List ℕ) (left : texts_of ns' bs' ≡ after_pair (pair_of chars (read_of ns es) w e turn) (texts_of ns bs)) (kept' : ℕ)
+      module _ (ns' bs' : List ℕ) (left : texts_of ns' bs' ≡ after_pair (pair_of chars (read_of ns es) w e turn) (texts_of ns bs))
+          (kept' : ℕ)
           (new : kept' ≡ kept_behind (texts_of ns' bs') (stands_by ns a kept) kept) where
         kept-text : (kept' ≡ 0 → ⊥) → IsTextOf ns₀ e n (kept' - 1)
         kept-text z = rw new (go (is_blank (text_of (texts_of ns' bs') (stands_by ns a kept))) refl)

@@ -1,11 +1,12 @@
 // `trim_text_nodes`: the text nodes of a text element, one pair after another.
+#![tactic(auto)]
 
 pub mod depth;
 pub mod nodes;
 
 // A turn of `trim_text_nodes`: two text nodes, one behind the other; the last text before that was not blank, its index plus 1, 0 for none;
 // and whether it is the first turn and the last one.
-#[derive(Drop)]
+#[derive(Clone, Copy)]
 pub struct Turn {
     pub a: u32,
     pub b: u32,

@@ -120,7 +120,8 @@ misplaced-is p3 p2 p1 b h = go (leb 0xC0 p1) (leb 0xE0 p2) (leb 0xF0 p3) refl
   where
     go : (t u v : Bool) → leb 0xC0 p1 ≡ t
         → computed (t || (u || v)) p1 b
-        ≡ pick t (λ x. not (is_within b (second_of p1))) (λ x. pick (or u v) (λ y. not (is_within b (0x80 to 0xBF))) (λ y. eqb (length_of b) 0))
+        ≡ pick t (λ x. not (is_within b (second_of p1)))
+            (λ x. pick (or u v) (λ y. not (is_within b (0x80 to 0xBF))) (λ y. eqb (length_of b) 0))
     go true u v e = second_is p1 b h
     go false true v e = further-is p1 b h (leb-false 0xC0 p1 e)
     go false false true e = further-is p1 b h (leb-false 0xC0 p1 e)
@@ -194,7 +195,8 @@ first-within b d e = sym (rw (e, ne_eqb (suc d) 0 (λ z. omega arith))) ∙ belo
 
 -- Is each of the n bytes behind the three from a on in place?
 abbrev Placed : List ℕ → ℕ → ℕ → Type 0
-Placed s a n = (k : ℕ) → k < n → misplaced (get_or s (a + k) 0) (get_or s (a + k + 1) 0) (get_or s (a + k + 2) 0) (get_or s (a + k + 3) 0) ≡ false
+Placed s a n =
+    (k : ℕ) → k < n → misplaced (get_or s (a + k) 0) (get_or s (a + k + 1) 0) (get_or s (a + k + 2) 0) (get_or s (a + k + 3) 0) ≡ false
 
 -- No sequence goes on behind the three bytes from a on.
 record Quiet (s : List ℕ) (a : ℕ) : Type 0 where
@@ -321,7 +323,8 @@ module _ (s : List ℕ) (a n : ℕ) (r : a + 3 + n ≤ length s) (q : Quiet s a)
       let k : 1 < n = omega arith in
       record {
         is = three s (a + 3) 3 (omega arith) (first-most b0 2 e) (sym e)
-            (record { second = record { room = omega arith; size = omega arith; fits = at_second m k }; size = omega arith; fits = at-third l h }) (omega arith);
+            (record { second = record { room = omega arith; size = omega arith; fits = at_second m k }; size = omega arith;
+                fits = at-third l h }) (omega arith);
         quiet = record {
           third = omega (arith, high 2 e);
           second = less (a + 3 + 1) (a + 3 + 1) 0xC0 0xE0 refl (omega arith) (second-less m k);
@@ -340,7 +343,8 @@ module _ (s : List ℕ) (a n : ℕ) (r : a + 3 + n ≤ length s) (q : Quiet s a)
       record {
         is = four s (a + 3) 4 (omega arith) (first-most b0 3 e) (sym e)
             (record {
-              third = record { second = record { room = omega arith; size = omega arith; fits = at_second o k }; size = omega arith; fits = at-third m j };
+              third = record { second = record { room = omega arith; size = omega arith; fits = at_second o k }; size = omega arith;
+                  fits = at-third m j };
               size = omega arith;
               fits = at-fourth l h;
             });
@@ -510,7 +514,8 @@ module _ (s : List ℕ) (a n : ℕ) (q : Quiet s a) (p : PlacedOfTwo s a n) wher
 
   farthest : (k : ℕ) → k ≤ n → get_or s (a + k) 0 < 0xF0
   farthest zero h = let e : a ≡ a + 0 = omega arith in subst (λ j. get_or s j 0 < 0xF0) e q.third
-  farthest (suc k) h = let e : a + k + 1 ≡ a + suc k = omega arith in subst (λ j. get_or s j 0 < 0xF0) e (omega (arith, far k (omega arith)))
+  farthest (suc k) h =
+      let e : a + k + 1 ≡ a + suc k = omega arith in subst (λ j. get_or s j 0 < 0xF0) e (omega (arith, far k (omega arith)))
 
   two-placed : Placed s a n
   two-placed k h = placed-of-two _ _ (p k h) _ _ (farthest k (omega arith)) (far k (omega arith)) (near k (omega arith))

@@ -105,7 +105,8 @@ unfolding same_row
 row_is [] [] e = refl
 row_is [] (q ∷ qs) e = no e
 row_is (r ∷ rs) [] e = no e
-row_is (r ∷ rs) (q ∷ qs) e = ap₂ (λ a b. a ∷ b) (range-is r q (and_left (same_range r q) _ e)) (row_is rs qs (and_right (same_range r q) _ e))
+row_is (r ∷ rs) (q ∷ qs) e =
+    ap₂ (λ a b. a ∷ b) (range-is r q (and_left (same_range r q) _ e)) (row_is rs qs (and_right (same_range r q) _ e))
 
 rows_are : (r q : List (List Range)) → same_rows r q ≡ true → r ≡ q
 unfolding same_rows
@@ -185,41 +186,44 @@ length_most b h = leb-true (length_of b) 4 (below 256 sized all-sized b h)
 
 -- What the leading ones of a byte say of the length, where it is not ASCII.
 module _ (b : ℕ) (h : b < 256) (l : 0x80 ≤ b) where
-  by_ones : length_of b ≡ by_ones (count_leading_zeros 8 (255 - b)) b
+  length-by-ones : length_of b ≡ by_ones (count_leading_zeros 8 (255 - b)) b
   unfolding ones-right
-  by_ones = eqb-true (length_of b) (by_ones (count_leading_zeros 8 (255 - b)) b) (sym (simp (le-ltb b 0x80 l)) ∙ below 256 ones-right all_ones b h)
+  length-by-ones = eqb-true (length_of b) (by_ones (count_leading_zeros 8 (255 - b)) b)
+      (sym (simp (le-ltb b 0x80 l)) ∙ below 256 ones-right all_ones b h)
 
   pub ones-two : count_leading_zeros 8 (255 - b) ≡ 2 → 0xC2 ≤ b → length_of b ≡ 2
   unfolding by_ones
-  ones-two e m = by_ones ∙ rw (e, le-ltb b 0xC2 m)
+  ones-two e m = length-by-ones ∙ rw (e, le-ltb b 0xC2 m)
 
   pub ones-two-none : count_leading_zeros 8 (255 - b) ≡ 2 → b < 0xC2 → length_of b ≡ 0
   unfolding by_ones
-  ones-two-none e m = by_ones ∙ rw (e, lt-ltb b 0xC2 m)
+  ones-two-none e m = length-by-ones ∙ rw (e, lt-ltb b 0xC2 m)
 
   pub ones-three : count_leading_zeros 8 (255 - b) ≡ 3 → length_of b ≡ 3
   unfolding by_ones
-  ones-three e = by_ones ∙ rw e
+  ones-three e = length-by-ones ∙ rw e
 
   pub ones-four : count_leading_zeros 8 (255 - b) ≡ 4 → b ≤ 0xF4 → length_of b ≡ 4
   unfolding by_ones
-  ones-four e m = by_ones ∙ rw (e, le-ltb 0xF4 b m)
+  ones-four e m = length-by-ones ∙ rw (e, le-ltb 0xF4 b m)
 
   pub ones-four-none : count_leading_zeros 8 (255 - b) ≡ 4 → 0xF4 < b → length_of b ≡ 0
   unfolding by_ones
-  ones-four-none e m = by_ones ∙ rw (e, lt-ltb 0xF4 b m)
+  ones-four-none e m = length-by-ones ∙ rw (e, lt-ltb 0xF4 b m)
 
-  pub ones_none : (count_leading_zeros 8 (255 - b) ≡ 2 → ⊥) → (count_leading_zeros 8 (255 - b) ≡ 3 → ⊥) → (count_leading_zeros 8 (255 - b) ≡ 4 → ⊥)
+  pub ones_none : (count_leading_zeros 8 (255 - b) ≡ 2 → ⊥) → (count_leading_zeros 8 (255 - b) ≡ 3 → ⊥)
+      → (count_leading_zeros 8 (255 - b) ≡ 4 → ⊥)
       → length_of b ≡ 0
   unfolding by_ones
-  ones_none x y z = by_ones ∙ rw
-      (ne_eqb (count_leading_zeros 8 (255 - b)) 2 x, ne_eqb (count_leading_zeros 8 (255 - b)) 3 y, ne_eqb (count_leading_zeros 8 (255 - b)) 4 z)
+  ones_none x y z = length-by-ones ∙ rw
+      (ne_eqb (count_leading_zeros 8 (255 - b)) 2 x, ne_eqb (count_leading_zeros 8 (255 - b)) 3 y,
+          ne_eqb (count_leading_zeros 8 (255 - b)) 4 z)
 
   -- Not two: none, three or four.
   ones-others : (count_leading_zeros 8 (255 - b) ≡ 2 → ⊥) → length_of b ≡ 0 ⊎ 3 ≤ length_of b
   unfolding by_ones
   ones-others x = go (eqb (count_leading_zeros 8 (255 - b)) 3) (eqb (count_leading_zeros 8 (255 - b)) 4) (ltb 0xF4 b)
-      (by_ones ∙ rw (ne_eqb (count_leading_zeros 8 (255 - b)) 2 x))
+      (length-by-ones ∙ rw (ne_eqb (count_leading_zeros 8 (255 - b)) 2 x))
     where
       go : (t u w : Bool) → length_of b ≡ pick t (λ a. 3) (λ a. pick u (λ c. pick w (λ d. 0) (λ d. 4)) (λ c. 0))
           → length_of b ≡ 0 ⊎ 3 ≤ length_of b
@@ -390,7 +394,8 @@ module _ (s : List ℕ) (i n : ℕ) (h : i < length s) (f : get_or s i 0 < 256) 
   cut l = cut_off v n (q ∷ tail ∷ tail ∷ []) s (i + 1) stage1 (omega (arith, length_most (get_or s i 0) f)) (omega arith) (omega arith)
 
   -- Fewer than three bytes are left for a sequence of none, three or four.
-  pub few : 0x80 ≤ get_or s i 0 → (count_leading_zeros 8 (255 - get_or s i 0) ≡ 2 → ⊥) → length s < i + 3 → 0 ≡ sequence_of well_formed (drop i s)
+  pub few : 0x80 ≤ get_or s i 0 → (count_leading_zeros 8 (255 - get_or s i 0) ≡ 2 → ⊥) → length s < i + 3
+      → 0 ≡ sequence_of well_formed (drop i s)
   few l x m = ⊎_elim (λ z. sym (e ∙ z) ∙ one (omega (arith, e, z))) (λ z. cut (omega (arith, e, z))) (ones-others (get_or s i 0) f l x)
 
   pub bad-second : i + n ≤ length s → 2 ≤ n → is_within (get_or s (i + 1) 0) (second_of (get_or s i 0)) ≡ false

@@ -59,7 +59,8 @@ beyond_in s i n = any_below n (λ k. leb 0x80 (get_or s (i + k) 0))
 
 -- Is one of the n bytes behind the three from a on out of place?
 abbrev pub misplaced_in : List ℕ → ℕ → ℕ → Bool
-misplaced_in s a n = any_below n (λ k. misplaced (get_or s (a + k) 0) (get_or s (a + k + 1) 0) (get_or s (a + k + 2) 0) (get_or s (a + k + 3) 0))
+misplaced_in s a n =
+    any_below n (λ k. misplaced (get_or s (a + k) 0) (get_or s (a + k + 1) 0) (get_or s (a + k + 2) 0) (get_or s (a + k + 3) 0))
 
 -- The same where every sequence has one byte or two.
 abbrev pub misplaced_of_two_in : List ℕ → ℕ → ℕ → Bool

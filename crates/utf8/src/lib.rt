@@ -1,5 +1,7 @@
 // UTF-8: the Unicode Standard, table 3-7.
-ghost use Rattle.std.specs.Prelude.{◌≡◌, false, not, ◌+◌, ◌<◌, ◌≤◌, length, drop, get_or};
+#![tactic(auto)]
+
+ghost use Rattle.std.specs.Prelude.{◌≡◌, ℕ, true, false, not, ◌+◌, ◌<◌, ◌≤◌, length, drop, get_or};
 ghost use Rattle.model.specs.Utf8.{◌to◌, is_within, sequence_of, well_formed, is_utf8, is_utf8_from};
 ghost use Rattle.utf8.specs.Lead.{length_of, second_of, never, left_out, misplaced, misplaced_of_two};
 ghost use Rattle.utf8.specs.Lead.{misplaced_in, misplaced_of_two_in, begun_at, beyond_in};
@@ -129,8 +131,9 @@ pub fn sequence_at(s: &[u8], i: usize) -> usize
 // instructions of that where the size is known.
 fn is_ascii(s: &[u8], i: usize, size: usize) -> bool
     requires { i + size ≤ length s.now }
-    ensures { (result ≡ true → (k : ℕ) → k < size → get_or s.now (i + k) 0 < 0x80)
+    ensures told { (result ≡ true → (k : ℕ) → k < size → get_or s.now (i + k) 0 < 0x80)
         × (((k : ℕ) → k < size → get_or s.now (i + k) 0 < 0x80) → result ≡ true) }
+    ensures beyond { result ≡ not (beyond_in s.now i size) }
 {
     let mut beyond = false;
     let mut j = 0;

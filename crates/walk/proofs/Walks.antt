@@ -95,7 +95,8 @@ module _ (s chars : List ℕ) (from c : Cursor) where
     (record { own = r.fit; fit = g; here = h }, further n r g h.further),
   )
   item_of (step.Text l n) h g r = (
-    stepped (events_from chars) h (λ m. model.Event.text (source_at chars (mark_of c) l) ∷ events_from chars m (commands_at s n)) refl ∙ r.same,
+    stepped (events_from chars) h (λ m. model.Event.text (source_at chars (mark_of c) l) ∷ events_from chars m (commands_at s n)) refl
+        ∙ r.same,
     (r.fit, further n r g h.further),
   )
   item_of (step.Other n) h g r = (
@@ -153,7 +154,8 @@ AttributeAt s chars from c (step.Broken b) = AttributeIs s chars from (next.End 
 AttributeAt s chars from c step.End = AttributeIs s chars from (next.End c)
 
 module _ (s chars : List ℕ) (from c : Cursor) (r : Reach (rest_from chars) s from c) where
-  no-attribute : (cs : List Command) → commands_at s c ≡ cs → [] ≡ attributes_at chars (mark_of c) cs → AttributeIs s chars from (next.End c)
+  no-attribute : (cs : List Command) → commands_at s c ≡ cs → [] ≡ attributes_at chars (mark_of c) cs
+      → AttributeIs s chars from (next.End c)
   unfolding rest_from
   no-attribute cs h e = (
     none ∙ ap (λ (x : Rest). x.attributes) r.same,

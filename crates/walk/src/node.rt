@@ -11,7 +11,7 @@ use names::is_element;
 use script::cursor::{Cursor, Step};
 
 // An element that was opened: its own place, its name and namespace, and the cursor inside it.
-#[derive(Drop)]
+#[derive(Clone, Copy)]
 pub struct Opened {
     pub own: Cursor,
     pub name: u8,
@@ -20,7 +20,7 @@ pub struct Opened {
 }
 
 // The next node inside an element. A text: its own place, its length, and the cursor behind it; of the others the cursor behind them.
-#[derive(Drop)]
+#[derive(Clone, Copy)]
 pub enum Item {
     Begin(Opened),
     Text(Cursor, u32, Cursor),
@@ -30,7 +30,7 @@ pub enum Item {
 }
 
 // The next text inside an element, at any depth: its own place, its length, the cursor behind it, and how many elements are open there.
-#[derive(Drop)]
+#[derive(Clone, Copy)]
 pub enum NextText {
     At(Cursor, u32, Cursor, usize),
     End,

@@ -11,7 +11,7 @@ use names::same;
 use script::cursor::{Cursor, Step};
 
 // The value of an attribute or of a declaration: its own place, its length, and the cursor behind its command.
-#[derive(Drop)]
+#[derive(Clone, Copy)]
 pub struct ValueAt {
     pub own: Cursor,
     pub len: u32,
@@ -19,28 +19,28 @@ pub struct ValueAt {
 }
 
 // The next attribute or declaration: its name, its namespace or importance, its value. Where none is left, the cursor behind the last.
-#[derive(Drop)]
+#[derive(Clone, Copy)]
 pub enum NextValue {
     At(u8, u8, ValueAt),
     End(Cursor),
 }
 
 // The next reading of a value: its kind, its start and length in the characters, and the cursor behind it.
-#[derive(Drop)]
+#[derive(Clone, Copy)]
 pub enum NextReading {
     At(u8, usize, u32, Cursor),
     End,
 }
 
 // The value of an attribute that is looked for; where there is none, the cursor behind the attributes.
-#[derive(Drop)]
+#[derive(Clone, Copy)]
 pub enum FoundValue {
     At(ValueAt),
     Nothing(Cursor),
 }
 
 // A part of the characters that is looked for: its start and its length.
-#[derive(Drop)]
+#[derive(Clone, Copy)]
 pub enum FoundPart {
     At(usize, u32),
     Nothing,

@@ -1,0 +1,46 @@
+use mathlib.Core.Path.{◌∙◌}
+use native.Mathlib.Omega.{arith}
+use Rattle.build.proofs.Answering.{refused-answer}
+use Rattle.build.proofs.Building.{no-root, root-room, root-alone, with-root}
+use borrow.Author.Rules.{rules}
+use Rattle.build.proofs.whole.build_checked.Goals as goal
+
+pub returns-then-node_room-eq0 : goal.returns-then-node_room-eq0
+returns-then-node_room-eq0 c =
+    refused-answer _ _ _ _ _ _ c.refusal.ensures
+    c.clear.ensures _
+    ∙ no-root _ _ c.args.nodes.now
+    c.args.attributes.now
+    c.args.text.now _ _ _
+    c.requires
+    c.clear.ensures _
+    c.node_room.ensures c.if-node_room-eq0.true
+
+pub put_root-requires : goal.put_root-requires
+put_root-requires c =
+    root-room _ _ c.args.nodes.now
+    c.args.attributes.now
+    c.args.text.now _ _ _
+    c.requires
+    c.clear.ensures _
+    c.node_room.ensures c.if-node_room-eq0.false
+
+pub fill-requires : goal.fill-requires
+fill-requires c =
+    root-alone _ _ c.args.nodes.now
+    c.args.attributes.now
+    c.args.text.now _ _ _
+    c.requires
+    c.clear.ensures _ c.node_room.ensures
+    c.if-node_room-eq0.false _
+    c.put_root.ensures
+
+pub returns : goal.returns
+returns c =
+    c.fill.ensures
+    ∙ with-root _ _ c.args.nodes.now
+    c.args.attributes.now c.args.text.now _ _ _
+    c.requires c.clear.ensures _
+    c.node_room.ensures
+    c.if-node_room-eq0.false
+    _ c.put_root.ensures

@@ -1,0 +1,13 @@
+use mathlib.Core.Path.{sym, ap}
+use Prim.Native.Nat.{ℕ}
+use lib.ListN.{replicate, length-replicate}
+use Rattle.build.proofs.Building.{both_small}
+use borrow.Author.Rules.{rules}
+use Rattle.build.proofs.whole.fill_large.Goals as goal
+
+pub fill-requires : goal.fill-requires
+fill-requires c =
+    record {
+      script_len_bound = (both_small _ _ c.requires.checked).0;
+      slots_value = sym (ap (λ n. replicate n 0) (length-replicate {A = ℕ} 32768 0));
+    }

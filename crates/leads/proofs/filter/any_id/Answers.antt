@@ -1,0 +1,43 @@
+use borrow.Author.Rules.{rules}
+use native.Mathlib.Omega.{arith}
+use mathlib.Core.Path.{◌∙◌}
+use Prim.Native.Nat.{◌-◌}
+use lib.ListN.{length}
+use Rattle.model.specs.Repair.{any_reading}
+use Rattle.tree.specs.Lent.{entries_of}
+use Rattle.walk.specs.Values.{readings_in}
+use Rattle.walk.proofs.Finding.{Reading, reading-first}
+use Rattle.leads.specs.Links.{id_at}
+use Rattle.leads.proofs.Looking.{looked}
+use Rattle.leads.proofs.filter.any_id.Goals as goal
+
+pub loop-next-init : goal.loop-next-init
+loop-next-init c = reading-first _ _ _ _ c.requires.fit
+
+pub look_at-requires : goal.look_at-requires
+look_at-requires c =
+    record {
+      fit = c.loop-next.invariant.fit;
+      start_le_most_place = c.requires.start_le_most_place;
+      stands = c.requires.stands;
+    }
+
+pub returns-in-Back : goal.returns-in-Back
+returns-in-Back c =
+    let back = looked _ _ _ _ _ _ _ c.in-Back.is c.look_at.ensures in
+    back ∙ c.loop-next.invariant.same
+
+pub loop-next-smaller : goal.loop-next-smaller
+loop-next-smaller c =
+    let on = looked _ _ _ _ _ _ _ c.in-On.is c.look_at.ensures in
+    omega (arith, on.0, on.1.0.at)
+
+pub loop-next-preserved : goal.loop-next-preserved
+loop-next-preserved c =
+    let on = looked _ _ _ _ _ _ _ c.in-On.is c.look_at.ensures in
+    record { fit = on.1.0; same = on.1.1 ∙ c.loop-next.invariant.same }
+
+pub returns-in-Out : goal.returns-in-Out
+returns-in-Out c =
+    let out = looked _ _ _ _ _ _ _ c.in-Out.is c.look_at.ensures in
+    out ∙ c.loop-next.invariant.same

@@ -1,0 +1,10 @@
+use Rattle.links.proofs.Linking.{tref-link}
+use borrow.Author.Rules.{rules}
+use Rattle.links.proofs.link.tref_href.Goals as goal
+
+pub returns : goal.returns
+returns c =
+    record {
+      same = tref-link _ _ c.args.e _ c.href_of.ensures.same;
+      fit = c.href_of.ensures.fit;
+    }

@@ -1,0 +1,10 @@
+use Rattle.links.proofs.Linking.{use-link}
+use borrow.Author.Rules.{rules}
+use Rattle.links.proofs.link.use_href.Goals as goal
+
+pub returns : goal.returns
+returns c =
+    record {
+      same = use-link _ _ c.args.e _ c.href_of.ensures.same;
+      fit = c.href_of.ensures.fit;
+    }

@@ -1,0 +1,17 @@
+use mathlib.Core.Path.{refl, sym, subst, ◌∙◌}
+use Rattle.memo.specs.Table.{Filling}
+use Rattle.memo.proofs.Ids.{has-none}
+use Rattle.memo.proofs.Filling.{passed-bare, bare-nodes, at_less}
+use borrow.Author.Rules.{rules}
+use Rattle.memo.proofs.fill.pass.Goals as goal
+
+pub returns-in-Nothing : goal.returns-in-Nothing
+returns-in-Nothing c =
+    record {
+      long = refl;
+      nodes = bare-nodes _ _ c.args.e _ (c.first_id.ensures.same, c.first_id.ensures.fit) _ c.in-Nothing.is;
+      filling = at_less _ _ _ _ _ _ _ c.less-fewer.ensures
+          (passed-bare _ _ _ _ _ c.args.e
+          c.requires.filling _
+          (c.first_id.ensures.same, c.first_id.ensures.fit) _ c.in-Nothing.is);
+    }

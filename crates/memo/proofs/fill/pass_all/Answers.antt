@@ -1,0 +1,115 @@
+use borrow.Author.Rules.{rules}
+use native.Mathlib.Omega.{arith}
+use Prim.Native.Nat.{◌-◌}
+use lib.ListN.{length}
+use mathlib.Core.Path.{◌≡◌, refl, ◌∙◌}
+use Rattle.script.specs.Step.{Fit}
+use Rattle.script.proofs.Commands.{placed_first}
+use Rattle.walk.specs.Values.{events_at}
+use Rattle.walk.proofs.Walks.{item-told}
+use Rattle.memo.specs.Table.{Filling}
+use Rattle.memo.proofs.Ids.{id-text, id_other, id-close}
+use Rattle.memo.proofs.Within.{within_text, within-other, within-close}
+use Rattle.memo.proofs.Filling.{filling-first, filling-at, filling-past, start-fit}
+use Rattle.memo.proofs.fill.pass_all.Goals as goal
+
+pub loop-e-init : goal.loop-e-init
+loop-e-init c =
+    (
+  start-fit _ _ c.requires.script_len_bound c.start-c.ensures,
+  (filling-first _ _ _ _ c.requires.blank c.start-c.ensures, refl),
+)
+
+pub next_item-requires : goal.next_item-requires
+next_item-requires c = c.loop-e.invariant.0
+
+pub pass-p-requires : goal.pass-p-requires
+pass-p-requires c =
+    let told = item-told _ _ _ _ _ c.in-Begin.is (c.next_item.ensures.same, c.next_item.ensures.fit) in record {
+      standing = told.1.0;
+      filling = filling-at _ _ _ _ _ _ _ told.0 c.loop-e.invariant.1.0;
+    }
+
+pub loop-e-smaller-in-Begin : goal.loop-e-smaller-in-Begin
+loop-e-smaller-in-Begin c =
+    let told = item-told _ _ _ _ _ c.in-Begin.is
+    (c.next_item.ensures.same, c.next_item.ensures.fit) in
+    omega (
+      arith,
+      told.1.1.further,
+      c.pass-p.ensures.nodes.later,
+      c.pass-p.ensures.nodes.fit.at,
+    )
+
+pub loop-e-preserved-in-Begin : goal.loop-e-preserved-in-Begin
+loop-e-preserved-in-Begin c =
+    (
+  c.pass-p.ensures.nodes.fit,
+  (
+    c.pass-p.ensures.filling,
+    c.pass-p.ensures.long
+        ∙ c.loop-e.invariant.1.1,
+  ),
+)
+
+pub loop-e-smaller-in-Text : goal.loop-e-smaller-in-Text
+loop-e-smaller-in-Text c =
+    let text = item-told _ _ _ _ _ c.in-Text.is (c.next_item.ensures.same, c.next_item.ensures.fit) in
+    omega (arith, text.1.1.further, text.1.1.fit.at)
+
+pub loop-e-preserved-in-Text : goal.loop-e-preserved-in-Text
+loop-e-preserved-in-Text c =
+    let text = item-told _ _ _ _ _ c.in-Text.is (c.next_item.ensures.same, c.next_item.ensures.fit) in (
+      text.1.1.fit,
+      (
+        filling-past _ _ _ _ _ _ _
+            (filling-at _ _ _ _ _ _ _ text.0 c.loop-e.invariant.1.0) (λ id. id-text id _ _)
+            (λ id. within_text id _ _ _),
+        c.loop-e.invariant.1.1,
+      ),
+    )
+
+pub loop-e-smaller-in-Other : goal.loop-e-smaller-in-Other
+loop-e-smaller-in-Other c =
+    let other = item-told _ _ _ _ _ c.in-Other.is (c.next_item.ensures.same, c.next_item.ensures.fit) in
+    omega (arith, other.1.further, other.1.fit.at)
+
+pub loop-e-preserved-in-Other : goal.loop-e-preserved-in-Other
+loop-e-preserved-in-Other c =
+    let other = item-told _ _ _ _ _ c.in-Other.is (c.next_item.ensures.same, c.next_item.ensures.fit) in (
+      other.1.fit,
+      (
+        filling-past _ _ _ _ _ _ _
+            (filling-at _ _ _ _ _ _ _ other.0 c.loop-e.invariant.1.0) (λ id. id_other id _)
+            (λ id. within-other id _ _),
+        c.loop-e.invariant.1.1,
+      ),
+    )
+
+pub loop-e-smaller : goal.loop-e-smaller
+loop-e-smaller c =
+    let closed = item-told _ _ _ _ _ c.in-Close.is (c.next_item.ensures.same, c.next_item.ensures.fit) in
+    omega (arith, closed.1.further, closed.1.fit.at)
+
+pub loop-e-preserved : goal.loop-e-preserved
+loop-e-preserved c =
+    let closed = item-told _ _ _ _ _ c.in-Close.is (c.next_item.ensures.same, c.next_item.ensures.fit) in (
+      closed.1.fit,
+      (
+        filling-past _ _ _ _ _ _ _
+            (filling-at _ _ _ _ _ _ _ closed.0 c.loop-e.invariant.1.0) (λ id. id-close id _)
+            (λ id. within-close id _ _),
+        c.loop-e.invariant.1.1,
+      ),
+    )
+
+pub shape_of-slots-in-End : goal.shape_of-slots-in-End
+shape_of-slots-in-End c = c.loop-e.invariant.1.1
+
+pub returns-in-End : goal.returns-in-End
+returns-in-End c =
+    record {
+      next = c.loop-e.next;
+      known = (filling-at _ _ _ _ _ _ _ (item-told _ _ _ _ _ c.in-End.is (c.next_item.ensures.same, c.next_item.ensures.fit)).0
+          c.loop-e.invariant.1.0).known;
+    }

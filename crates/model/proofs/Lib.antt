@@ -1,0 +1,6 @@
+pub mod Noted
+pub mod Under
+pub mod Refusals
+pub mod Cases
+pub mod Example
+pub mod Theorems

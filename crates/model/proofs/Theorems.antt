@@ -1,0 +1,25 @@
+-- Laws and proofs. Nothing here needs to be believed: it is checked.
+pub mod Sim
+pub mod Entries
+pub mod Agree
+pub mod Same
+pub mod SameRepair
+pub mod Laws
+pub mod Good
+pub mod Reach
+pub mod Spelled
+pub mod Related
+pub mod Inside
+pub mod Places
+pub mod Real
+pub mod Whole
+pub mod Always
+pub mod Sealed
+pub mod Spare
+pub mod Cuts
+pub mod GoingOn
+pub mod Images
+pub mod Unused
+pub mod Kept
+pub mod Runs
+pub mod Sound

@@ -1,0 +1,6 @@
+use Rattle.parse.proofs.Words.{stored-place}
+use borrow.Author.Rules.{rules}
+use Rattle.parse.proofs.state.stand.Goals as goal
+
+pub returns : goal.returns
+returns c = stored-place c.args.place.now _ c.requires

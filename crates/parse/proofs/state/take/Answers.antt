@@ -1,0 +1,6 @@
+use Rattle.parse.proofs.Words.{stored-counts}
+use borrow.Author.Rules.{rules}
+use Rattle.parse.proofs.state.take.Goals as goal
+
+pub returns : goal.returns
+returns c = stored-counts c.args.taken.now _ c.requires

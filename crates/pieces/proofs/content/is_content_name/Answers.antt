@@ -1,0 +1,36 @@
+use mathlib.Core.Path.{refl}
+use borrow.Author.Tests.{eq-eqb, ne_eqb, not-true, not-false}
+use Rattle.model.specs.Base.{among}
+use Rattle.pieces.proofs.content.is_content_name.Goals as goal
+
+pub returns-then-code-eq-A : goal.returns-then-code-eq-A
+unfolding among
+returns-then-code-eq-A c = rw (eq-eqb _ _ c.if-code-eq-A.true) refl
+
+pub returns-then-code-eq-TSPAN : goal.returns-then-code-eq-TSPAN
+unfolding among
+returns-then-code-eq-TSPAN c = rw (ne_eqb _ _ c.if-code-eq-A.false, eq-eqb _ _ c.if-code-eq-TSPAN.true) refl
+
+pub returns-then-code-eq-TREF : goal.returns-then-code-eq-TREF
+unfolding among
+returns-then-code-eq-TREF c = rw (ne_eqb _ _ c.if-code-eq-A.false, ne_eqb _ _ c.if-code-eq-TSPAN.false, eq-eqb _ _ c.if-code-eq-TREF.true) refl
+
+pub returns-then-not-direct : goal.returns-then-not-direct
+unfolding among
+returns-then-not-direct c =
+    rw (
+      ne_eqb _ _ c.if-code-eq-A.false,
+      ne_eqb _ _ c.if-code-eq-TSPAN.false,
+      ne_eqb _ _ c.if-code-eq-TREF.false,
+      not-true c.args.direct c.if-not-direct.true-raw,
+    ) refl
+
+pub returns : goal.returns
+unfolding among
+returns c =
+    rw (
+      ne_eqb _ _ c.if-code-eq-A.false,
+      ne_eqb _ _ c.if-code-eq-TSPAN.false,
+      ne_eqb _ _ c.if-code-eq-TREF.false,
+      not-false c.args.direct c.if-not-direct.false-raw,
+    ) refl

@@ -1,0 +1,14 @@
+use borrow.Author.Rules.{rules}
+use native.Mathlib.Omega.{arith}
+use Prim.Native.Nat.{◌-◌}
+use lib.ListN.{length}
+use Rattle.text.specs.Spaces.{space_in}
+use Rattle.pieces.proofs.Summing.{text-told}
+use Rattle.pieces.proofs.Putting.{Putting, putting-none, text-inside, putting-more, putting-all}
+use Rattle.pieces.proofs.quote.put_quoted.Given as goal
+
+abbrev pub invariant-loop-own : goal.invariant-loop-own
+invariant-loop-own l = Putting (space_in l.space) l.script l.characters l.initial.place l.initial.c l.place l.c l.level l.done
+
+abbrev pub decreases-loop-own : goal.decreases-loop-own
+decreases-loop-own l = length l.script - l.c.at

@@ -1,0 +1,15 @@
+use native.Mathlib.Omega.{arith}
+use borrow.Author.Rules.{rules}
+use mathlib.Core.Path.{◌≡◌, sym, ◌∙◌, subst}
+use Prim.Native.Nat.{◌-◌}
+use lib.ListN.{length}
+use Rattle.script.specs.declared.check.Turn.TheVariants.{On, Stop}
+use Rattle.script.specs.Known.{Turned}
+use Rattle.script.proofs.Judging.{Checking, checking, checking-on, too_long, too_many}
+use Rattle.script.proofs.check.check.Given as goal
+
+abbrev pub invariant-loop-next : goal.invariant-loop-next
+invariant-loop-next l = Checking l.script l.characters l.s l.c
+
+abbrev pub decreases-loop-next : goal.decreases-loop-next
+decreases-loop-next l = length l.script - l.c.at

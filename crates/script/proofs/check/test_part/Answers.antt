@@ -1,0 +1,28 @@
+use native.Mathlib.Omega.{arith}
+use mathlib.Core.Path.{◌≡◌, sym, ◌∙◌}
+use borrow.Author.Tests.{lt-ltb, le-ltb}
+use Prim.Native.Nat.{◌+◌}
+use Rattle.script.proofs.Parts.{utf8-part, hit, over, passed}
+use borrow.Author.Rules.{rules}
+use Rattle.script.proofs.check.test_part.Goals as goal
+
+pub returns-then-size-end : goal.returns-then-size-end
+returns-then-size-end c = hit _ _ (lt-ltb _ _ c.if-size-end.true)
+
+pub returns-then-is_repeated : goal.returns-then-is_repeated
+returns-then-is_repeated c = over _ _ _ (le-ltb _ _ c.if-size-end.false) (hit _ _ (sym c.is_repeated.ensures ∙ c.if-is_repeated.true))
+
+pub returns-then-is_utf8 : goal.returns-then-is_utf8
+returns-then-is_utf8 c =
+    let args = c.args in
+    over _ _ _ (le-ltb _ _ c.if-size-end.false)
+    (over _ _ _ (sym c.is_repeated.ensures ∙ c.if-is_repeated.false)
+    (over _ _ _ ((utf8-part _ (args.start + args.offset) _ _ _ _ c.is_utf8.ensures (omega arith)) c.if-is_utf8.true)
+    passed))
+
+pub returns : goal.returns
+returns c =
+    let args = c.args in
+    over _ _ _ (le-ltb _ _ c.if-size-end.false)
+    (over _ _ _ (sym c.is_repeated.ensures ∙ c.if-is_repeated.false)
+    (hit _ _ ((utf8-part _ (args.start + args.offset) _ _ _ _ c.is_utf8.ensures (omega arith)) c.if-is_utf8.false)))

@@ -1,0 +1,16 @@
+use native.Mathlib.Omega.{arith}
+use Prim.Native.Nat.{◌+◌}
+use Rattle.model.specs.Drawing.{word_at}
+use borrow.Author.Rules.{rules}
+use Rattle.script.proofs.cursor.word.Goals as goal
+
+pub returns : goal.returns
+unfolding word_at
+returns c =
+    omega (
+      arith,
+      c.wide-a.ensures.0,
+      c.wide-b.ensures.0,
+      c.wide-c.ensures.0,
+      c.wide-d.ensures.0,
+    )

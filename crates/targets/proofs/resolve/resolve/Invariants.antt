@@ -1,0 +1,11 @@
+use borrow.Author.Rules.{rules}
+use Prim.Native.Nat.{◌-◌}
+use Rattle.targets.proofs.Finding.{start-fit}
+use Rattle.targets.proofs.Resolving.{Resolving, resolving-first, resolving-tidy, resolving-next, resolving-done}
+use Rattle.targets.proofs.resolve.resolve.Given as goal
+
+abbrev pub invariant-loop-m : goal.invariant-loop-m
+invariant-loop-m l = Resolving l.script l.characters l.heads l.nodes l.counts l.pass l.initial.attributes l.attributes l.m l.hint
+
+abbrev pub decreases-loop-m : goal.decreases-loop-m
+decreases-loop-m l = l.counts.nodes - l.m

@@ -1,0 +1,15 @@
+use native.Mathlib.Omega.{arith}
+use lib.ListN.{length-set}
+use mathlib.Core.List.{[], ◌∷◌}
+use Rattle.tree.proofs.Stores.{run}
+use borrow.Author.Rules.{rules}
+use Rattle.tree.proofs.write.put_value.Goals as goal
+
+pub bounds-attributes-at-2 : goal.bounds-attributes-at-2
+bounds-attributes-at-2 c = simp length-set (omega arith)
+
+pub bounds-attributes-at-3 : goal.bounds-attributes-at-3
+bounds-attributes-at-3 c = simp length-set (omega arith)
+
+pub returns : goal.returns
+returns c = run c.args.attributes.now _ _ (c.args.size ∷ c.args.command ∷ [])

@@ -1,0 +1,19 @@
+use borrow.Author.Rules.{rules}
+use native.Mathlib.Omega.{arith}
+use mathlib.Core.Path.{◌≡◌, refl, subst, ◌∙◌, ap}
+use Prim.Native.Nat.{◌-◌, ◌≤◌}
+use Rattle.utf8.specs.Lead.{misplaced_of_two_in, any_below}
+use Rattle.utf8.proofs.Parts.{any-more}
+use Rattle.utf8.proofs.has_misplaced_of_two.Goals as goal
+
+pub loop-j-init : goal.loop-j-init
+unfolding any_below
+loop-j-init c = (omega arith, refl)
+
+pub loop-j-preserved : goal.loop-j-preserved
+loop-j-preserved c = (omega arith, any-more _ _ _ _ c.loop-j.invariant.1 c.is_misplaced_of_two-found.ensures)
+
+pub returns : goal.returns
+returns c =
+    c.loop-j.invariant.1
+    ∙ ap (λ n. misplaced_of_two_in c.args.s.now c.args.a n) (omega arith)

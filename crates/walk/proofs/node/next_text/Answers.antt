@@ -1,0 +1,94 @@
+use native.Mathlib.Omega.{arith}
+use borrow.Author.Rules.{rules}
+use Prim.Native.Nat.{◌-◌}
+use lib.ListN.{length}
+use mathlib.Core.Path.{sym, ◌∙◌}
+use Rattle.walk.proofs.Walks.{item-told}
+use Rattle.model.specs.Drawing.{texts_in}
+use Rattle.walk.specs.Values.{events_at}
+use Rattle.walk.proofs.Along.{Along, along-none, at_item, over, over-others, others-further}
+use Rattle.walk.proofs.Along.{texts-begin, texts-text, texts-other, texts-close, texts-out}
+use Rattle.walk.proofs.Along.{texts-end}
+use Rattle.walk.proofs.node.next_text.Goals as goal
+
+pub loop-e-init : goal.loop-e-init
+loop-e-init c = along-none _ _ _ _ _ c.requires.fit_2 c.requires.open_elements_le_at
+
+pub next_item-requires : goal.next_item-requires
+next_item-requires c = c.loop-e.invariant.fit
+
+pub overflow_add-level : goal.overflow_add-level
+overflow_add-level c =
+    omega (
+      arith,
+      c.loop-e.invariant.low,
+      c.loop-e.invariant.fit.at,
+      c.loop-e.invariant.fit.size,
+    )
+
+pub loop-e-smaller-in-Begin : goal.loop-e-smaller-in-Begin
+loop-e-smaller-in-Begin c =
+    let opened = item-told _ _ _ _ _ c.in-Begin.is (c.next_item.ensures.same, c.next_item.ensures.fit) in
+    omega (arith, opened.1.1.further, opened.1.1.fit.at)
+
+pub loop-e-preserved-in-Begin : goal.loop-e-preserved-in-Begin
+loop-e-preserved-in-Begin c =
+    let opened = item-told _ _ _ _ _ c.in-Begin.is (c.next_item.ensures.same, c.next_item.ensures.fit) in
+    over _ _ _ _ _ _ _ c.loop-e.invariant _ _ c.in-Begin.is
+    (c.next_item.ensures.same, c.next_item.ensures.fit) _ _ opened.1.1 (omega arith) (texts-begin _ _ _)
+
+pub returns-in-Text : goal.returns-in-Text
+returns-in-Text c =
+    let text = item-told _ _ _ _ _ c.in-Text.is (c.next_item.ensures.same, c.next_item.ensures.fit) in record {
+      same = sym (texts-text _ _ _) ∙ at_item _ _ _ _ _ _ _ c.loop-e.invariant _ _ c.in-Text.is
+          (c.next_item.ensures.same, c.next_item.ensures.fit);
+      fit = record {
+        own = text.1.0;
+        behind = record {
+          fit = text.1.1.fit;
+          further = omega (arith, c.loop-e.invariant.later, text.1.1.further);
+        };
+        low = omega (arith, c.loop-e.invariant.low, text.1.1.further);
+      };
+    }
+
+pub past_others-c-requires : goal.past_others-c-requires
+past_others-c-requires c = (item-told _ _ _ _ _ c.in-Other.is (c.next_item.ensures.same, c.next_item.ensures.fit)).1.fit
+
+pub loop-e-smaller-in-Other : goal.loop-e-smaller-in-Other
+loop-e-smaller-in-Other c =
+    let w = others-further _ _ _ _ _ _ _ c.loop-e.invariant _ _ c.in-Other.is
+    (c.next_item.ensures.same, c.next_item.ensures.fit) _ c.past_others-c.ensures in
+    omega (arith, w.0, w.1)
+
+pub loop-e-preserved-in-Other : goal.loop-e-preserved-in-Other
+loop-e-preserved-in-Other c =
+    over-others _ _ _ _ _ _ _ c.loop-e.invariant _ _ c.in-Other.is
+    (c.next_item.ensures.same, c.next_item.ensures.fit) _ c.past_others-c.ensures (λ xs. texts-other _ xs)
+
+pub returns-then-level-eq0 : goal.returns-then-level-eq0
+returns-then-level-eq0 c =
+    record {
+      same = sym (texts-out _ _ c.if-level-eq0.true) ∙ at_item _ _ _ _ _ _ _ c.loop-e.invariant _ _
+      c.in-Close.is (c.next_item.ensures.same, c.next_item.ensures.fit);
+      fit = tt;
+    }
+
+pub loop-e-smaller : goal.loop-e-smaller
+loop-e-smaller c =
+    let closed = item-told _ _ _ _ _ c.in-Close.is (c.next_item.ensures.same, c.next_item.ensures.fit) in
+    omega (arith, closed.1.further, closed.1.fit.at)
+
+pub loop-e-preserved : goal.loop-e-preserved
+loop-e-preserved c =
+    let closed = item-told _ _ _ _ _ c.in-Close.is (c.next_item.ensures.same, c.next_item.ensures.fit) in
+    over _ _ _ _ _ _ _ c.loop-e.invariant _ _ c.in-Close.is
+    (c.next_item.ensures.same, c.next_item.ensures.fit) _ _ closed.1 (omega arith) (texts-close _ _ c.if-level-eq0.false)
+
+pub returns-in-End : goal.returns-in-End
+returns-in-End c =
+    record {
+      same = sym (texts-end _) ∙ at_item _ _ _ _ _ _ _ c.loop-e.invariant _ _ c.in-End.is
+      (c.next_item.ensures.same, c.next_item.ensures.fit);
+      fit = tt;
+    }

@@ -1,0 +1,15 @@
+use native.Mathlib.Omega.{arith}
+use borrow.Author.Rules.{rules}
+use Prim.Native.Nat.{◌-◌}
+use lib.ListN.{length}
+use Rattle.model.specs.Repair.{any_reading}
+use Rattle.walk.specs.Values.{readings_in}
+use Rattle.walk.proofs.Walks.{reading-told}
+use Rattle.walk.proofs.Finding.{Reading, reading-first, any-kind, any-hit, any-miss, any_none}
+use Rattle.walk.proofs.value.any_reading.Given as goal
+
+abbrev pub invariant-loop-k : goal.invariant-loop-k
+invariant-loop-k l = Reading (λ s a c. any_reading l.kind l.id (readings_in s l.characters a c)) l.script l.start l.initial.c l.c
+
+abbrev pub decreases-loop-k : goal.decreases-loop-k
+decreases-loop-k l = length l.script - l.c.at

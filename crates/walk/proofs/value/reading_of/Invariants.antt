@@ -1,0 +1,15 @@
+use native.Mathlib.Omega.{arith}
+use borrow.Author.Rules.{rules}
+use Prim.Native.Nat.{◌-◌}
+use lib.ListN.{length}
+use Rattle.model.specs.Drawing.{reading_of}
+use Rattle.walk.specs.Values.{readings_in}
+use Rattle.walk.proofs.Walks.{reading-told}
+use Rattle.walk.proofs.Finding.{Reading, reading-first, of-kind, other-kind, of-no-kind}
+use Rattle.walk.proofs.value.reading_of.Given as goal
+
+abbrev pub invariant-loop-k : goal.invariant-loop-k
+invariant-loop-k l = Reading (λ s a c. reading_of l.kind (readings_in s l.characters a c)) l.script l.start l.initial.c l.c
+
+abbrev pub decreases-loop-k : goal.decreases-loop-k
+decreases-loop-k l = length l.script - l.c.at
