@@ -53,19 +53,19 @@ impl Names {
         let paired = |name: &str| -> Vec<(u8, u8)> {
             list(name).iter().map(|l| l.split_once('=').map(|(n, v)| (attribute[n], fixed(v))).unwrap()).collect()
         };
-        let (presentation, not) = (marked("isPresentation"), marked("isNonInheritable"));
+        let (presentation, not) = (marked("is_presentation"), marked("is_non_inheritable"));
         let mut inheritable = presentation;
         (0..256).filter(|k| not[*k]).for_each(|k| inheritable[k] = false);
         let mut defaults = [0; 256];
-        paired("inheritDefaults").iter().for_each(|(n, v)| defaults[*n as usize] = *v);
+        paired("inherit_defaults").iter().for_each(|(n, v)| defaults[*n as usize] = *v);
         Names {
             element: coded(list("EId")),
             presentation,
             inheritable,
-            inherit: marked("allowsInheritValue"),
-            declared_only: marked("isDeclaredOnly"),
+            inherit: marked("allows_inherit_value"),
+            declared_only: marked("is_declared_only"),
             defaults,
-            resets: paired("fontResets"),
+            resets: paired("font_resets"),
             attribute,
         }
     }

@@ -6,6 +6,6 @@ fn main() {
     let library = folder.join("libsvgtree.a");
     println!("cargo:rerun-if-changed=build.rs");
     println!("cargo:rerun-if-changed={}", library.display());
-    assert!(library.exists(), "target/staticlib/libsvgtree.a is not there: `rt staticlib svgtree` makes it");
+    assert!(library.exists(), "target/staticlib/libsvgtree.a is not there: `tools/staticlib svgtree` makes it");
     println!("cargo:rustc-link-search=native={}", folder.display());
 }

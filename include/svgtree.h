@@ -1,4 +1,4 @@
-/* The drawing reader for a host. Link with the archive that `rt staticlib svgtree` writes.
+/* The drawing reader for a host. Link with the archive that `tools/staticlib svgtree` writes.
  *
  * Every slice is a pointer and a number of elements. A slice of length 0 may have any non-null aligned pointer. Null and misaligned
  * pointers, lengths past the memory behind them, and slices that overlap where one is written to are the caller's fault. Nothing is

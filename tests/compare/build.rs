@@ -28,8 +28,8 @@ fn codes(lists: &str) -> String {
         + &variants("AIDS", "AId", &attributes)
         + &module("e", &elements)
         + &module("a", &attributes)
-        + &class("PRESENTATION", "isPresentation")
-        + &class("INHERIT_ALLOWED", "allowsInheritValue")
+        + &class("PRESENTATION", "is_presentation")
+        + &class("INHERIT_ALLOWED", "allows_inherit_value")
 }
 
 fn main() {

@@ -3,7 +3,7 @@ ghost use Rattle.std.specs.Prelude.{◌≤◌, length};
 
 use crate::input;
 use crate::judged::{line, say, say_bytes, space};
-use libc::STDOUT_FILENO;
+use std::io::{self, Read, Write};
 
 // How many words there are up to the last that is not 0.
 fn used(words: &[u32]) -> usize
@@ -20,45 +20,52 @@ fn used(words: &[u32]) -> usize
 }
 
 // The words of a table up to the last that is not 0, then how many are left.
-fn say_words(words: &[u32]) {
+fn say_words<W: Write>(to: &mut W, words: &[u32]) -> io::Result<()> {
     let k = used(words);
-    let mut i = 0;
-    while i < k {
-        say(words[i]);
-        space();
-        i += 1;
+    for i in 0..k {
+        say(to, words[i])?;
+        space(to)?;
     }
-    io::print_decimal(STDOUT_FILENO, (words.len() - k) as u64);
-    line();
+    let left = words.len() - k;
+    write!(to, "{left}")?;
+    line(to)
 }
 
 // The answer, and the three tables.
-fn say_tables(built: build::Built, nodes: &[u32], attributes: &[u32], text: &[u8]) {
-    say(built.number);
-    space();
-    say(built.nodes);
-    space();
-    say(built.attributes);
-    space();
-    say(built.text);
-    line();
-    say_words(nodes);
-    say_words(attributes);
-    say_bytes(text);
+fn say_tables<W: Write>(
+    to: &mut W,
+    built: build::Built,
+    nodes: &[u32],
+    attributes: &[u32],
+    text: &[u8],
+) -> io::Result<()> {
+    say(to, built.number)?;
+    space(to)?;
+    say(to, built.nodes)?;
+    space(to)?;
+    say(to, built.attributes)?;
+    space(to)?;
+    say(to, built.text)?;
+    line(to)?;
+    say_words(to, nodes)?;
+    say_words(to, attributes)?;
+    say_bytes(to, text)
 }
 
-fn build_drawing(
+fn build_drawing<W: Write>(
+    to: &mut W,
     script: &[u8],
     characters: &[u8],
     nodes: &mut [u32],
     attributes: &mut [u32],
     text: &mut [u8],
-) {
+) -> io::Result<()> {
     let built = build::whole::build(script, characters, nodes, attributes, text);
-    say_tables(built, nodes, attributes, text);
+    say_tables(to, built, nodes, attributes, text)
 }
 
-fn exchange_text(
+fn exchange_text<W: Write>(
+    to: &mut W,
     script: &[u8],
     characters: &mut [u8],
     number: u32,
@@ -66,60 +73,62 @@ fn exchange_text(
     nodes: &mut [u32],
     attributes: &mut [u32],
     text: &mut [u8],
-) {
+) -> io::Result<()> {
     let built = exchange::whole::exchange(script, characters, number, new, nodes, attributes, text);
-    say_tables(built, nodes, attributes, text);
-    say_bytes(characters);
+    say_tables(to, built, nodes, attributes, text)?;
+    say_bytes(to, characters)
 }
 
 // The lengths of script, characters and tables, the script, the characters.
-pub fn run_build() {
-    let a = input::number();
-    let b = input::number();
-    let n = input::number();
-    let m = input::number();
-    let t = input::number();
+pub fn run_build<R: Read, W: Write>(from: &mut R, to: &mut W) -> io::Result<()> {
+    let a = input::number(from)?;
+    let b = input::number(from)?;
+    let n = input::number(from)?;
+    let m = input::number(from)?;
+    let t = input::number(from)?;
     let mut script = [0u8; 8192];
     let mut characters = [0u8; 1024];
     let mut nodes = [7u32; 73728];
     let mut attributes = [7u32; 46080];
     let mut text = [7u8; 4096];
-    let c = input::bytes(&mut script, a);
-    let d = input::bytes(&mut characters, b);
+    let c = input::bytes(from, &mut script, a)?;
+    let d = input::bytes(from, &mut characters, b)?;
     let x = input::least(n as usize, nodes.len());
     let y = input::least(m as usize, attributes.len());
     let z = input::least(t as usize, text.len());
     build_drawing(
+        to,
         &script[..c],
         &characters[..d],
         &mut nodes[..x],
         &mut attributes[..y],
         &mut text[..z],
-    );
+    )
 }
 
 // The same with the number of a text and its new bytes; the characters are written, too.
-pub fn run_exchange() {
-    let a = input::number();
-    let b = input::number();
-    let n = input::number();
-    let m = input::number();
-    let t = input::number();
-    let number = input::number();
-    let e = input::number();
+pub fn run_exchange<R: Read, W: Write>(from: &mut R, to: &mut W) -> io::Result<()> {
+    let a = input::number(from)?;
+    let b = input::number(from)?;
+    let n = input::number(from)?;
+    let m = input::number(from)?;
+    let t = input::number(from)?;
+    let number = input::number(from)?;
+    let e = input::number(from)?;
     let mut script = [0u8; 8192];
     let mut characters = [0u8; 1024];
     let mut new = [0u8; 64];
     let mut nodes = [7u32; 2048];
     let mut attributes = [7u32; 1024];
     let mut text = [7u8; 128];
-    let c = input::bytes(&mut script, a);
-    let d = input::bytes(&mut characters, b);
-    let f = input::bytes(&mut new, e);
+    let c = input::bytes(from, &mut script, a)?;
+    let d = input::bytes(from, &mut characters, b)?;
+    let f = input::bytes(from, &mut new, e)?;
     let x = input::least(n as usize, nodes.len());
     let y = input::least(m as usize, attributes.len());
     let z = input::least(t as usize, text.len());
     exchange_text(
+        to,
         &script[..c],
         &mut characters[..d],
         number,
@@ -127,5 +136,5 @@ pub fn run_exchange() {
         &mut nodes[..x],
         &mut attributes[..y],
         &mut text[..z],
-    );
+    )
 }

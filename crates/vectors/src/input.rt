@@ -1,7 +1,7 @@
 // Numbers and bytes from standard input.
-ghost use Rattle.std.specs.Prelude.{◌≤◌, length};
+ghost use Rattle.std.specs.Prelude.{◌≤◌, IfOk, length};
 
-use libc::STDIN_FILENO;
+use std::io::{self, Read};
 
 fn wide(b: u8) -> u32
     ensures { result ≤ 255 }
@@ -19,31 +19,42 @@ pub fn least(a: usize, b: usize) -> usize
     b
 }
 
+// Reads until `to` is full or the input ends; what is past the end stays as it was.
+fn fill<R: Read>(from: &mut R, to: &mut [u8]) -> io::Result<()> {
+    let mut done = 0;
+    while done < to.len() {
+        let n = from.read(&mut to[done..])?;
+        if n == 0 {
+            break;
+        }
+        done += n;
+    }
+    Ok(())
+}
+
 // The next four bytes as a number, little-endian; what is past the end reads as 0.
-pub fn number() -> u32 {
+pub fn number<R: Read>(from: &mut R) -> io::Result<u32> {
     let mut b = [0u8; 4];
-    io::read_full(STDIN_FILENO, &mut b);
-    wide(b[0]) + 256 * wide(b[1]) + 65536 * wide(b[2]) + 16777216 * wide(b[3])
+    fill(from, &mut b)?;
+    Ok(wide(b[0]) + 256 * wide(b[1]) + 65536 * wide(b[2]) + 16777216 * wide(b[3]))
 }
 
 // Fills the first n bytes, as far as there are as many, and gives how many that are.
-pub fn bytes(to: &mut [u8], n: u32) -> usize
-    ensures { result ≤ length to.old }
+pub fn bytes<R: Read>(from: &mut R, to: &mut [u8], n: u32) -> io::Result<usize>
+    ensures { IfOk result (λ k. k ≤ length to.old) }
 {
     let k = least(n as usize, to.len());
-    io::read_full(STDIN_FILENO, &mut to[..k]);
-    k
+    fill(from, &mut to[..k])?;
+    Ok(k)
 }
 
 // The same with numbers.
-pub fn numbers(to: &mut [u32], n: u32) -> usize
-    ensures { result ≤ length to.old }
+pub fn numbers<R: Read>(from: &mut R, to: &mut [u32], n: u32) -> io::Result<usize>
+    ensures { IfOk result (λ k. k ≤ length to.old) }
 {
     let k = least(n as usize, to.len());
-    let mut i = 0;
-    while i < k {
-        to[i] = number();
-        i += 1;
+    for i in 0..k {
+        to[i] = number(from)?;
     }
-    k
+    Ok(k)
 }

@@ -1,140 +1,165 @@
 // One vector of each kind: its input is read, the operation is called, the answer is written.
 use crate::input;
-use libc::STDOUT_FILENO;
+use std::io::{self, Read, Write};
 
-pub fn say(n: u32) {
-    io::print_decimal(STDOUT_FILENO, n as u64);
+pub fn say<W: Write>(to: &mut W, n: u32) -> io::Result<()> {
+    write!(to, "{n}")
 }
 
-pub fn space() {
-    io::write_all(STDOUT_FILENO, b" ");
+pub fn space<W: Write>(to: &mut W) -> io::Result<()> {
+    to.write_all(b" ")
 }
 
-pub fn line() {
-    io::write_all(STDOUT_FILENO, b"\n");
+pub fn line<W: Write>(to: &mut W) -> io::Result<()> {
+    to.write_all(b"\n")
 }
 
 // Two lengths, the script, the characters: the number.
-pub fn run_check() {
-    let n = input::number();
-    let m = input::number();
+pub fn run_check<R: Read, W: Write>(from: &mut R, to: &mut W) -> io::Result<()> {
+    let n = input::number(from)?;
+    let m = input::number(from)?;
     let mut script = [0u8; 16384];
     let mut characters = [0u8; 16384];
-    let a = input::bytes(&mut script, n);
-    let b = input::bytes(&mut characters, m);
-    say(script::check::check(&script[..a], &characters[..b]));
-    line();
+    let a = input::bytes(from, &mut script, n)?;
+    let b = input::bytes(from, &mut characters, m)?;
+    say(to, script::check::check(&script[..a], &characters[..b]))?;
+    line(to)
 }
 
 // The number of an answer, whether something was found, and its index.
-fn say_answer(a: questions::Answer) {
-    say(a.number);
-    space();
-    say(a.found);
-    space();
-    say(a.index);
-    line();
+fn say_answer<W: Write>(to: &mut W, a: questions::Answer) -> io::Result<()> {
+    say(to, a.number)?;
+    space(to)?;
+    say(to, a.found)?;
+    space(to)?;
+    say(to, a.index)?;
+    line(to)
 }
 
 // The bytes in hexadecimal.
-pub fn say_bytes(s: &[u8]) {
-    let mut i = 0;
-    while i < s.len() {
-        say_byte(s[i]);
-        i += 1;
+pub fn say_bytes<W: Write>(to: &mut W, s: &[u8]) -> io::Result<()> {
+    for b in s {
+        say_byte(to, *b)?;
     }
-    line();
+    line(to)
 }
 
-fn say_byte(b: u8) {
-    io::print_hex(STDOUT_FILENO, b as u64, 2);
+fn say_byte<W: Write>(to: &mut W, b: u8) -> io::Result<()> {
+    write!(to, "{b:02x}")
 }
 
 // A node and a name: what the two attribute questions answer.
-fn ask_attribute(
+fn ask_attribute<R: Read, W: Write>(
+    from: &mut R,
+    to: &mut W,
     nodes: &[u32],
     attributes: &[u32],
     text: &[u8],
     characters: &[u8],
     counts: tree::Counts,
-) {
-    let node = input::number();
-    let name = input::number();
-    say_answer(questions::question::attribute(
+) -> io::Result<()> {
+    let node = input::number(from)?;
+    let name = input::number(from)?;
+    let own = questions::question::attribute(
         nodes, attributes, text, characters, counts, node, name,
-    ));
-    say_answer(questions::question::find_attribute(
+    );
+    say_answer(to, own)?;
+    let found = questions::question::find_attribute(
         nodes, attributes, text, characters, counts, node, name,
-    ));
+    );
+    say_answer(to, found)
 }
 
 // An id with its length: what the id question answers.
-fn ask_id(nodes: &[u32], attributes: &[u32], text: &[u8], characters: &[u8], counts: tree::Counts) {
-    let n = input::number();
+fn ask_id<R: Read, W: Write>(
+    from: &mut R,
+    to: &mut W,
+    nodes: &[u32],
+    attributes: &[u32],
+    text: &[u8],
+    characters: &[u8],
+    counts: tree::Counts,
+) -> io::Result<()> {
+    let n = input::number(from)?;
     let mut id = [0u8; 64];
-    let k = input::bytes(&mut id, n);
-    say_answer(questions::question::element_by_id(
+    let k = input::bytes(from, &mut id, n)?;
+    let found = questions::question::element_by_id(
         nodes,
         attributes,
         text,
         characters,
         counts,
         &id[..k],
-    ));
+    );
+    say_answer(to, found)
 }
 
 // A question begins with its kind: 1 the attribute questions, 2 the id question, 3 the text question.
-fn ask(nodes: &[u32], attributes: &[u32], text: &[u8], characters: &[u8], counts: tree::Counts) {
-    let kind = input::number();
-    if kind == 1 {
-        ask_attribute(nodes, attributes, text, characters, counts);
-    } else if kind == 2 {
-        ask_id(nodes, attributes, text, characters, counts);
-    } else {
-        let node = input::number();
-        say_bytes(questions::question::text(nodes, attributes, text, characters, counts, node));
-    }
-}
-
-fn ask_all(
+fn ask<R: Read, W: Write>(
+    from: &mut R,
+    to: &mut W,
     nodes: &[u32],
     attributes: &[u32],
     text: &[u8],
     characters: &[u8],
     counts: tree::Counts,
-) {
-    let n = input::number();
-    let mut i = 0;
-    while i < n {
-        ask(nodes, attributes, text, characters, counts);
-        i += 1;
+) -> io::Result<()> {
+    let kind = input::number(from)?;
+    if kind == 1 {
+        ask_attribute(from, to, nodes, attributes, text, characters, counts)
+    } else if kind == 2 {
+        ask_id(from, to, nodes, attributes, text, characters, counts)
+    } else {
+        let node = input::number(from)?;
+        say_bytes(
+            to,
+            questions::question::text(nodes, attributes, text, characters, counts, node),
+        )
     }
 }
 
+fn ask_all<R: Read, W: Write>(
+    from: &mut R,
+    to: &mut W,
+    nodes: &[u32],
+    attributes: &[u32],
+    text: &[u8],
+    characters: &[u8],
+    counts: tree::Counts,
+) -> io::Result<()> {
+    let n = input::number(from)?;
+    for _ in 0..n {
+        ask(from, to, nodes, attributes, text, characters, counts)?;
+    }
+    Ok(())
+}
+
 // The lengths of the tables and of the characters, the counts, the tables, the characters, the number of questions, and the questions.
-pub fn run_questions() {
-    let n = input::number();
-    let m = input::number();
-    let t = input::number();
-    let c = input::number();
+pub fn run_questions<R: Read, W: Write>(from: &mut R, to: &mut W) -> io::Result<()> {
+    let n = input::number(from)?;
+    let m = input::number(from)?;
+    let t = input::number(from)?;
+    let c = input::number(from)?;
     let counts = tree::Counts {
-        nodes: input::number(),
-        attributes: input::number(),
-        text: input::number(),
+        nodes: input::number(from)?,
+        attributes: input::number(from)?,
+        text: input::number(from)?,
     };
     let mut nodes = [0u32; 512];
     let mut attributes = [0u32; 512];
     let mut text = [0u8; 256];
     let mut characters = [0u8; 512];
-    let a = input::numbers(&mut nodes, n);
-    let b = input::numbers(&mut attributes, m);
-    let d = input::bytes(&mut text, t);
-    let e = input::bytes(&mut characters, c);
+    let a = input::numbers(from, &mut nodes, n)?;
+    let b = input::numbers(from, &mut attributes, m)?;
+    let d = input::bytes(from, &mut text, t)?;
+    let e = input::bytes(from, &mut characters, c)?;
     ask_all(
+        from,
+        to,
         &nodes[..a],
         &attributes[..b],
         &text[..d],
         &characters[..e],
         counts,
-    );
+    )
 }

@@ -6,28 +6,30 @@ mod built;
 mod input;
 mod judged;
 
-use libc::STDOUT_FILENO;
+use std::io::{self, BufReader, BufWriter, Read, Write};
 
 // A vector begins with what it asks: 1 check, 2 the questions, 3 build, 4 exchange.
-fn run_vector(kind: u32) {
+fn run_vector<R: Read, W: Write>(from: &mut R, to: &mut W, kind: u32) -> io::Result<()> {
     if kind == 1 {
-        judged::run_check();
+        judged::run_check(from, to)
     } else if kind == 2 {
-        judged::run_questions();
+        judged::run_questions(from, to)
     } else if kind == 3 {
-        built::run_build();
+        built::run_build(from, to)
     } else if kind == 4 {
-        built::run_exchange();
+        built::run_exchange(from, to)
     } else {
-        io::write_all(STDOUT_FILENO, b"no such vector\n");
+        to.write_all(b"no such vector\n")
     }
 }
 
-fn main() {
-    let n = input::number();
-    let mut i = 0;
-    while i < n {
-        run_vector(input::number());
-        i += 1;
+fn main(rt: HostRuntime) -> io::Result<()> {
+    let mut from = BufReader::new(rt.alloc(), rt.reader())?;
+    let mut to = BufWriter::new(rt.alloc(), io::writer(&rt))?;
+    let n = input::number(&mut from)?;
+    for _ in 0..n {
+        let kind = input::number(&mut from)?;
+        run_vector(&mut from, &mut to, kind)?;
     }
+    to.flush()
 }

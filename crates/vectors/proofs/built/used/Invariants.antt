@@ -1,7 +1,4 @@
-use Prim.Native.Nat.{◌≤◌}
-use native.Mathlib.Omega.{arith}
-use borrow.Author.Rules.{rules}
-use lib.ListN.{length}
+use Rattle.std.proofs.Common.{◌≤◌, length}
 use Rattle.vectors.proofs.built.used.Given as goal
 
 abbrev pub invariant-loop-k : goal.invariant-loop-k
