@@ -63,7 +63,7 @@ module _ (s chars : List ℕ) (r : FoundValue) where
     pub href-first : (v : ValueAt) → r ≡ found.At v → part_of chars p ≡ iri_of (value_in s chars r) → part_of chars p ≡ iri_of (or_else a b)
     href-first v t h =
         h ∙ ap (λ w. iri_of (value_in s chars w)) t ∙ ap (λ w. iri_of (or_else (value_in s chars w) b)) (sym t)
-            ∙ ap (λ w. iri_of (or_else w b)) f
+        ∙ ap (λ w. iri_of (or_else w b)) f
 
     pub href-second : (n : Cursor) → r ≡ found.Nothing n → (w : FoundValue) → value_in s chars w ≡ b
         → part_of chars p ≡ iri_of (value_in s chars w)

@@ -229,7 +229,7 @@ pub checked-readings : (s chars : List ℕ) → check.check s chars ≡ 0 → (k
 unfolding check.check events place_of commands_at starting
 checked-readings s chars h k =
     at_place chars s k at_start
-        ∙ ap (λ n. readings_of n (values_from chars start (commands s))) (let z : 0 + k + 1 ≡ k + 1 = omega arith in z)
+    ∙ ap (λ n. readings_of n (values_from chars start (commands s))) (let z : 0 + k + 1 ≡ k + 1 = omega arith in z)
     ∙ ap (readings_of (k + 1)) (sym
     (all-values chars (length chars) (commands s) starting check.children start refl
     (go (or (ltb most_bytes (length s)) (ltb most_bytes (length chars))) h)))

@@ -169,8 +169,10 @@ module _ (n : ℕ) (chars : List ℕ) (values : List Value) where
   unfolding cuts_along
   twin-along k [] t u w = refl
   twin-along k (m ∷ ms) t u w =
-      rw (twin-cut n t u w k m,
-          twin-along k ms (apply_cut t (cut_at t k m)) (apply_cut u (cut_at t k m)) (twin-apply n t u w (cut_at t k m))) refl
+      rw (
+        twin-cut n t u w k m,
+        twin-along k ms (apply_cut t (cut_at t k m)) (apply_cut u (cut_at t k m)) (twin-apply n t u w (cut_at t k m)),
+      ) refl
 
   twin-going : (k : ℕ) (ps : List Pair) (t u : Tree) → Twin n t u → going_on chars values k u ps ≡ going_on chars values k t ps
   unfolding going_on

@@ -1,10 +1,7 @@
-use borrow.Author.Rules.{rules}
-use mathlib.Core.Path.{◌≡◌, refl, ◌∙◌}
-use native.Mathlib.Omega.{arith}
+use mathlib.Core.Path.{◌≡◌}
 use Prim.Native.Nat.{◌-◌}
 use lib.ListN.{length}
 use Rattle.elements.specs.Turns.{Going}
-use Rattle.elements.proofs.Turning.{turn-told}
 use Rattle.elements.proofs.run_by.Given as goal
 
 abbrev pub invariant-loop-n : goal.invariant-loop-n

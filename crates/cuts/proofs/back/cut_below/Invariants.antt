@@ -1,6 +1,5 @@
-use native.Mathlib.Omega.{arith}
 use Prim.Native.Nat.{◌-◌}
-use Rattle.cuts.proofs.Looking.{Cutting, cutting-first, cutting-turn, cutting-done, cutting-silent}
+use Rattle.cuts.proofs.Looking.{Cutting}
 use Rattle.cuts.proofs.back.cut_below.Given as goal
 
 abbrev pub invariant-loop-m : goal.invariant-loop-m

@@ -1,7 +1,6 @@
 use native.Mathlib.Omega.{arith}
 use Rattle.tree.proofs.Facts.{readable}
 use Rattle.cuts.proofs.Aiming.{known_in, key_here, key-absent, key-empty, key-some}
-use borrow.Author.Rules.{rules}
 use Rattle.cuts.proofs.key.key_of.Goals as goal
 
 pub attribute_id-requires : goal.attribute_id-requires

@@ -2,7 +2,6 @@ use native.Mathlib.Omega.{arith}
 use mathlib.Core.Path.{sym, ◌∙◌}
 use Rattle.tree.proofs.Facts.{readable}
 use Rattle.cuts.proofs.Pairing.{element-bare, element-unled, element-pairs}
-use borrow.Author.Rules.{rules}
 use Rattle.cuts.proofs.pair.cut_element.Goals as goal
 
 pub first_with-first-requires : goal.first_with-first-requires
@@ -35,12 +34,12 @@ cut_pairs-requires c =
     let below = c.behind_below-end.ensures in record {
       cuttable = c.requires.cuttable;
       aimed = record {
-          first = c.requires.le_pass.0;
-          last = c.requires.le_pass.1;
-          inside = c.requires.i_lt_nodes;
-          key = c.key_of-key.ensures;
-          some = c.if-key-eq0.false;
-        };
+        first = c.requires.le_pass.0;
+        last = c.requires.le_pass.1;
+        inside = c.requires.i_lt_nodes;
+        key = c.key_of-key.ensures;
+        some = c.if-key-eq0.false;
+      };
       end_le_nodes = below.high;
       known_2 = c.requires.known_2;
     }

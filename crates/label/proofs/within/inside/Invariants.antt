@@ -1,12 +1,9 @@
-use borrow.Author.Rules.{rules}
-use mathlib.Core.Path.{◌≡◌, refl, ◌∙◌}
-use native.Mathlib.Omega.{arith}
-use Prim.Native.Nat.{ℕ, ◌-◌}
-use lib.ListN.{length, length-replicate}
+use mathlib.Core.Path.{◌≡◌}
+use Prim.Native.Nat.{◌-◌}
+use lib.ListN.{length}
 use Rattle.tree.specs.Lent.{tree_of}
 use Rattle.pieces.specs.Levels.{Recalled}
 use Rattle.label.specs.Walk.{Goes}
-use Rattle.label.proofs.Walking.{goes_none, goes_on, ends_on, turn-told}
 use Rattle.label.proofs.within.inside.Given as goal
 
 abbrev pub invariant-loop-n : goal.invariant-loop-n

@@ -1,10 +1,7 @@
-use native.Mathlib.Omega.{arith}
-use mathlib.Core.Path.{◌≡◌, refl, sym, ◌∙◌}
+use mathlib.Core.Path.{◌≡◌}
 use Prim.Native.Nat.{◌≤◌}
 use Rattle.model.specs.Tables.{entry_at, value_of, last_with_id}
 use Rattle.tree.specs.Lent.{read_of, entries_of}
-use Rattle.tree.proofs.Alike.{last_end}
-use Rattle.leads.proofs.Lasting.{seek_found, seek-on}
 use Rattle.leads.proofs.last.last_same.Given as goal
 
 abbrev pub invariant-loop-n : goal.invariant-loop-n

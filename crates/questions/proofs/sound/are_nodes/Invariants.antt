@@ -1,9 +1,7 @@
-use mathlib.Core.Path.{◌≡◌, refl, sym, ◌∙◌}
+use mathlib.Core.Path.{◌≡◌}
 use Prim.Native.Nat.{◌≤◌}
-use native.Mathlib.Omega.{arith}
 use Rattle.model.specs.Questions.{is_node, all_below}
 use Rattle.tree.specs.Lent.{nodes_of}
-use Rattle.tree.proofs.Bools.{fails, passes, below_step, below_none}
 use Rattle.questions.proofs.sound.are_nodes.Given as goal
 
 abbrev pub invariant-loop-n : goal.invariant-loop-n

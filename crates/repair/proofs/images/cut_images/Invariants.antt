@@ -1,10 +1,7 @@
-use native.Mathlib.Omega.{arith}
-use mathlib.Core.Path.{ap, ◌∙◌}
 use Prim.Native.Nat.{◌-◌}
-use Rattle.model.specs.Repair.{applied}
 use Rattle.leads.specs.Links.{values_of}
 use Rattle.repair.specs.Passes.{image_cuts}
-use Rattle.repair.proofs.Passing.{images-each, images-all, Pass, pass-start, pass-turn, pass-done}
+use Rattle.repair.proofs.Passing.{Pass}
 use Rattle.repair.proofs.images.cut_images.Given as goal
 
 abbrev pub invariant-loop-i : goal.invariant-loop-i

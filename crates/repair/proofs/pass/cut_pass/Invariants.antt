@@ -1,16 +1,12 @@
 use Prim.Native.Nat.{◌-◌}
-use native.Mathlib.Omega.{arith}
-use borrow.Author.Rules.{rules}
-use mathlib.Core.Path.{◌≡◌, refl, ap, ◌∙◌}
+use mathlib.Core.Path.{◌≡◌}
 use lib.ListN.{get_or}
-use Rattle.model.specs.Repair.{applied}
 use Rattle.script.specs.Step.{at_start}
 use Rattle.leads.specs.Links.{values_of}
 use Rattle.targets.specs.Targets.{seen_of}
 use Rattle.cuts.specs.Seen.{Known}
-use Rattle.cuts.proofs.Pairing.{known-none}
 use Rattle.repair.specs.Passes.{link_cuts, Sought}
-use Rattle.repair.proofs.Passing.{links-each, links-all, Pass, pass-start, pass-turn, pass-done, sought-on}
+use Rattle.repair.proofs.Passing.{Pass}
 use Rattle.repair.proofs.pass.cut_pass.Given as goal
 
 abbrev pub invariant-loop-i : goal.invariant-loop-i

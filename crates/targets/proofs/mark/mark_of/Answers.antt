@@ -1,6 +1,5 @@
 use Rattle.tree.proofs.Facts.{readable}
 use Rattle.targets.proofs.Finding.{start-fit, stored-mark}
-use borrow.Author.Rules.{rules}
 use Rattle.targets.proofs.mark.mark_of.Goals as goal
 
 pub find_mark-found-requires : goal.find_mark-found-requires

@@ -1,10 +1,7 @@
-use mathlib.Core.Path.{◌≡◌, refl, sym, ◌∙◌}
+use mathlib.Core.Path.{◌≡◌}
 use Prim.Native.Nat.{◌-◌}
-use native.Mathlib.Omega.{arith}
-use borrow.Author.Tests.{eq-eqb, ne_eqb}
 use Rattle.model.specs.Tables.{find_entry}
 use Rattle.tree.specs.Lent.{entries_of}
-use Rattle.tree.proofs.Entries.{find-step, find-end}
 use Rattle.tree.proofs.read.find_entry.Given as goal
 
 abbrev pub invariant-loop-j : goal.invariant-loop-j

@@ -1,10 +1,8 @@
-use mathlib.Core.Path.{◌≡◌, sym, ◌∙◌, ap}
-use Prim.Native.Nat.{ℕ, ◌≤◌, ◌-◌, ◌+◌}
-use native.Mathlib.Omega.{arith}
+use mathlib.Core.Path.{◌≡◌}
+use Prim.Native.Nat.{◌≤◌, ◌+◌}
 use Rattle.model.specs.Tables.{parent_of, has_attribute, holder_of}
 use Rattle.tree.specs.Lent.{read_of}
-use Rattle.tree.proofs.Entries.{has, has-not}
-use Rattle.tree.proofs.Climbs.{climb, holder-climbs, climb-step, climb-end}
+use Rattle.tree.proofs.Climbs.{climb}
 use Rattle.tree.proofs.read.holder_of.Given as goal
 
 abbrev pub invariant-loop-w : goal.invariant-loop-w

@@ -1,9 +1,7 @@
-use mathlib.Core.Path.{◌≡◌, refl, sym, ◌∙◌}
-use Prim.Native.Nat.{◌≤◌, ◌-◌, ◌+◌}
-use native.Mathlib.Omega.{arith}
+use mathlib.Core.Path.{◌≡◌}
+use Prim.Native.Nat.{◌≤◌}
 use Rattle.model.specs.Tables.{last_with_id}
 use Rattle.tree.specs.Lent.{read_of}
-use Rattle.tree.proofs.Alike.{last_step, last_end}
 use Rattle.tree.proofs.read.last_with_id.Given as goal
 
 abbrev pub invariant-loop-n : goal.invariant-loop-n

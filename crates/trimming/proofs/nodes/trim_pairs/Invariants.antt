@@ -1,8 +1,6 @@
-use native.Mathlib.Omega.{arith}
-use Prim.Native.Nat.{◌+◌, ◌-◌}
+use Prim.Native.Nat.{◌-◌}
 use Rattle.text.specs.Spaces.{space_by}
-use Rattle.trimming.proofs.Collected.{next-in}
-use Rattle.trimming.proofs.Pairing.{Paired, paired_none, paired-asks, paired-turn, paired-done}
+use Rattle.trimming.proofs.Pairing.{Paired}
 use Rattle.trimming.proofs.nodes.trim_pairs.Given as goal
 
 abbrev pub invariant-loop-b : goal.invariant-loop-b
