@@ -12,7 +12,8 @@ use Rattle.model.specs.Base.{pick, and, or, given, or_else, among, same_bytes}
 use Rattle.model.specs.AId
 use Rattle.model.specs.Names.{is_element}
 use Rattle.model.specs.Drawing as model
-use Rattle.model.specs.Drawing.{Event, events, attribute_in, value_at, part_at, reading_of, iri_of, use_href, tref_href, first_with_id, linked_by}
+use Rattle.model.specs.Drawing.{Event, events, attribute_in, value_at, part_at, reading_of, iri_of, use_href, tref_href, first_with_id}
+use Rattle.model.specs.Drawing.{linked_by}
 use Rattle.model.specs.Drawing.{number_of, leads_back, uses_in}
 use Rattle.model.specs.Drawing.{has_tag_name, copied, use_target, quoted_from, quoted, texts_in}
 use Rattle.script.specs.declared.cursor.Cursor.{Cursor}

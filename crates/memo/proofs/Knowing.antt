@@ -21,7 +21,8 @@ use Rattle.memo.specs.declared.table.Probe.{Probe}
 use Rattle.memo.specs.Plain.{node_of, NodeFit}
 use Rattle.memo.specs.Words.{unit, spacing, mark_in, slot_in, mark_of, print_in, print_of, probes, start_of, step_of, next_slot}
 use Rattle.memo.specs.Words.{is_wanted, is_open, key_of, SlotPut}
-use Rattle.memo.specs.Table.{within, Seen, another, empty, seen_nodes, seen_by, Outcome, found, free, over, probing, sees, probed_from, probed}
+use Rattle.memo.specs.Table.{within, Seen, another, empty, seen_nodes, seen_by, Outcome, found, free, over, probing, sees, probed_from}
+use Rattle.memo.specs.Table.{probed}
 use Rattle.memo.specs.Table.{seen_as, LookFit, outcome_as, ProbeFit, Placed, Held, Ahead, Told, Known, Memo}
 use Rattle.memo.proofs.Ids.{id-miss}
 use Rattle.memo.proofs.Parts.{unit-some, same-unit, same-mark, same-slot, same-spacing, same-open}

@@ -10,7 +10,8 @@ use lib.Dec.{eqb, ltb}
 use lib.ListN.{length}
 use Rattle.model.specs.Base.{pick, or}
 use Rattle.model.specs.Check as check
-use Rattle.model.specs.Check.{Test, ◌if◌, State, Stage, may_attribute, may_declare, first_of, tests_of, stepped, check_from, starting, most_bytes}
+use Rattle.model.specs.Check.{Test, ◌if◌, State, Stage, may_attribute, may_declare, first_of, tests_of, stepped, check_from, starting}
+use Rattle.model.specs.Check.{most_bytes}
 use Rattle.model.specs.Drawing as model
 use Rattle.model.specs.Drawing.{Command, opening, attribute, declaration, reading, closing, broken, Mark, past, Value, value_at}
 use Rattle.model.specs.Drawing.{attributes_at}

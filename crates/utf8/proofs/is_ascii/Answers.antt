@@ -24,6 +24,6 @@ returns-clause-told c =
     let args = c.args in
     let told : not c.loop-j.beyond ≡ not (beyond_in args.s.now args.i args.size) =
     ap not (c.loop-j.invariant.1 ∙ ap (λ n. beyond_in args.s.now args.i n) (omega arith)) in (
-      (λ h. (ascii-told _ _ _ _ told h).each),
+      (λ h. ascii-told _ _ _ _ told h),
       (λ h. told ∙ ap not (none_any args.size _ (λ k l. lt-leb 0x80 _ (h k l)))),
     )

@@ -7,7 +7,8 @@ pub attribute_id-requires : goal.attribute_id-requires
 attribute_id-requires c = readable _ _ c.requires.kept _ c.requires.i_lt_nodes
 
 pub returns-then-attribute_id-eq0 : goal.returns-then-attribute_id-eq0
-returns-then-attribute_id-eq0 c = key-absent _ _ _ _ (omega (arith, c.if-pass-gt2.true)) _ c.attribute_id.ensures.found c.if-attribute_id-eq0.true
+returns-then-attribute_id-eq0 c = key-absent _ _ _ _ (omega (arith, c.if-pass-gt2.true)) _ c.attribute_id.ensures.found
+    c.if-attribute_id-eq0.true
 
 pub returns-then-pass-gt2 : goal.returns-then-pass-gt2
 returns-then-pass-gt2 c =

@@ -8,8 +8,10 @@ use Rattle.element.proofs.Running.{Running, all_attributes}
 use Rattle.element.proofs.attribute.add_attributes.Given as goal
 
 abbrev pub invariant-loop-name : goal.invariant-loop-name
-invariant-loop-name l = Running (all_attributes l.script l.characters) (length l.characters) (added_in l.nodes l.place l.ignored) l.initial.attributes l.place
-    (folded (added_in l.nodes l.place l.ignored l.initial.attributes) (so_far l.initial.attributes l.place l.next) (attributes_in l.script l.characters l.initial.c)) l.initial.c l.c l.n
+invariant-loop-name l = Running (all_attributes l.script l.characters) (length l.characters) (added_in l.nodes l.place l.ignored)
+    l.initial.attributes l.place
+    (folded (added_in l.nodes l.place l.ignored l.initial.attributes) (so_far l.initial.attributes l.place l.next) (attributes_in
+    l.script l.characters l.initial.c)) l.initial.c l.c l.n
     l.attributes
 
 abbrev pub decreases-loop-name : goal.decreases-loop-name

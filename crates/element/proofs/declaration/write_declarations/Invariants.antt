@@ -8,8 +8,10 @@ use Rattle.element.proofs.Running.{Running, all_declarations}
 use Rattle.element.proofs.declaration.write_declarations.Given as goal
 
 abbrev pub invariant-loop-name : goal.invariant-loop-name
-invariant-loop-name l = Running (all_declarations l.script l.characters) (length l.characters) (declared_in l.nodes l.place) l.initial.attributes l.place
-    (folded (declared_in l.nodes l.place l.initial.attributes) (so_far l.initial.attributes l.place l.next) (declarations_in l.script l.characters l.initial.c)) l.initial.c l.c l.n
+invariant-loop-name l = Running (all_declarations l.script l.characters) (length l.characters) (declared_in l.nodes l.place)
+    l.initial.attributes l.place
+    (folded (declared_in l.nodes l.place l.initial.attributes) (so_far l.initial.attributes l.place l.next) (declarations_in l.script
+    l.characters l.initial.c)) l.initial.c l.c l.n
     l.attributes
 
 abbrev pub decreases-loop-name : goal.decreases-loop-name

@@ -8,7 +8,8 @@ use Rattle.links.proofs.link.leads_back_by.Given as goal
 
 abbrev pub invariant-loop-u : goal.invariant-loop-u
 invariant-loop-u l = Along (leading_by (part_of l.characters l.id) (part_of l.characters l.link))
-    (led_by (part_of l.characters l.id) (part_of l.characters l.link) (uses_in 0 (events_at l.script l.characters l.initial.c))) l.script l.characters l.initial.c l.c
+    (led_by (part_of l.characters l.id) (part_of l.characters l.link) (uses_in 0 (events_at l.script l.characters l.initial.c))) l.script
+    l.characters l.initial.c l.c
     l.level
 
 abbrev pub decreases-loop-u : goal.decreases-loop-u

@@ -1,7 +1,8 @@
 use native.Mathlib.Omega.{arith}
 use mathlib.Core.Path.{sym, refl, ◌∙◌}
 use borrow.Author.Tests.{not-false}
-use Rattle.memo.proofs.Filling.{ready-near, passed-near, passed-closed, filling-closed, ready-new, passed-new, nodes-inside, at_left, spaced-still, set_long}
+use Rattle.memo.proofs.Filling.{ready-near, passed-near, passed-closed, filling-closed, ready-new, passed-new, nodes-inside, at_left}
+use Rattle.memo.proofs.Filling.{spaced-still, set_long}
 use Rattle.memo.proofs.fill.pass_named.Goals as goal
 
 pub returns-then-spacing-eq0 : goal.returns-then-spacing-eq0

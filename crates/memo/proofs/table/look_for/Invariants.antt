@@ -5,7 +5,8 @@ use Rattle.memo.specs.Table.{sees, probing, probed}
 use Rattle.memo.proofs.table.look_for.Given as goal
 
 abbrev pub invariant-loop-left : goal.invariant-loop-left
-invariant-loop-left l = (probing (sees l.script l.characters l.slots l.id) (next_slot (unit l.slots) l.step) l.i l.left ≡ probed l.script l.characters l.slots l.id)
+invariant-loop-left l = (probing (sees l.script l.characters l.slots l.id) (next_slot (unit l.slots) l.step) l.i l.left ≡ probed l.script
+    l.characters l.slots l.id)
     × (l.i < slot_count l.slots)
 
 abbrev pub decreases-loop-left : goal.decreases-loop-left

@@ -15,7 +15,8 @@ next_text-requires c =
 
 pub put_more-done-requires : goal.put_more-done-requires
 put_more-done-requires c =
-    let told = text-told _ _ _ _ _ _ c.in-At.is (c.next_text.ensures.same, c.next_text.ensures.fit) in let whole = text-inside _ _ _ _ _ _ _ _ _ c.loop-own.invariant _ _ _ _ told in
+    let told = text-told _ _ _ _ _ _ c.in-At.is (c.next_text.ensures.same, c.next_text.ensures.fit) in let whole = text-inside _ _ _ _ _
+    _ _ _ _ c.loop-own.invariant _ _ _ _ told in
     record { size_in_bounds = whole.0; size_in_bounds_2 = whole.1 }
 
 pub loop-own-smaller : goal.loop-own-smaller
@@ -36,5 +37,6 @@ shape_of-place-in-End c = c.loop-own.invariant.long
 
 pub returns-in-End : goal.returns-in-End
 returns-in-End c =
-    let ended = text-told _ _ _ _ _ _ c.in-End.is (c.next_text.ensures.same, c.next_text.ensures.fit) in let whole = putting-all _ _ _ _ _ _ _ _ _ c.loop-own.invariant ended in
+    let ended = text-told _ _ _ _ _ _ c.in-End.is (c.next_text.ensures.same, c.next_text.ensures.fit) in let whole = putting-all _ _ _ _
+    _ _ _ _ _ c.loop-own.invariant ended in
     record { size = whole.0; place = whole.1 }

@@ -5,7 +5,8 @@ use Rattle.tree.specs.Lent.{nodes_of}
 use Rattle.questions.proofs.sound.are_nodes.Given as goal
 
 abbrev pub invariant-loop-n : goal.invariant-loop-n
-invariant-loop-n l = (l.n ≤ l.counts.nodes) × (all_below (is_node (nodes_of l.nodes l.counts)) l.n ≡ all_below (is_node (nodes_of l.nodes l.counts)) l.counts.nodes)
+invariant-loop-n l = (l.n ≤ l.counts.nodes) × (all_below (is_node (nodes_of l.nodes l.counts)) l.n ≡ all_below (is_node (nodes_of l.nodes
+    l.counts)) l.counts.nodes)
 
 abbrev pub decreases-loop-n : goal.decreases-loop-n
 decreases-loop-n l = l.n

@@ -10,8 +10,10 @@ use Rattle.repair.proofs.Passing.{Pass}
 use Rattle.repair.proofs.pass.cut_pass.Given as goal
 
 abbrev pub invariant-loop-i : goal.invariant-loop-i
-invariant-loop-i l = Pass l.script l.characters l.marks l.heads l.nodes l.counts (link_cuts l.characters (values_of l.script l.characters) l.pass l.code) l.initial.attributes l.attributes l.i
-    at_start × ((get_or l.heads 2048 0 ≡ 0 → ⊥) → Sought l.characters (values_of l.script l.characters) (seen_of l.nodes l.attributes l.counts) l.pass)
+invariant-loop-i l = Pass l.script l.characters l.marks l.heads l.nodes l.counts (link_cuts l.characters (values_of l.script
+    l.characters) l.pass l.code) l.initial.attributes l.attributes l.i
+    at_start × ((get_or l.heads 2048 0 ≡ 0 → ⊥) → Sought l.characters (values_of l.script l.characters) (seen_of l.nodes l.attributes
+    l.counts) l.pass)
     × Known l.characters (values_of l.script l.characters) l.pass (seen_of l.nodes l.attributes l.counts) l.known l.quiet
 
 abbrev pub decreases-loop-i : goal.decreases-loop-i

@@ -10,8 +10,10 @@ use Rattle.repair.proofs.Mending.{Before}
 use Rattle.repair.proofs.whole.mend.Given as goal
 
 abbrev pub invariant-loop-pass : goal.invariant-loop-pass
-invariant-loop-pass l = (1 ≤ l.pass) × ((l.pass ≤ 6) × (Before l.script l.characters l.marks l.heads l.nodes l.counts (up_from l.pass (7 - l.pass)) l.initial.attributes l.attributes at_start
-    × ((get_or l.heads 2048 0 ≡ 0 → ⊥) → Resolved l.characters (values_of l.script l.characters) (seen_of l.nodes l.attributes l.counts) 6)))
+invariant-loop-pass l = (1 ≤ l.pass) × ((l.pass ≤ 6) × (Before l.script l.characters l.marks l.heads l.nodes l.counts (up_from l.pass (7
+    - l.pass)) l.initial.attributes l.attributes at_start
+    × ((get_or l.heads 2048 0 ≡ 0 → ⊥) → Resolved l.characters (values_of l.script l.characters) (seen_of l.nodes l.attributes l.counts)
+    6)))
 
 abbrev pub decreases-loop-pass : goal.decreases-loop-pass
 decreases-loop-pass l = 6 - l.pass

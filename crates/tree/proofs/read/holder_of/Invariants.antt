@@ -6,7 +6,8 @@ use Rattle.tree.proofs.Climbs.{climb}
 use Rattle.tree.proofs.read.holder_of.Given as goal
 
 abbrev pub invariant-loop-w : goal.invariant-loop-w
-invariant-loop-w l = (l.w ≤ l.i + 1) × (climb (λ k. has_attribute (read_of l.nodes l.attributes) k l.a) (parent_of (read_of l.nodes l.attributes)) l.w l.w
+invariant-loop-w l = (l.w ≤ l.i + 1) × (climb (λ k. has_attribute (read_of l.nodes l.attributes) k l.a) (parent_of (read_of l.nodes
+    l.attributes)) l.w l.w
     ≡ holder_of (read_of l.nodes l.attributes) l.a l.i)
 
 abbrev pub decreases-loop-w : goal.decreases-loop-w

@@ -1,7 +1,8 @@
 use native.Mathlib.Omega.{arith}
 use mathlib.Core.Path.{sym, ◌∙◌}
 use Rattle.walk.proofs.Walks.{item-told}
-use Rattle.walk.proofs.Along.{along-none, at_item, over, over-others, others-further, leave-begin, leave-text, leave-other, leave-close, leave-out}
+use Rattle.walk.proofs.Along.{along-none, at_item, over, over-others, others-further, leave-begin, leave-text, leave-other, leave-close}
+use Rattle.walk.proofs.Along.{leave-out}
 use Rattle.walk.proofs.Along.{leave-end}
 use Rattle.walk.proofs.node.past_element.Goals as goal
 

@@ -176,7 +176,9 @@ pub returns-in_default : goal.returns-in_default
 returns-in_default c =
     record {
       step = nothing _ _ c.if-script-at.false _ refl (omega (arith, c.operands_of.ensures))
-          c.in_default.in_default-own.rest.0.0.0.0.0.0.1 c.in_default.in_default-own.rest.0.0.0.0.0.1 c.in_default.in_default-own.rest.0.0.0.0.1
-          c.in_default.in_default-own.rest.0.0.0.1 c.in_default.in_default-own.rest.0.0.1 c.in_default.in_default-own.rest.0.1 c.in_default.in_default-own.rest.1;
+          c.in_default.in_default-own.rest.0.0.0.0.0.0.1 c.in_default.in_default-own.rest.0.0.0.0.0.1
+          c.in_default.in_default-own.rest.0.0.0.0.1
+          c.in_default.in_default-own.rest.0.0.0.1 c.in_default.in_default-own.rest.0.0.1 c.in_default.in_default-own.rest.0.1
+          c.in_default.in_default-own.rest.1;
       going = tt;
     }
