@@ -198,7 +198,8 @@ pub fn build(
         (length text.old) }
 {
     let k = check(script, characters);
-    if k != 0 {
+    let is_refused = k != 0;
+    if is_refused {
         return refuse(nodes, attributes, text, k, true);
     }
     build_checked(script, characters, nodes, attributes, text)

@@ -34,7 +34,8 @@ pub fn insert_entry(attributes: &mut [u32], place: Place, next: u32, name: u32, 
     if w == 0 {
         return add_entry(attributes, place, next, e);
     }
-    if entry_word(attributes, w - 1, word::IMPORTANT) == 0 {
+    let is_plain = entry_word(attributes, w - 1, word::IMPORTANT) == 0;
+    if is_plain {
         put_entry(attributes, w - 1, e);
     }
     Stored::Next(next)

@@ -82,7 +82,8 @@ fn is_left_out(tag: u32, name: u32) -> bool
     if name == aid::CLASS {
         return true;
     }
-    if tag != eid::TSPAN {
+    let is_other = tag != eid::TSPAN;
+    if is_other {
         return false;
     }
     name == aid::HREF

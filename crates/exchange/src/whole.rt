@@ -33,7 +33,8 @@ fn exchange_short(
     put_bytes(&mut old, 0, &characters[start..end]);
     put_bytes(characters, start, new);
     let built = build_checked(script, characters, nodes, attributes, text);
-    if built.number != 0 {
+    let is_refused = built.number != 0;
+    if is_refused {
         put_bytes(characters, start, &old[0..size]);
     }
     built
@@ -55,7 +56,8 @@ fn exchange_long(
         (length nodes.old) (length attributes.old) (length text.old)) }
 {
     let before = build_checked(script, characters, nodes, attributes, text);
-    if before.number != 0 {
+    let is_refused = before.number != 0;
+    if is_refused {
         return before;
     }
     put_bytes(characters, start, new);
@@ -80,7 +82,8 @@ pub fn exchange(
     match target_of(script, characters, number, new) {
         Target::Fault(k) => refuse(nodes, attributes, text, k, false),
         Target::At(start) => {
-            if new.len() <= 256 {
+            let is_short = new.len() <= 256;
+            if is_short {
                 return exchange_short(script, characters, start, new, nodes, attributes, text);
             }
             exchange_long(script, characters, start, new, nodes, attributes, text)

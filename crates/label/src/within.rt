@@ -47,7 +47,8 @@ fn space_above(
     requires space_value { space_in space ≡ space_of characters.now (read_of nodes.now attributes.now) p }
     ensures { space_in result ≡ space_of characters.now (read_of nodes.now attributes.now) q }
 {
-    if attribute_id(nodes, attributes, p, aid::SPACE) == 0 {
+    let is_unset = attribute_id(nodes, attributes, p, aid::SPACE) == 0;
+    if is_unset {
         return space;
     }
     space_of(nodes, attributes, characters, q)
@@ -165,7 +166,8 @@ fn begin(
         Parsed::Refused(k) => Turn::Refused(k),
         Parsed::Done(taken, behind) => {
             let space = get_xmlspace(nodes, attributes, characters, counts.nodes, handed);
-            if code != eid::TREF {
+            let is_read = code != eid::TREF;
+            if is_read {
                 let more = push(words, levels, handed);
                 return Turn::On(
                     State {

@@ -49,7 +49,8 @@ fn look_at(
 {
     match next_reading(script, characters, c, start) {
         NextReading::At(k, o, len, n) => {
-            if k != 4 {
+            let is_other = k != 4;
+            if is_other {
                 return Look::On(n);
             }
             if is_id(attributes, characters, j, part_at(characters, o, len)) {

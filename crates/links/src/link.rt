@@ -238,7 +238,8 @@ pub fn use_target(
             if number == e.own.number + 1 {
                 return FoundElement::Nothing;
             }
-            if number == origin {
+            let is_origin = number == origin;
+            if is_origin {
                 return FoundElement::Nothing;
             }
             if leads_back(script, characters, slots, e, l, link) {

@@ -51,7 +51,8 @@ fn free_slot(slots: &[u16], key: usize) -> usize
     let mut i = start_of(slots, key);
     let mut left = PROBES;
     while 0 < left {
-        if slot_at(slots, i) == 0 {
+        let is_free = slot_at(slots, i) == 0;
+        if is_free {
             return i + 1;
         }
         i = next_slot(slots, step, i);

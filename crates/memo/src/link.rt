@@ -18,7 +18,8 @@ pub fn is_link(name: u8) -> bool
 fn opens_link(a: u8, b: u8) -> u8
     ensures { result ≡ bit_for (opens_link a b) }
 {
-    if a != 1 {
+    let is_other = a != 1;
+    if is_other {
         return 0;
     }
     if is_link(b) {

@@ -165,7 +165,8 @@ pub fn parse_xml_node_children(
         let r = parse_xml_node(
             place, taken, begun, left, index, script, characters, nodes, attributes, text, slots,
         );
-        if r != 0 {
+        let is_refused = r != 0;
+        if is_refused {
             return r;
         }
         if begun == PASSED {

@@ -25,7 +25,8 @@ fn is_content_name(code: u32, direct: bool) -> bool
     if code == eid::TREF {
         return true;
     }
-    if !direct {
+    let is_deeper = !direct;
+    if is_deeper {
         return false;
     }
     code == eid::TEXT_PATH
@@ -48,7 +49,8 @@ pub fn text_tag_of(name: u32) -> u32
     if name == eid::A {
         return eid::TSPAN;
     }
-    if name == eid::TREF {
+    let is_tref = name == eid::TREF;
+    if is_tref {
         return eid::TSPAN;
     }
     name

@@ -136,7 +136,8 @@ pub fn append_quoted(
         (tree_of nodes.old [] text.old counts) }
 {
     let total = quoted_size(script, characters, from);
-    if total == 0 {
+    let is_empty = total == 0;
+    if is_empty {
         return Outcome::Done(counts);
     }
     let left = text_room(text) - counts.text;

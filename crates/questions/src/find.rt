@@ -18,7 +18,8 @@ pub fn parent_element(nodes: &[u32], i: u32) -> u32
 {
     let mut w = node_word(nodes, i, word::PARENT);
     while w > 0 {
-        if node_word(nodes, w - 1, word::KIND) == word::ELEMENT {
+        let is_named = node_word(nodes, w - 1, word::KIND) == word::ELEMENT;
+        if is_named {
             return w;
         }
         w = node_word(nodes, w - 1, word::PARENT);

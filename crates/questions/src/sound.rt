@@ -169,7 +169,8 @@ fn is_entry(attributes: &[u32], size: usize, j: u32) -> bool
     if start < 1 {
         return false;
     }
-    if start > 18 {
+    let is_unknown = start > 18;
+    if is_unknown {
         return false;
     }
     length == 0

@@ -211,7 +211,8 @@ fn test_part(
 {
     let from = start + offset as usize;
     let end = offset as usize + len as usize;
-    if size < end {
+    let is_behind = size < end;
+    if is_behind {
         return 6;
     }
     if is_repeated(kinds, kind) {
@@ -253,7 +254,8 @@ fn judge_open(s: State, name: u8, space: u8) -> Judgement
     if is_second(depth, begun) {
         return Judgement::Refused(4);
     }
-    if 2048 <= depth {
+    let is_deep = 2048 <= depth;
+    if is_deep {
         return Judgement::Refused(5);
     }
     Judgement::Passed(State {
@@ -446,11 +448,13 @@ fn judge_end(characters: &[u8], s: State, at: usize) -> u32
     if is_half_font(last) {
         return 7;
     }
-    if 1 <= depth {
+    let is_open = 1 <= depth;
+    if is_open {
         return 4;
     }
     if begun {
-        if at < characters.len() {
+        let is_more = at < characters.len();
+        if is_more {
             return 8;
         }
         return 0;
@@ -503,7 +507,8 @@ pub fn check(script: &[u8], characters: &[u8]) -> u32
     if 1048576 < script.len() {
         return 1;
     }
-    if 1048576 < characters.len() {
+    let is_long = 1048576 < characters.len();
+    if is_long {
         return 1;
     }
     let mut s = State::start();

@@ -27,7 +27,8 @@ fn converted(b: u8) -> u8
 fn is_dropped(default: bool, prev: u8, c: u8) -> bool
     ensures { result ≡ is_dropped default prev c }
 {
-    if !default {
+    let is_preserved = !default;
+    if is_preserved {
         return false;
     }
     if c != 32 {

@@ -95,7 +95,8 @@ pub fn holder_of(nodes: &[u32], attributes: &[u32], a: u32, i: u32) -> u32
 {
     let mut w = i + 1;
     while w > 0 {
-        if attribute_id(nodes, attributes, w - 1, a) != 0 {
+        let is_holder = attribute_id(nodes, attributes, w - 1, a) != 0;
+        if is_holder {
             return w;
         }
         w = node_word(nodes, w - 1, word::PARENT);

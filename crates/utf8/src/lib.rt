@@ -279,7 +279,8 @@ fn begun_at(s: &[u8], a: usize) -> usize
     if 0xC0 <= s[a + 2] {
         return 1;
     }
-    if 0xE0 <= s[a + 1] {
+    let is_three = 0xE0 <= s[a + 1];
+    if is_three {
         return 2;
     }
     if 0xF0 <= s[a] {

@@ -6,15 +6,15 @@ use Rattle.utf8.proofs.begun_at.Goals as goal
 pub returns-then-s-a-ge192 : goal.returns-then-s-a-ge192
 returns-then-s-a-ge192 c = sym (begun-one _ _ _ c.if-s-a-ge192.true)
 
-pub returns-then-s-a-ge224 : goal.returns-then-s-a-ge224
-returns-then-s-a-ge224 c = sym (begun-two _ _ _ (omega (arith, c.if-s-a-ge192.false)) c.if-s-a-ge224.true)
+pub returns-then-is_three : goal.returns-then-is_three
+returns-then-is_three c = sym (begun-two _ _ _ (omega (arith, c.if-s-a-ge192.false)) c.if-is_three.true)
 
 pub returns-then-s-a-ge240 : goal.returns-then-s-a-ge240
 returns-then-s-a-ge240 c =
     sym (begun-three _ _ _ (omega (arith, c.if-s-a-ge192.false))
-    (omega (arith, c.if-s-a-ge224.false)) c.if-s-a-ge240.true)
+    (omega (arith, c.if-is_three.false)) c.if-s-a-ge240.true)
 
 pub returns : goal.returns
 returns c =
     sym (begun-none _ _ _ (omega (arith, c.if-s-a-ge192.false))
-    (omega (arith, c.if-s-a-ge224.false)) (omega (arith, c.if-s-a-ge240.false)))
+    (omega (arith, c.if-is_three.false)) (omega (arith, c.if-s-a-ge240.false)))

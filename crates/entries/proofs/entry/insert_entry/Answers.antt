@@ -11,20 +11,20 @@ returns-then-w-eq0 c =
     c.args.name _ found e
     c.if-w-eq0.true _ _ c.add_entry.ensures
 
-pub returns-then-entry_word-eq0 : goal.returns-then-entry_word-eq0
-returns-then-entry_word-eq0 c =
+pub returns-then-is_plain : goal.returns-then-is_plain
+returns-then-is_plain c =
     let e = entry_of c.args.e in
     let found = c.find_entry-w.ensures.found in
     insert-over _ _ _ c.requires
     c.args.name _ found e
     c.if-w-eq0.false
-    (sym c.entry_word.ensures ∙ c.if-entry_word-eq0.true) _
+    (sym c.entry_word-is_plain.ensures ∙ c.if-is_plain.true) _
     c.put_entry.ensures
 
-pub returns-else-entry_word-eq0 : goal.returns-else-entry_word-eq0
-returns-else-entry_word-eq0 c =
+pub returns-else-is_plain : goal.returns-else-is_plain
+returns-else-is_plain c =
     let e = entry_of c.args.e in
     let found = c.find_entry-w.ensures.found in
     insert-stands _ _ _ c.requires
     c.args.name _ found e c.if-w-eq0.false
-    (λ z. c.if-entry_word-eq0.false (c.entry_word.ensures ∙ z))
+    (λ z. c.if-is_plain.false (c.entry_word-is_plain.ensures ∙ z))

@@ -8,13 +8,13 @@ returns-then-name-eq-STYLE c = rw (eq-eqb _ _ c.if-name-eq-STYLE.true) refl
 pub returns-then-name-eq-CLASS : goal.returns-then-name-eq-CLASS
 returns-then-name-eq-CLASS c = rw (ne_eqb _ _ c.if-name-eq-STYLE.false, eq-eqb _ _ c.if-name-eq-CLASS.true) refl
 
-pub returns-then-tag-ne-TSPAN : goal.returns-then-tag-ne-TSPAN
-returns-then-tag-ne-TSPAN c = rw (
+pub returns-then-is_other : goal.returns-then-is_other
+returns-then-is_other c = rw (
   ne_eqb _ _ c.if-name-eq-STYLE.false,
   ne_eqb _ _ c.if-name-eq-CLASS.false,
   ne_eqb _ _
-      c.if-tag-ne-TSPAN.true,
+      c.if-is_other.true,
 ) refl
 
 pub returns : goal.returns
-returns c = rw (ne_eqb _ _ c.if-name-eq-STYLE.false, ne_eqb _ _ c.if-name-eq-CLASS.false, eq-eqb _ _ c.if-tag-ne-TSPAN.false) refl
+returns c = rw (ne_eqb _ _ c.if-name-eq-STYLE.false, ne_eqb _ _ c.if-name-eq-CLASS.false, eq-eqb _ _ c.if-is_other.false) refl

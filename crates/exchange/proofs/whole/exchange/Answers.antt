@@ -8,11 +8,11 @@ exchange_short-requires c =
     let grant = subst (TargetFit _ _ _ _) c.in-At.is
     c.target_of.ensures in record {
       changeable = grant.change;
-      len_bound = c.if-new-le256.true;
+      len_bound = c.if-is_short.true;
     }
 
-pub returns-then-new-le256 : goal.returns-then-new-le256
-returns-then-new-le256 c =
+pub returns-then-is_short : goal.returns-then-is_short
+returns-then-is_short c =
     let grant = subst (TargetFit _ _ _ _) c.in-At.is
     c.target_of.ensures in
     change-told _ _ _ _ _ _ _ _ grant _ _ _ _ _
@@ -30,8 +30,8 @@ returns-in-Fault c =
     c.in-Fault.is
     c.target_of.ensures) _ (c.refuse.ensures _)
 
-pub returns-else-new-le256 : goal.returns-else-new-le256
-returns-else-new-le256 c =
+pub returns-else-is_short : goal.returns-else-is_short
+returns-else-is_short c =
     let grant = subst (TargetFit _ _ _ _) c.in-At.is
     c.target_of.ensures in
     change-told _ _ _ _ _ _ _ _ grant _ _ _ _ _

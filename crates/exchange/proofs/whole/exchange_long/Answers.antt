@@ -1,10 +1,10 @@
 use Rattle.exchange.proofs.Settling.{after-put, change-made, change-refused, as_long}
 use Rattle.exchange.proofs.whole.exchange_long.Goals as goal
 
-pub returns-then-before-ne0 : goal.returns-then-before-ne0
-returns-then-before-ne0 c =
+pub returns-then-is_refused : goal.returns-then-is_refused
+returns-then-is_refused c =
     change-refused _ _ _ _ c.requires _ _ _ _ _ _ _
-    c.build_checked-before.ensures c.if-before-ne0.true
+    c.build_checked-before.ensures c.if-is_refused.true
 
 pub build_checked-requires : goal.build_checked-requires
 build_checked-requires c =
@@ -18,4 +18,4 @@ returns c =
     c.attributes-1.given
     c.text-1.given c.build_checked.ensures) _ _ _ _
     c.build_checked-before.ensures
-    c.if-before-ne0.false
+    c.if-is_refused.false

@@ -10,18 +10,18 @@ build_checked-built-requires c =
     after-put _ _ _ _ c.requires.changeable 0 0 0 _
     c.put_bytes-2.ensures
 
-pub put_bytes-requires-then-built-ne0 : goal.put_bytes-requires-then-built-ne0
-put_bytes-requires-then-built-ne0 c =
+pub put_bytes-requires-then-is_refused : goal.put_bytes-requires-then-is_refused
+put_bytes-requires-then-is_refused c =
     back-room c.args.characters.now c.args.new.now _
     c.requires.changeable.within (replicate 256 0) _ _
     c.put_bytes.ensures
     c.put_bytes-2.ensures
 
-pub returns-then-built-ne0 : goal.returns-then-built-ne0
-returns-then-built-ne0 c =
+pub returns-then-is_refused : goal.returns-then-is_refused
+returns-then-is_refused c =
     change-undone _ _ _ _ c.requires.changeable _ _ _ _ _ _ _ _
     c.put_bytes-2.ensures
-    c.build_checked-built.ensures c.if-built-ne0.true _
+    c.build_checked-built.ensures c.if-is_refused.true _
     (undone c.args.characters.now
     c.args.new.now _
     c.requires.changeable.within (replicate 256 0) _ _
@@ -32,9 +32,9 @@ returns-then-built-ne0 c =
       length-replicate {A = ℕ} 256 0,
       c.requires.len_bound,
     )) _
-    c.put_bytes-then-built-ne0.ensures)
+    c.put_bytes-then-is_refused.ensures)
 
-pub returns-else-built-ne0 : goal.returns-else-built-ne0
-returns-else-built-ne0 c =
+pub returns-else-is_refused : goal.returns-else-is_refused
+returns-else-is_refused c =
     change-stays _ _ _ _ c.requires.changeable _ _ _ _ _ _ _ _ c.put_bytes-2.ensures
-    c.build_checked-built.ensures c.if-built-ne0.false
+    c.build_checked-built.ensures c.if-is_refused.false

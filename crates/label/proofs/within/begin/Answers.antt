@@ -60,8 +60,8 @@ push-more-requires c =
     let recalled = c.requires.recalled in
     recalled.few
 
-pub returns-then-code-ne-TREF : goal.returns-then-code-ne-TREF
-returns-then-code-ne-TREF c =
+pub returns-then-is_read : goal.returns-then-is_read
+returns-then-is_read c =
     let content = content-is (element_of c.args.script.now c.args.characters.now c.args.x) (eqb c.args.s.p c.args.e) in
     let within = c.requires.within in
     let opens = c.requires.opening in
@@ -76,7 +76,7 @@ returns-then-code-ne-TREF c =
     c.in-Done.is in
     let on = goes_in _ _ _ _ _ _ _ within _ opens is _ named _ _ _ _ _ nodes told _
     c.get_xmlspace-space.ensures
-    (λ z. c.if-code-ne-TREF.true (c.code_of-code.ensures ∙ z)) in
+    (λ z. c.if-is_read.true (c.code_of-code.ensures ∙ z)) in
     (on.0, on.1, in-recalled _ _ _ _ _ _ _ within _ opens is _ named _ _ _ _ _ nodes told _ _ recalled _ _ c.push-more.ensures)
 
 pub add_quoted-requires : goal.add_quoted-requires
@@ -142,7 +142,7 @@ returns-in-Refused-add_quoted c =
     c.args.text.now) _ _
     c.in-Done.is in
     let tref = sym c.code_of-code.ensures
-    ∙ c.if-code-ne-TREF.false in
+    ∙ c.if-is_read.false in
     tref-refused _ _ _ _ _ _ _ within _ opens is _ named _ _ _ _ _ nodes told tref _
     (append-none _ _ _ _ _ c.add_quoted.ensures _
     c.in-Refused-add_quoted.is)
@@ -174,7 +174,7 @@ returns-in-Done-add_quoted c =
     c.args.text.now) _ _
     c.in-Done.is in
     let tref = sym c.code_of-code.ensures
-    ∙ c.if-code-ne-TREF.false in
+    ∙ c.if-is_read.false in
     let done = append-done _ _ _ _ _ c.add_quoted.ensures _
     c.in-Done-add_quoted.is in
     let on = goes-tref _ _ _ _ _ _ _ within _ opens is _ named _ _ _ _ _ nodes told tref _ _ _ done _

@@ -39,8 +39,8 @@ returns-then-number-e c =
       fit = tt;
     }
 
-pub returns-then-number-origin : goal.returns-then-number-origin
-returns-then-number-origin c =
+pub returns-then-is_origin : goal.returns-then-is_origin
+returns-then-is_origin c =
     record {
       same = its-origin _ _
           c.args.e _ _
@@ -48,7 +48,7 @@ returns-then-number-origin c =
           c.linked-node.ensures.same _
           c.in-At.is _
           c.has_tag_name.ensures (not-false _ c.if-not-has_tag_name.false-raw)
-          c.if-number-e.false c.if-number-origin.true;
+          c.if-number-e.false c.if-is_origin.true;
       fit = tt;
     }
 
@@ -73,7 +73,7 @@ returns-then-leads_back c =
           c.in-At.is _
           c.has_tag_name.ensures
           (not-false _ c.if-not-has_tag_name.false-raw) c.if-number-e.false
-          c.if-number-origin.false _ c.leads_back.ensures c.if-leads_back.true;
+          c.if-is_origin.false _ c.leads_back.ensures c.if-leads_back.true;
       fit = tt;
     }
 
@@ -87,7 +87,7 @@ returns-else-leads_back c =
           c.in-At.is _
           c.has_tag_name.ensures
           (not-false _ c.if-not-has_tag_name.false-raw) c.if-number-e.false
-          c.if-number-origin.false _ c.leads_back.ensures c.if-leads_back.false;
+          c.if-is_origin.false _ c.leads_back.ensures c.if-leads_back.false;
       fit = stands;
     }
 

@@ -14,8 +14,8 @@ start_of-i-requires c = c.requires
 pub loop-left-init : goal.loop-left-init
 loop-left-init c = (free-first c.args.slots.now _ _ _ c.step_of-step.ensures.same c.start_of-i.ensures.same, c.start_of-i.ensures.low)
 
-pub slot_at-requires : goal.slot_at-requires
-slot_at-requires c = c.loop-left.invariant.1
+pub slot_at-is_free-requires : goal.slot_at-is_free-requires
+slot_at-is_free-requires c = c.loop-left.invariant.1
 
 pub overflow_add-result : goal.overflow_add-result
 overflow_add-result c =
@@ -26,11 +26,11 @@ overflow_add-result c =
       c.well_formed,
     )
 
-pub returns-then-slot_at-eq0 : goal.returns-then-slot_at-eq0
-returns-then-slot_at-eq0 c =
+pub returns-then-is_free : goal.returns-then-is_free
+returns-then-is_free c =
     record {
       same = free-here _ _ _ _ _ c.loop-left.invariant.0 c.loop-left-test.true
-          (eq-eqb _ _ (sym c.slot_at.ensures.0 ∙ c.if-slot_at-eq0.true));
+          (eq-eqb _ _ (sym c.slot_at-is_free.ensures.0 ∙ c.if-is_free.true));
       low = omega (arith, c.loop-left.invariant.1);
     }
 
@@ -50,7 +50,7 @@ loop-left-smaller c = omega (arith, c.loop-left-test.true)
 pub loop-left-preserved : goal.loop-left-preserved
 loop-left-preserved c = (
   free-next _ _ _ _ _ c.loop-left.invariant.0 c.loop-left-test.true
-      (ne_eqb _ _ (λ e. c.if-slot_at-eq0.false (c.slot_at.ensures.0 ∙ e))) _ c.next_slot-i.ensures.same,
+      (ne_eqb _ _ (λ e. c.if-is_free.false (c.slot_at-is_free.ensures.0 ∙ e))) _ c.next_slot-i.ensures.same,
   c.next_slot-i.ensures.low,
 )
 

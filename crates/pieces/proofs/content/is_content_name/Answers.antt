@@ -20,14 +20,14 @@ returns-then-code-eq-TREF c = rw (
       c.if-code-eq-TREF.true,
 ) refl
 
-pub returns-then-not-direct : goal.returns-then-not-direct
+pub returns-then-is_deeper : goal.returns-then-is_deeper
 unfolding among
-returns-then-not-direct c =
+returns-then-is_deeper c =
     rw (
       ne_eqb _ _ c.if-code-eq-A.false,
       ne_eqb _ _ c.if-code-eq-TSPAN.false,
       ne_eqb _ _ c.if-code-eq-TREF.false,
-      not-true c.args.direct c.if-not-direct.true-raw,
+      c.if-is_deeper.true,
     ) refl
 
 pub returns : goal.returns
@@ -37,5 +37,5 @@ returns c =
       ne_eqb _ _ c.if-code-eq-A.false,
       ne_eqb _ _ c.if-code-eq-TSPAN.false,
       ne_eqb _ _ c.if-code-eq-TREF.false,
-      not-false c.args.direct c.if-not-direct.false-raw,
+      c.if-is_deeper.false,
     ) refl

@@ -7,10 +7,10 @@ pub returns-then-name-eq-A : goal.returns-then-name-eq-A
 unfolding among
 returns-then-name-eq-A c = rw (eq-eqb _ _ c.if-name-eq-A.true) refl
 
-pub returns-then-name-eq-TREF : goal.returns-then-name-eq-TREF
+pub returns-then-is_tref : goal.returns-then-is_tref
 unfolding among
-returns-then-name-eq-TREF c = rw (ne_eqb _ _ c.if-name-eq-A.false, eq-eqb _ _ c.if-name-eq-TREF.true) refl
+returns-then-is_tref c = rw (ne_eqb _ _ c.if-name-eq-A.false, eq-eqb _ _ c.if-is_tref.true) refl
 
 pub returns : goal.returns
 unfolding among
-returns c = rw (ne_eqb _ _ c.if-name-eq-A.false, ne_eqb _ _ c.if-name-eq-TREF.false) refl
+returns c = rw (ne_eqb _ _ c.if-name-eq-A.false, ne_eqb _ _ c.if-is_tref.false) refl

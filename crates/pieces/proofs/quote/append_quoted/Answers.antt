@@ -5,8 +5,8 @@ use Rattle.pieces.specs.Quotes.{texts_from}
 use Rattle.pieces.proofs.Quoting.{quote-none, quote-bytes, quote-fits, quote-record, record-fits, quote-added}
 use Rattle.pieces.proofs.quote.append_quoted.Goals as goal
 
-pub returns-then-total-eq0 : goal.returns-then-total-eq0
-returns-then-total-eq0 c =
+pub returns-then-is_empty : goal.returns-then-is_empty
+returns-then-is_empty c =
     quote-none c.args.nodes.now
     c.args.text.now
     c.args.characters.now
@@ -15,7 +15,7 @@ returns-then-total-eq0 c =
     c.args.p
     (texts_from c.args.script.now
     c.args.characters.now
-    c.args.from) _ c.quoted_size-total.ensures c.if-total-eq0.true
+    c.args.from) _ c.quoted_size-total.ensures c.if-is_empty.true
 
 pub overflow_sub-left : goal.overflow_sub-left
 unfolding text_room
@@ -39,7 +39,7 @@ returns-then-left-total c =
     c.args.from) _
     c.quoted_size-total.ensures
     c.requires.appendable
-    c.if-total-eq0.false _ c.text_room.ensures c.if-left-total.true
+    c.if-is_empty.false _ c.text_room.ensures c.if-left-total.true
 
 pub returns-then-node_room-counts : goal.returns-then-node_room-counts
 returns-then-node_room-counts c =
@@ -49,7 +49,7 @@ returns-then-node_room-counts c =
     (texts_from c.args.script.now c.args.characters.now c.args.from) _
     c.quoted_size-total.ensures
     c.requires.appendable
-    c.if-total-eq0.false _
+    c.if-is_empty.false _
     c.text_room.ensures c.if-left-total.false _
     c.node_room.ensures c.if-node_room-counts.true
 
@@ -63,7 +63,7 @@ put_place-end-requires c =
           c.args.p (texts_from c.args.script.now
           c.args.characters.now c.args.from) _
           c.quoted_size-total.ensures
-          c.requires.appendable c.if-total-eq0.false _
+          c.requires.appendable c.if-is_empty.false _
           c.text_room.ensures
           c.if-left-total.false;
     }
@@ -80,7 +80,7 @@ append-requires c =
     c.args.characters.now
     c.args.from) _
     c.quoted_size-total.ensures c.requires.appendable
-    c.if-total-eq0.false _
+    c.if-is_empty.false _
     c.text_room.ensures
     c.if-left-total.false _
     c.node_room.ensures
@@ -99,7 +99,7 @@ returns c =
     c.args.from) _
     c.quoted_size-total.ensures
     c.requires.appendable
-    c.if-total-eq0.false _ c.text_room.ensures
+    c.if-is_empty.false _ c.text_room.ensures
     c.if-left-total.false
     _ c.node_room.ensures
     c.if-node_room-counts.false _ _ _

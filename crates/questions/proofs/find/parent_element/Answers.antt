@@ -23,15 +23,15 @@ loop-w-init c = (
 pub overflow_sub-w : goal.overflow_sub-w
 overflow_sub-w c = omega arith
 
-pub node_word-requires : goal.node_word-requires
-node_word-requires c = omega (arith, (c.requires (c.loop-w.w - 1) (omega arith)).inside)
+pub node_word-is_named-requires : goal.node_word-is_named-requires
+node_word-is_named-requires c = omega (arith, (c.requires (c.loop-w.w - 1) (omega arith)).inside)
 
-pub returns-then-node_word-eq-ELEMENT : goal.returns-then-node_word-eq-ELEMENT
-returns-then-node_word-eq-ELEMENT c =
+pub returns-then-is_named : goal.returns-then-is_named
+returns-then-is_named c =
     record {
       found = sym (climb-step _ _ _ c.loop-w-test.true
           (λ k l. (c.requires k (omega arith)).falls)
-          ∙ rw (sym c.node_word.ensures, eq-eqb _ _ c.if-node_word-eq-ELEMENT.true)) ∙ c.loop-w.invariant.1;
+          ∙ rw (sym c.node_word-is_named.ensures, eq-eqb _ _ c.if-is_named.true)) ∙ c.loop-w.invariant.1;
       within = omega arith;
     }
 
@@ -60,7 +60,7 @@ loop-w-preserved c =
       ap (λ (n : ℕ). climb (λ k. eqb (kind_of (nodes_read nodes2) k) 2) (parent_of (nodes_read nodes2)) n n) c.node_word-w-in-loop-w.ensures
           ∙ sym (climb-step _ _ _ c.loop-w-test.true
           (λ k l. (c.requires k (omega arith)).falls)
-          ∙ rw (sym c.node_word.ensures, ne_eqb _ _ c.if-node_word-eq-ELEMENT.false)) ∙ c.loop-w.invariant.1,
+          ∙ rw (sym c.node_word-is_named.ensures, ne_eqb _ _ c.if-is_named.false)) ∙ c.loop-w.invariant.1,
     )
 
 pub returns : goal.returns

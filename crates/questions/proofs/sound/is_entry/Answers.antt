@@ -33,9 +33,9 @@ returns-then-start-lt1 c =
       lt-leb _ _ c.if-start-lt1.true,
     )
 
-pub returns-then-start-gt18 : goal.returns-then-start-gt18
+pub returns-then-is_unknown : goal.returns-then-is_unknown
 unfolding entry_at
-returns-then-start-gt18 c =
+returns-then-is_unknown c =
     rw (
       sym c.entry_word.ensures,
       passes c.is_attribute.ensures c.if-not-is_attribute.false-raw,
@@ -44,7 +44,7 @@ returns-then-start-gt18 c =
       sym c.entry_word-2.ensures,
       eq-eqb _ _ c.if-entry_word-ne0.false,
       le-leb _ _ c.if-start-lt1.false,
-      lt-leb _ _ c.if-start-gt18.true,
+      lt-leb _ _ c.if-is_unknown.true,
     )
 
 pub returns : goal.returns
@@ -58,5 +58,5 @@ returns c =
       sym c.entry_word-2.ensures,
       eq-eqb _ _ c.if-entry_word-ne0.false,
       le-leb _ _ c.if-start-lt1.false,
-      le-leb _ _ c.if-start-gt18.false,
+      le-leb _ _ c.if-is_unknown.false,
     )

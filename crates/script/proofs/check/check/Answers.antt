@@ -7,12 +7,12 @@ use Rattle.script.proofs.check.check.Goals as goal
 pub returns-then-script-gt1048576 : goal.returns-then-script-gt1048576
 returns-then-script-gt1048576 c = too_long _ _ c.if-script-gt1048576.true
 
-pub returns-then-characters-gt1048576 : goal.returns-then-characters-gt1048576
-returns-then-characters-gt1048576 c = too_many _ _ c.if-script-gt1048576.false c.if-characters-gt1048576.true
+pub returns-then-is_long : goal.returns-then-is_long
+returns-then-is_long c = too_many _ _ c.if-script-gt1048576.false c.if-is_long.true
 
 pub loop-next-init : goal.loop-next-init
 loop-next-init c =
-    checking _ _ _ _ c.if-script-gt1048576.false c.if-characters-gt1048576.false c.start-s.ensures
+    checking _ _ _ _ c.if-script-gt1048576.false c.if-is_long.false c.start-s.ensures
     c.start-c.ensures
 
 pub advance-requires : goal.advance-requires

@@ -10,30 +10,30 @@ pub returns-then-is_half_font : goal.returns-then-is_half_font
 unfolding tests_at_end
 returns-then-is_half_font c = λ ks h. hit _ _ (sym (c.is_half_font.ensures ks h) ∙ c.if-is_half_font.true)
 
-pub returns-then-depth-ge1 : goal.returns-then-depth-ge1
+pub returns-then-is_open : goal.returns-then-is_open
 unfolding tests_at_end
-returns-then-depth-ge1 c =
+returns-then-is_open c =
     λ ks h. over _ _ _ (sym (c.is_half_font.ensures ks h) ∙ c.if-is_half_font.false)
-    (hit _ _ (rw (le-leb _ _ c.if-depth-ge1.true)))
+    (hit _ _ (rw (le-leb _ _ c.if-is_open.true)))
 
-pub returns-then-at-characters : goal.returns-then-at-characters
+pub returns-then-is_more : goal.returns-then-is_more
 unfolding tests_at_end
-returns-then-at-characters c =
+returns-then-is_more c =
     λ ks h. over _ _ _
     (sym (c.is_half_font.ensures ks h) ∙ c.if-is_half_font.false)
-    (over _ _ _ (rw (lt-leb _ _ c.if-depth-ge1.false) (ap not c.if-begun.true))
-    (hit _ _ (lt-ltb _ _ c.if-at-characters.true)))
+    (over _ _ _ (rw (lt-leb _ _ c.if-is_open.false) (ap not c.if-begun.true))
+    (hit _ _ (lt-ltb _ _ c.if-is_more.true)))
 
 pub returns-then-begun : goal.returns-then-begun
 unfolding tests_at_end
 returns-then-begun c =
     λ ks h. over _ _ _
     (sym (c.is_half_font.ensures ks h) ∙ c.if-is_half_font.false)
-    (over _ _ _ (rw (lt-leb _ _ c.if-depth-ge1.false) (ap not c.if-begun.true))
-    (over _ _ _ (le-ltb _ _ c.if-at-characters.false) passed))
+    (over _ _ _ (rw (lt-leb _ _ c.if-is_open.false) (ap not c.if-begun.true))
+    (over _ _ _ (le-ltb _ _ c.if-is_more.false) passed))
 
 pub returns : goal.returns
 unfolding tests_at_end
 returns c =
     λ ks h. over _ _ _ (sym (c.is_half_font.ensures ks h) ∙ c.if-is_half_font.false)
-    (hit _ _ (rw (lt-leb _ _ c.if-depth-ge1.false) (ap not c.if-begun.false)))
+    (hit _ _ (rw (lt-leb _ _ c.if-is_open.false) (ap not c.if-begun.false)))

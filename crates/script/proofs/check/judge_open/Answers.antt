@@ -30,14 +30,14 @@ returns-then-is_second c =
       λ e. omega arith,
     )
 
-pub returns-then-depth-ge2048 : goal.returns-then-depth-ge2048
+pub returns-then-is_deep : goal.returns-then-is_deep
 unfolding tests_of
-returns-then-depth-ge2048 c =
+returns-then-is_deep c =
     λ chars at ks h. (
       over _ _ _ (sym (c.is_half_font.ensures ks h)
           ∙ c.if-is_half_font.false)
           (over _ _ _ (sym c.is_bad_open.ensures ∙ c.if-is_bad_open.false)
-          (over _ _ _ (sym c.is_second.ensures ∙ c.if-is_second.false) (hit _ _ (le-leb _ _ c.if-depth-ge2048.true)))),
+          (over _ _ _ (sym c.is_second.ensures ∙ c.if-is_second.false) (hit _ _ (le-leb _ _ c.if-is_deep.true)))),
       λ e. omega arith,
     )
 
@@ -49,4 +49,4 @@ returns c =
     ∙ c.if-is_half_font.false)
     (over _ _ _ (sym c.is_bad_open.ensures ∙ c.if-is_bad_open.false)
     (over _ _ _ (sym c.is_second.ensures ∙ c.if-is_second.false)
-    (over _ _ _ (lt-leb _ _ c.if-depth-ge2048.false) passed))))
+    (over _ _ _ (lt-leb _ _ c.if-is_deep.false) passed))))

@@ -16,15 +16,15 @@ loop-w-init c = (omega arith, sym (holder-climbs _ _ _ _))
 pub overflow_sub-w : goal.overflow_sub-w
 overflow_sub-w c = omega arith
 
-pub attribute_id-requires : goal.attribute_id-requires
-attribute_id-requires c = c.requires.readable (c.loop-w.w - 1) (omega arith)
+pub attribute_id-is_holder-requires : goal.attribute_id-is_holder-requires
+attribute_id-is_holder-requires c = c.requires.readable (c.loop-w.w - 1) (omega arith)
 
-pub returns-then-attribute_id-ne0 : goal.returns-then-attribute_id-ne0
-returns-then-attribute_id-ne0 c =
+pub returns-then-is_holder : goal.returns-then-is_holder
+returns-then-is_holder c =
     record {
       found = sym (climb-step _ _ _ c.loop-w-test.true
           (λ k l. (c.requires.placed k (omega arith)).falls)
-          ∙ rw (has c.attribute_id.ensures.found c.if-attribute_id-ne0.true)) ∙ c.loop-w.invariant.1;
+          ∙ rw (has c.attribute_id-is_holder.ensures.found c.if-is_holder.true)) ∙ c.loop-w.invariant.1;
       within = omega arith;
     }
 
@@ -55,7 +55,7 @@ loop-w-preserved c =
       ap (λ (n : ℕ). climb (λ k. has_attribute read k args.a) (parent_of read) n n) c.node_word-w.ensures
           ∙ sym (climb-step _ _ _ c.loop-w-test.true
           (λ k l. (c.requires.placed k (omega arith)).falls)
-          ∙ rw (has-not c.attribute_id.ensures.found c.if-attribute_id-ne0.false)) ∙ c.loop-w.invariant.1,
+          ∙ rw (has-not c.attribute_id-is_holder.ensures.found c.if-is_holder.false)) ∙ c.loop-w.invariant.1,
     )
 
 pub returns : goal.returns
