@@ -171,7 +171,8 @@ cases =
     -- * tref to an element holding "ab": text "ab".
     record {
       drawing =
-          svg (el EId.Text (el EId.Tref (attr_in 2 AId.Href "#b" ∷ read 1 1 1 ∷ []) ∷ []) ∷ el EId.G (attr AId.Id "b" ∷ say "ab" ∷ []) ∷ []);
+          svg (el EId.Text (el EId.Tref (attr_in 2 AId.Href "#b" ∷ read 1 1 1 ∷ []) ∷ []) ∷
+          el EId.G (attr AId.Id "b" ∷ say "ab" ∷ []) ∷ []);
       look = texts;
       wanted = ascii "ab" ∷ [];
     } ∷
@@ -243,11 +244,13 @@ use_each_other = svg (el EId.G (attr AId.Id "a" ∷ use_of 1 "b" ∷ []) ∷ el 
 
 -- Whoever unfolds this unfolds every definition, so that a drawing is computed.
 unfoldable pub computed : Unit {0}
-unfolding ascii joined_pieces seen_from same_lists comes_out all_come_out cases nested number_within comment_at uses_itself use_each_other Base.among
+unfolding ascii joined_pieces seen_from same_lists comes_out all_come_out cases nested number_within comment_at uses_itself use_each_other
+    Base.among
     Base.same_bytes Base.among_words
     Base.paired_with Names.is_element Names.is_attribute Names.is_presentation Names.is_non_inheritable Names.allows_inherit_value
     Names.is_possible_none Names.is_declared_only Names.is_inheritable Names.inherit_defaults Names.inherit_default Names.font_resets
-    Names.fixed_values Names.fixed_bytes Names.image_rendering_words Utf8.well_formed Utf8.begins Utf8.sequence_of Utf8.is_utf8_from Utf8.is_utf8
+    Names.fixed_values Names.fixed_bytes Names.image_rendering_words Utf8.well_formed Utf8.begins Utf8.sequence_of Utf8.is_utf8_from
+    Utf8.is_utf8
     Utf8.code_point Utf8.white_spaces Utf8.is_within_any Utf8.is_blank_from Utf8.is_blank Drawing.operands Drawing.word_at Drawing.whole
     Drawing.command Drawing.commands_from Drawing.commands Drawing.part_at Drawing.readings_at Drawing.value_at Drawing.attributes_at
     Drawing.declarations_at Drawing.element_at Drawing.events_from Drawing.events Drawing.children_from Drawing.texts_in Drawing.uses_in
@@ -255,15 +258,19 @@ unfolding ascii joined_pieces seen_from same_lists comes_out all_come_out cases 
     Drawing.quoted Drawing.leads_back Drawing.use_target Drawing.text_numbered Drawing.is_in_style Drawing.values_in Drawing.readings_of
     Check.starting Check.first_of Check.is_half_font Check.tests_of Check.tests_at_end Check.stepped Check.check_from Check.check
     Tables.next_linked Tables.first_linked Tables.linked Tables.appended Tables.entries_words Tables.entry_at Tables.value_of
-    Tables.find_entry Tables.attribute_id Tables.attribute_of Tables.holder_from Tables.has_id_bytes Tables.last_with_id Tables.element_by_id
+    Tables.find_entry Tables.attribute_id Tables.attribute_of Tables.holder_from Tables.has_id_bytes Tables.last_with_id
+    Tables.element_by_id
     Tables.node_room Tables.attribute_room Tables.text_room Tables.cleared Tables.rooted Tables.add_element Tables.add_text Tables.text_of
-    Tables.set_text Tables.set_none Element.inherited_from Element.resolve_inherit Element.append_attribute Element.is_taken Element.has_entry
+    Tables.set_text Tables.set_none Element.inherited_from Element.resolve_inherit Element.append_attribute Element.is_taken
+    Element.has_entry
     Element.on_first Element.add_attribute Element.insert_entry Element.font_parts Element.write_declaration Element.entries_of
     Element.parse_svg_element Text.get_xmlspace Text.space_of Text.converted Text.trim_text_after Text.trim_text Text.total_size Text.joined
-    Text.append_text Text.cut_text Text.run Text.depth_below Text.text_nodes Text.own_text_nodes Text.pairs Text.trimming Text.trim_text_nodes
+    Text.append_text Text.cut_text Text.run Text.depth_below Text.text_nodes Text.own_text_nodes Text.pairs Text.trimming
+    Text.trim_text_nodes
     Repair.up_from Repair.all_named Repair.below_from Repair.descendants Repair.first_found Repair.readings_of_attribute Repair.element_id
     Repair.paints_with Repair.node_attribute Repair.recursive_pattern_at Repair.find_recursive_pattern Repair.recursive_link_at
-    Repair.find_recursive_link Repair.any_reading Repair.recursive_fe_image Repair.fe_image_links Repair.cut_name Repair.cut_at Repair.apply_cut
+    Repair.find_recursive_link Repair.any_reading Repair.recursive_fe_image Repair.fe_image_links Repair.cut_name Repair.cut_at
+    Repair.apply_cut
     Repair.applied Repair.next_cut Repair.cuts_from Repair.cuts_of Repair.cuts_of_all Repair.repairs Repair.repaired Build.with_root
     Build.parsed Build.first_is_svg Build.tested Build.parse_tree Build.build Build.exchanged Build.exchange_fault Build.changed
     Build.exchange

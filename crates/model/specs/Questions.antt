@@ -4,7 +4,8 @@ use Rattle.std.specs.Prelude.{ℕ, zero, suc, ◌+◌, ◌-◌, ◌*◌, Bool, t
 use Rattle.model.specs.Base.{pick, and, or}
 use Rattle.model.specs.Names.{is_element, is_attribute, is_inheritable}
 use Rattle.model.specs.Check.{◌if◌, first_of}
-use Rattle.model.specs.Tables.{Tree, ROOT, ELEMENT, TEXT, kind_of, parent_of, next_sibling_of, first_child_of, last_child_of, code_of, from_of}
+use Rattle.model.specs.Tables.{Tree, ROOT, ELEMENT, TEXT, kind_of, parent_of, next_sibling_of, first_child_of, last_child_of, code_of}
+use Rattle.model.specs.Tables.{from_of}
 use Rattle.model.specs.Tables.{to_of, Entry, entry_at, has_attribute, attribute_of, holder_of, element_by_id}
 
 -- THE 40 TEST
@@ -75,7 +76,8 @@ pub record Answer : Type 0 where
 
 -- The answer from an index plus 1, 0 for none.
 abbrev pub answer_of : ℕ → Answer
-answer_of w = pick (eqb w 0) (λ u. record { number = 0; found = false; index = 0 }) (λ u. record { number = 0; found = true; index = w - 1 })
+answer_of w = pick (eqb w 0) (λ u. record { number = 0; found = false; index = 0 })
+    (λ u. record { number = 0; found = true; index = w - 1 })
 
 -- 40, 41 and 42, in that order.
 unfoldable pub question_fault : List ℕ → Tree → ℕ → ℕ → ℕ

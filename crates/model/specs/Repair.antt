@@ -95,7 +95,8 @@ module _ (chars : List ℕ) (values : List Value) where
 
   -- `find_recursive_link`: what the first element of that name, and below it the first node, that gives anything gives.
   unfoldable pub find_recursive_link : ℕ → ℕ → Tree → ℕ
-  find_recursive_link c a t = first_found (λ i. first_found (recursive_link_at t a i) (descendants t i)) (all_named t c (up_from 0 t.node_count))
+  find_recursive_link c a t = first_found (λ i. first_found (recursive_link_at t a i) (descendants t i))
+      (all_named t c (up_from 0 t.node_count))
 
   -- `fix_recursive_fe_image`: the node that the feImage i leads to, as its index plus 1, where one of that node's filters leads to
   -- i's parent; 0 for none.

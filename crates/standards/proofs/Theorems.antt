@@ -1,5 +1,6 @@
 -- What is proved of the definitions of `model` from the standards' sentences. Nothing here needs to be believed: it is checked.
 pub mod Spaces
+pub mod Newlines
 pub mod Sequences
 pub mod Trimmings
 pub mod Shaved

@@ -2,3 +2,4 @@ pub mod SvgSpace
 pub mod SvgHref
 pub mod CssCascade
 pub mod SvgProperties
+pub mod Theorems

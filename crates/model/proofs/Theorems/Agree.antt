@@ -1,6 +1,7 @@
 -- Lists of numbers that agree at the places where P asks: laws of writing and reading.
 use Rattle.std.specs.Prelude.{ℕ, zero, suc, ◌+◌, ◌≤◌, ◌<◌, ◌≡◌, refl, ◌⊎◌, List, [], ◌∷◌, length, get_or, set, take}
-use Rattle.std.proofs.Common.{sym, ap, ◌∙◌, inl, inr, arith, add-zero, add-suc, suc-add, length-set, length-take, length-drop, get_or-set_same, get_or-set_other, ext_get_or, get_or-take, get_or-drop}
+use Rattle.std.proofs.Common.{sym, ap, ◌∙◌, inl, inr, arith, add-zero, add-suc, suc-add, length-set, length-take, length-drop}
+use Rattle.std.proofs.Common.{get_or-set_same, get_or-set_other, ext_get_or, get_or-take, get_or-drop}
 use Rattle.std.proofs.Math.Decide.{ℕ_discrete, dec_lt}
 use Rattle.std.proofs.lemmas.List.Edits.{sets}
 use Rattle.std.proofs.Math.Seq.{slice, set_out}

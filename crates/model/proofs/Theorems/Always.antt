@@ -10,7 +10,8 @@ use Rattle.model.specs.Drawing.{Element, Source, Event, begin, text, other, clos
 use Rattle.model.specs.Drawing.{values_in}
 use Rattle.model.specs.Tables.{Tree, Out, refused, done, then, node_room, attribute_room, text_room, cleared, rooted, text_of}
 use Rattle.model.specs.Element.{entries_of, most_nodes, parse_svg_element}
-use Rattle.model.specs.Text.{total_size, space_of, trim_text, joined, append_text, Trimming, stop, look, cut, cut_text, run, trim_text_nodes}
+use Rattle.model.specs.Text.{total_size, space_of, trim_text, joined, append_text, Trimming, stop, look, cut, cut_text, run}
+use Rattle.model.specs.Text.{trim_text_nodes}
 use Rattle.model.specs.Parse.{Ops, Builder, each, refuse, tag_of, text_tag_of, is_text_content, quote, inside, label, copy, level, node}
 use Rattle.model.specs.Parse.{plain}
 use Rattle.model.specs.Repair.{Cut, cut_entry, apply_cut, applied, repairs, repaired}
@@ -143,7 +144,8 @@ module _ (chars : List ℕ) (base : Tree) where
   text-lent e from p t h =
       always-pick AsLent (leb (t.text_count + total_size from) (text_room t)) _ _
       (always-pick AsLent (ltb t.node_count (node_room t)) _ _
-      (lengths-then _ t base (text-lengths (trim_text (space_of chars t p) (joined chars from)) (total_size from) p t) h) (λ x. omega arith))
+      (lengths-then _ t base (text-lengths (trim_text (space_of chars t p) (joined chars from)) (total_size from) p t) h)
+      (λ x. omega arith))
       (λ x. omega arith)
 
   finish-lent : (e : ℕ) (t : Tree) → AsLent t → AsLent ((plain chars).finish e t)

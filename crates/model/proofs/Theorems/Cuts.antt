@@ -11,7 +11,8 @@ use Rattle.model.specs.Base.{pick, and, same_bytes}
 use Rattle.model.specs.Names.{is_possible_none, fixed_bytes}
 use Rattle.model.specs.AId
 use Rattle.model.specs.Drawing.{Reading, Value, readings_of}
-use Rattle.model.specs.Tables.{Tree, ELEMENT, kind_of, from_of, to_of, entry_word, entry_at, value_of, find_entry, attribute_id, attribute_of}
+use Rattle.model.specs.Tables.{Tree, ELEMENT, kind_of, from_of, to_of, entry_word, entry_at, value_of, find_entry, attribute_id}
+use Rattle.model.specs.Tables.{attribute_of}
 use Rattle.model.specs.Tables.{value_at_entry, has_id_bytes, last_with_id, element_by_id, set_none}
 use Rattle.model.specs.Repair.{element_id, readings_of_attribute}
 use Rattle.model.proofs.Theorems.Agree.{sets-out}
@@ -115,13 +116,17 @@ attribute-there chars t j b z = go (eqb (attribute_id t j b) 0) refl z
         (λ u. pick (and (is_possible_none b) (same_bytes (value_at_entry chars t (attribute_id t j b)) (fixed_bytes 1))) (λ v. 0)
         (λ v. attribute_id t j b))
 
-    inner : (c : Bool) → (pick c (λ v. 0) (λ v. attribute_id t j b) ≡ 0 → ⊥) → pick c (λ v. 0) (λ v. attribute_id t j b) ≡ attribute_id t j b
+    inner : (c : Bool) → (pick c (λ v. 0) (λ v. attribute_id t j b) ≡ 0 → ⊥) → pick c (λ v. 0) (λ v. attribute_id t j b)
+        ≡ attribute_id t j b
     inner true y = absurd (y refl)
     inner false y = refl
 
     go : (c : Bool) → eqb (attribute_id t j b) 0 ≡ c → (read c ≡ 0 → ⊥) → (read c ≡ attribute_id t j b) × (attribute_id t j b ≡ 0 → ⊥)
     go true e y = absurd (y refl)
-    go false e y = (inner (and (is_possible_none b) (same_bytes (value_at_entry chars t (attribute_id t j b)) (fixed_bytes 1))) y, eqb-false _ 0 e)
+    go false e y = (
+      inner (and (is_possible_none b) (same_bytes (value_at_entry chars t (attribute_id t j b)) (fixed_bytes 1))) y,
+      eqb-false _ 0 e,
+    )
 
 -- The attribute a of node i is cut.
 module _ (size : ℕ) (chars : List ℕ) (values : List Value) (bare : readings_of 0 values ≡ []) (t : Tree) (k : Tidy size t) (i a : ℕ)
@@ -155,12 +160,14 @@ module _ (size : ℕ) (chars : List ℕ) (values : List Value) (bare : readings_
       go (no e) = ap (λ (v : List ℕ). pick (eqb (attribute_id t j b) 0) (λ x. 0)
           (λ x. pick (and (is_possible_none b) (same_bytes v (fixed_bytes 1))) (λ y. 0) (λ y. attribute_id t j b))) (value-kept j b e d)
 
-  pub readings-kept : (j b : ℕ) → (j ≡ i → b ≡ a → ⊥) → readings_of_attribute chars values after b j ≡ readings_of_attribute chars values t b j
+  pub readings-kept : (j b : ℕ) → (j ≡ i → b ≡ a → ⊥) → readings_of_attribute chars values after b j
+      ≡ readings_of_attribute chars values t b j
   unfolding readings_of_attribute
   readings-kept j b d = rw (attribute-kept j b d) (go (ℕ_discrete (attribute_of chars t j b) 0))
     where
       read : Tree → List Reading
-      read u = pick (eqb (attribute_of chars t j b) 0) (λ x. []) (λ x. readings_of (entry_at u (attribute_of chars t j b - 1)).command values)
+      read u = pick (eqb (attribute_of chars t j b) 0) (λ x. [])
+          (λ x. readings_of (entry_at u (attribute_of chars t j b - 1)).command values)
 
       go : Dec (attribute_of chars t j b ≡ 0) → read after ≡ read t
       go (yes e) = rw (eq-eqb _ 0 e) refl
@@ -180,11 +187,13 @@ module _ (size : ℕ) (chars : List ℕ) (values : List Value) (bare : readings_
           (omega (arith, attribute-any size t k.kept k.unused i a h, k.kept.fits.entries)))
 
       go : Dec (attribute_of chars after i a ≡ 0) →
-          pick (eqb (attribute_of chars after i a) 0) (λ u. []) (λ u. readings_of (entry_at after (attribute_of chars after i a - 1)).command
+          pick (eqb (attribute_of chars after i a) 0) (λ u. [])
+          (λ u. readings_of (entry_at after (attribute_of chars after i a - 1)).command
           values) ≡ []
       go (yes e) = rw (eq-eqb _ 0 e) refl
       go (no e) =
-          let f : attribute_of chars after i a ≡ attribute_id t i a = (attribute-there chars after i a e).0 ∙ id_same (attribute_id t i a - 1)
+          let f : attribute_of chars after i a ≡ attribute_id t i a =
+          (attribute-there chars after i a e).0 ∙ id_same (attribute_id t i a - 1)
           t i a in
           rw (ne_eqb _ 0 e, f, fixed) bare
 

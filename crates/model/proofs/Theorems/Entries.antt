@@ -174,7 +174,8 @@ module _ (P : Entry → Type 0) (Q : Part → ℕ → Type 0) (k : Closed P Q) w
     resolved a x = go (inherited_from t p a) (from_low a)
       where
         last : IfAny (default_of t p a (inherit_default a))
-        last = if-pick (eqb (inherit_default a) 0) _ _ (λ b. tt) (λ b. k.fixed a 0 (inherit_default a) x (default-fixed a (eqb-false _ 0 b)))
+        last = if-pick (eqb (inherit_default a) 0) _ _ (λ b. tt)
+            (λ b. k.fixed a 0 (inherit_default a) x (default-fixed a (eqb-false _ 0 b)))
 
         copied : (w : ℕ) → w ≤ p + 1 → (b : Bool) → eqb w 0 ≡ b →
             IfAny (given (let j : ℕ = pick b (λ u. 0) (λ u. attribute_id t (w - 1) a) in

@@ -22,7 +22,8 @@ use Rattle.model.proofs.Theorems.Entries.{absurd-bool, none-others, none-entry}
 use Rattle.model.specs.Theorems.Kept.{Tidy}
 use Rattle.model.proofs.Theorems.Kept.{tidy-none, attribute-any}
 use Rattle.model.proofs.Theorems.Cuts.{attribute-there, readings-kept, readings-gone, by-id-kept, element-id-kept}
-use Rattle.model.specs.Theorems.GoingOn.{passing, Without, with_each, pairs_of, element_of, leads_to, target_of, nodes_at, cuts_along, going_on, pass_pairs}
+use Rattle.model.specs.Theorems.GoingOn.{passing, Without, with_each, pairs_of, element_of, leads_to, target_of, nodes_at, cuts_along}
+use Rattle.model.specs.Theorems.GoingOn.{going_on, pass_pairs}
 
 -- SEARCHES IN RISING LISTS
 
@@ -190,7 +191,8 @@ count_less f g m zero w e l = absurd (omega arith)
 count_less f g m (suc n) w e l = go (ℕ_discrete n m) (λ d. count_less f g m n w e d)
   where
     go : Dec (n ≡ m) → (m < n → suc (count_below g n) ≡ count_below f n) →
-        suc (pick (g n) (λ u. suc (count_below g n)) (λ u. count_below g n)) ≡ pick (f n) (λ u. suc (count_below f n)) (λ u. count_below f n)
+        suc (pick (g n) (λ u. suc (count_below g n)) (λ u. count_below g n))
+        ≡ pick (f n) (λ u. suc (count_below f n)) (λ u. count_below f n)
     go (yes d) r = rw (d, w.gone, e) (ap suc (count_same f g m (λ x l. w.others x (λ z. omega arith))))
     go (no d) r = rw (w.others n d) (inner (f n) (r (omega arith)))
       where
@@ -212,10 +214,12 @@ live t = count_below (is_live t) t.attribute_count
 module _ (chars : List ℕ) (values : List Value) (k : ℕ) where
   -- What the node j below the element i gives, as its index plus 1: itself, or the first below where it leads that leads back.
   abbrev pub found_at : Tree → ℕ → ℕ → ℕ
-  found_at t i j = pick (leads_to chars values k t i j) (λ u. j + 1) (λ u. first_below t (leads_to chars values k t i) (target_of chars values k t j))
+  found_at t i j = pick (leads_to chars values k t i j) (λ u. j + 1)
+      (λ u. first_below t (leads_to chars values k t i) (target_of chars values k t j))
 
   -- next_cut is the search of a pair.
-  leads-pattern : leb k 2 ≡ true → (t : Tree) (i : ℕ) → leads_to chars values k t i ≡ paints_with chars values t (cut_name k) (element_id chars t i)
+  leads-pattern : leb k 2 ≡ true → (t : Tree) (i : ℕ) → leads_to chars values k t i
+      ≡ paints_with chars values t (cut_name k) (element_id chars t i)
   unfolding leads_to
   leads-pattern e t i = fun_ext (λ m. rw e refl)
 
@@ -224,7 +228,8 @@ module _ (chars : List ℕ) (values : List Value) (k : ℕ) where
   unfolding target_of
   target-pattern e t j = rw e refl
 
-  leads-link : leb k 2 ≡ false → (t : Tree) (i : ℕ) → leads_to chars values k t i ≡ (λ m. eqb (node_attribute chars values t (cut_name k) m) (i + 1))
+  leads-link : leb k 2 ≡ false → (t : Tree) (i : ℕ) → leads_to chars values k t i
+      ≡ (λ m. eqb (node_attribute chars values t (cut_name k) m) (i + 1))
   unfolding leads_to
   leads-link e t i = fun_ext (λ m. rw e refl)
 
@@ -239,7 +244,8 @@ module _ (chars : List ℕ) (values : List Value) (k : ℕ) where
   pattern-found : (t : Tree) (i j : ℕ) → leb k 2 ≡ true → recursive_pattern_at chars values t (cut_name k) (element_id chars t i) j
       ≡ found_at t i j
   unfolding recursive_pattern_at paints_with
-  pattern-found t i j e = go (link_of chars values 3 t (cut_name k) j) ∙ sym (λ x. shape t j (leads-pattern e t i x) (target-pattern e t j x))
+  pattern-found t i j e = go (link_of chars values 3 t (cut_name k) j)
+      ∙ sym (λ x. shape t j (leads-pattern e t i x) (target-pattern e t j x))
     where
       go : (o : Option Part) →
           given o (λ v. pick (same_bytes v.bytes (element_id chars t i)) (λ u. j + 1)
@@ -478,7 +484,8 @@ module _ (chars : List ℕ) (values : List Value) (bare : readings_of 0 values �
 
 -- THE PASS, GOING ON
 
-module _ (size : ℕ) (chars : List ℕ) (values : List Value) (bare : readings_of 0 values ≡ []) (k : ℕ) (other : cut_name k ≡ AId.Id → ⊥) where
+module _ (size : ℕ) (chars : List ℕ) (values : List Value) (bare : readings_of 0 values ≡ []) (k : ℕ)
+    (other : cut_name k ≡ AId.Id → ⊥) where
   abbrev found : Tree → ℕ → ℕ → ℕ
   found t = found_at chars values k t
 

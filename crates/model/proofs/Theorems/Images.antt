@@ -13,7 +13,8 @@ use Rattle.model.specs.AId
 use Rattle.model.specs.Drawing.{Reading, Value, Attribute, Declaration, Event, begin, text, other, close, readings_of, reading_of}
 use Rattle.model.specs.Drawing.{values_in}
 use Rattle.model.specs.Tables.{Tree, Entry, parent_of, entry_at, attribute_id, element_by_id, set_none}
-use Rattle.model.specs.Repair.{up_from, all_named, any_reading, element_id, readings_of_attribute, link_of, node_attribute, recursive_fe_image}
+use Rattle.model.specs.Repair.{up_from, all_named, any_reading, element_id, readings_of_attribute, link_of, node_attribute}
+use Rattle.model.specs.Repair.{recursive_fe_image}
 use Rattle.model.specs.Repair.{fe_image_links, Cut, cut_name, cut_at, apply_cut, applied, cuts_of, cuts_of_all, repairs}
 use Rattle.model.specs.Theorems.Sim.{Every, Events}
 use Rattle.model.proofs.Theorems.Entries.{absurd-bool}
@@ -62,7 +63,8 @@ module _ (size : ℕ) (chars : List ℕ) (values : List Value) (bare : readings_
 
       shape : recursive_fe_image chars values t i ≡ gives w id (readings t)
       shape =
-          ap (λ (x : ℕ). gives x (element_id chars t (parent_of t i - 1)) (readings_of_attribute chars values t AId.Filter (x - 1))) (s.href i)
+          ap (λ (x : ℕ). gives x (element_id chars t (parent_of t i - 1)) (readings_of_attribute chars values t AId.Filter (x - 1)))
+          (s.href i)
           ∙ ap (λ (x : List ℕ). gives w x (readings t))
           (s.id (parent_of t i - 1) ∙ ap (λ (ns : List ℕ). element_id chars o (get_or ns (8 * i + 1) 0 - 1)) s.nodes)
 
@@ -192,7 +194,8 @@ module _ (size : ℕ) (chars : List ℕ) (values : List Value) (bare : readings_
           let next = r _ (x ∷ found) (since-cut t found s x e w.entry) in
           let left : map (cut_at o 6) (fe_image_links chars values o found (i ∷ is))
           ≡ cut_at o 6 (x - 1) ∷ map (cut_at o 6) (fe_image_links chars values o (x ∷ found) is) = rw (ne_eqb x 0 e, a) refl in
-          let right : cut_at t 6 (x - 1) ∷ images_on chars values (apply_cut t (cut_at t 6 (x - 1))) is ≡ images_on chars values t (i ∷ is) =
+          let right : cut_at t 6 (x - 1) ∷ images_on chars values (apply_cut t (cut_at t 6 (x - 1))) is
+          ≡ images_on chars values t (i ∷ is) =
           rw (y, ne_eqb x 0 e) refl in
           left
           ∙ ap (λ (l : List Cut). cut_at o 6 (x - 1) ∷ l) (next ∙ ap (λ (u : Tree). images_on chars values u is) (sym c))

@@ -68,11 +68,16 @@ bounded chars size s (reading k o l ∷ cs) h =
     let b = first-drop 3 _ _ a.1 in
     let d = first-drop 5 _ _ b.1 in
     (ltb-false _ _ d.0, bounded chars size (stepped chars size s (reading k o l)) cs c.1)
-bounded chars size s (attribute a n l ∷ cs) h = bounded chars size (stepped chars size s (attribute a n l)) cs (check-cons chars size s (attribute a n l) cs h).1
-bounded chars size s (declaration a i l ∷ cs) h = bounded chars size (stepped chars size s (declaration a i l)) cs (check-cons chars size s (declaration a i l) cs h).1
-bounded chars size s (opening c n ∷ cs) h = bounded chars size (stepped chars size s (opening c n)) cs (check-cons chars size s (opening c n) cs h).1
-bounded chars size s (Command.text l ∷ cs) h = bounded chars size (stepped chars size s (Command.text l)) cs (check-cons chars size s (Command.text l) cs h).1
-bounded chars size s (Command.other ∷ cs) h = bounded chars size (stepped chars size s Command.other) cs (check-cons chars size s Command.other cs h).1
+bounded chars size s (attribute a n l ∷ cs) h =
+    bounded chars size (stepped chars size s (attribute a n l)) cs (check-cons chars size s (attribute a n l) cs h).1
+bounded chars size s (declaration a i l ∷ cs) h =
+    bounded chars size (stepped chars size s (declaration a i l)) cs (check-cons chars size s (declaration a i l) cs h).1
+bounded chars size s (opening c n ∷ cs) h =
+    bounded chars size (stepped chars size s (opening c n)) cs (check-cons chars size s (opening c n) cs h).1
+bounded chars size s (Command.text l ∷ cs) h =
+    bounded chars size (stepped chars size s (Command.text l)) cs (check-cons chars size s (Command.text l) cs h).1
+bounded chars size s (Command.other ∷ cs) h =
+    bounded chars size (stepped chars size s Command.other) cs (check-cons chars size s Command.other cs h).1
 bounded chars size s (closing ∷ cs) h = bounded chars size (stepped chars size s closing) cs (check-cons chars size s closing cs h).1
 bounded chars size s (broken b ∷ cs) h = tt
 
@@ -97,7 +102,8 @@ Ending size at (broken b ∷ cs) = Unit {0}
 ending : (chars : List ℕ) (size : ℕ) (s : State) (cs : List Command) → check_from chars size s cs ≡ 0 → Ending size s.at cs
 unfolding tests_of stepped
 ending chars size s [] h = tt
-ending chars size s (reading k o l ∷ cs) h = ending chars size (stepped chars size s (reading k o l)) cs (check-cons chars size s (reading k o l) cs h).1
+ending chars size s (reading k o l ∷ cs) h =
+    ending chars size (stepped chars size s (reading k o l)) cs (check-cons chars size s (reading k o l) cs h).1
 ending chars size s (attribute a n l ∷ cs) h =
     let c = check-cons chars size s (attribute a n l) cs h in (
       string-within chars size s.at l (first-drop 3 _ _ (first-drop 2 _ _ (first-drop 6 _ _ c.0).1).1).1,
@@ -110,11 +116,15 @@ ending chars size s (declaration a i l ∷ cs) h =
       ending chars size (stepped chars size s (declaration a i l))
           cs c.1,
     )
-ending chars size s (opening c n ∷ cs) h = ending chars size (stepped chars size s (opening c n)) cs (check-cons chars size s (opening c n) cs h).1
+ending chars size s (opening c n ∷ cs) h =
+    ending chars size (stepped chars size s (opening c n)) cs (check-cons chars size s (opening c n) cs h).1
 ending chars size s (Command.text l ∷ cs) h =
-    let c = check-cons chars size s (Command.text l) cs h in
-    (string-within chars size s.at l (first-drop 3 _ _ (first-drop 6 _ _ c.0).1).1, ending chars size (stepped chars size s (Command.text l)) cs c.1)
-ending chars size s (Command.other ∷ cs) h = ending chars size (stepped chars size s Command.other) cs (check-cons chars size s Command.other cs h).1
+    let c = check-cons chars size s (Command.text l) cs h in (
+      string-within chars size s.at l (first-drop 3 _ _ (first-drop 6 _ _ c.0).1).1,
+      ending chars size (stepped chars size s (Command.text l)) cs c.1,
+    )
+ending chars size s (Command.other ∷ cs) h =
+    ending chars size (stepped chars size s Command.other) cs (check-cons chars size s Command.other cs h).1
 ending chars size s (closing ∷ cs) h = ending chars size (stepped chars size s closing) cs (check-cons chars size s closing cs h).1
 ending chars size s (broken b ∷ cs) h = tt
 

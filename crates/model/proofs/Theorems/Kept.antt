@@ -605,7 +605,8 @@ pub attribute-within : (size : ℕ) (t : Tree) → Kept size t → (i a : ℕ) �
 unfolding attribute_id
 attribute-within size t k i a l h = go (ℕ_discrete (kind_of t i) ELEMENT)
   where
-    go : Dec (kind_of t i ≡ ELEMENT) → pick (eqb (kind_of t i) ELEMENT) (λ u. find_entry t a (from_of t i) (to_of t i - from_of t i)) (λ u. 0) ≤
+    go : Dec (kind_of t i ≡ ELEMENT) → pick (eqb (kind_of t i) ELEMENT) (λ u. find_entry t a (from_of t i) (to_of t i - from_of t i))
+        (λ u. 0) ≤
         t.attribute_count
     go (yes e) =
         let r = (k.nodes i l).range e in
@@ -691,7 +692,8 @@ module _ (size : ℕ) (t : Tree) (g : Tidy size t) where
     unused = unused-text bs place p t fits below (last_within size t g.kept p below) g.unused;
   }
 
-  pub tidy-bounds : (i from to : ℕ) → i < t.node_count → kind_of t i ≡ TEXT → from ≤ to → to ≤ t.text_count → Tidy size (set_text i from to t)
+  pub tidy-bounds : (i from to : ℕ) → i < t.node_count → kind_of t i ≡ TEXT → from ≤ to → to ≤ t.text_count →
+      Tidy size (set_text i from to t)
   unfolding set_text
   tidy-bounds i from to l kind order within = record {
     kept = kept-bounds size t g.kept i from to (λ x. kind) order within;

@@ -1,5 +1,6 @@
 -- Laws of the operations on the tables: what a word is after a node was appended, a text cut.
-use Rattle.std.specs.Prelude.{ℕ, suc, ◌+◌, ◌-◌, ◌*◌, ◌/◌, ◌≤◌, ◌<◌, min, ◌≡◌, refl, Bool, true, false, List, [], ◌∷◌, eqb, ltb, length, get_or}
+use Rattle.std.specs.Prelude.{ℕ, suc, ◌+◌, ◌-◌, ◌*◌, ◌/◌, ◌≤◌, ◌<◌, min, ◌≡◌, refl, Bool, true, false, List, [], ◌∷◌, eqb, ltb, length}
+use Rattle.std.specs.Prelude.{get_or}
 use Rattle.std.proofs.Common.{sym, ◌∙◌, arith, ltb-true, get_or-set_other}
 use Rattle.std.proofs.lemmas.List.Edits.{sets}
 use Rattle.model.specs.Base.{pick}
@@ -59,7 +60,8 @@ next_agree : {P : ℕ → Type 0} {xs ys : List ℕ} (j i : ℕ) → Agree P xs 
 unfolding next_linked
 next_agree {P} {xs} {ys} j i a = go (eqb j 0)
   where
-    go : (b : Bool) → Agree P (pick b (λ u. xs) (λ u. set_word xs (j - 1) 2 (i + 1))) (pick b (λ u. ys) (λ u. set_word ys (j - 1) 2 (i + 1)))
+    go : (b : Bool) → Agree P (pick b (λ u. xs) (λ u. set_word xs (j - 1) 2 (i + 1)))
+        (pick b (λ u. ys) (λ u. set_word ys (j - 1) 2 (i + 1)))
     go true = a
     go false = agree-set (8 * (j - 1) + 2) (i + 1) (i + 1) (λ u. refl) a
 

@@ -130,17 +130,22 @@ module _ (t : ℕ) (a : Source) where
       text_numbered t (events_from chars m cs) ≡ some a → a.start + a.size ≤ size
   unfolding events_from text_numbered stepped
   within chars size s m [] e k h = no_none a h
-  within chars size s m (opening c n ∷ cs) e k h = within chars size (stepped chars size s (opening c n)) (past m (opening c n)) cs (omega arith)
+  within chars size s m (opening c n ∷ cs) e k h =
+      within chars size (stepped chars size s (opening c n)) (past m (opening c n)) cs (omega arith)
       (check-cons chars size s (opening c n) cs k).1 h
-  within chars size s m (attribute b n l ∷ cs) e k h = within chars size (stepped chars size s (attribute b n l)) (past m (attribute b n l)) cs (omega arith)
+  within chars size s m (attribute b n l ∷ cs) e k h =
+      within chars size (stepped chars size s (attribute b n l)) (past m (attribute b n l)) cs (omega arith)
       (check-cons chars size s (attribute b n l) cs k).1 h
-  within chars size s m (declaration b i l ∷ cs) e k h = within chars size (stepped chars size s (declaration b i l)) (past m (declaration b i l)) cs (omega arith)
+  within chars size s m (declaration b i l ∷ cs) e k h =
+      within chars size (stepped chars size s (declaration b i l)) (past m (declaration b i l)) cs (omega arith)
       (check-cons chars size s (declaration b i l) cs k).1 h
-  within chars size s m (reading c o l ∷ cs) e k h = within chars size (stepped chars size s (reading c o l)) (past m (reading c o l)) cs (omega arith)
+  within chars size s m (reading c o l ∷ cs) e k h =
+      within chars size (stepped chars size s (reading c o l)) (past m (reading c o l)) cs (omega arith)
       (check-cons chars size s (reading c o l) cs k).1 h
   within chars size s m (Command.text l ∷ cs) e k h =
       let d = check-cons chars size s (Command.text l) cs k in
-      go (eqb (m.texts + 1) t) h (λ g. within chars size (stepped chars size s (Command.text l)) (past m (Command.text l)) cs (omega arith) d.1 g)
+      go (eqb (m.texts + 1) t) h (λ g. within chars size (stepped chars size s (Command.text l)) (past m (Command.text l)) cs
+      (omega arith) d.1 g)
       (text-within chars size s l d.0)
     where
       go : (b : Bool) → pick b (λ u. some (source_at chars m l)) (λ u. text_numbered t (events_from chars (past m (Command.text l)) cs))
@@ -153,7 +158,8 @@ module _ (t : ℕ) (a : Source) where
           let z : l ≡ a.size = ap (λ (s : Source). s.size) x in
           omega arith
       go false q r f = r q
-  within chars size s m (Command.other ∷ cs) e k h = within chars size (stepped chars size s Command.other) (past m Command.other) cs (omega arith)
+  within chars size s m (Command.other ∷ cs) e k h =
+      within chars size (stepped chars size s Command.other) (past m Command.other) cs (omega arith)
       (check-cons chars size s Command.other cs k).1 h
   within chars size s m (closing ∷ cs) e k h = within chars size (stepped chars size s closing) (past m closing) cs (omega arith)
       (check-cons chars size s closing cs k).1 h
@@ -318,7 +324,8 @@ module _ (t : ℕ) (a : Source) where
       check-same s m [] e l h k = k
       check-same s m (opening c n ∷ cs) e l h k =
           let d = check-cons one size s (opening c n) cs k in
-          check-step two size s (opening c n) cs (passes s m (opening c n) cs e l h d.0) (check-same (stepped two size s (opening c n)) (past m (opening c n))
+          check-step two size s (opening c n) cs (passes s m (opening c n) cs e l h d.0)
+          (check-same (stepped two size s (opening c n)) (past m (opening c n))
           cs (omega arith) tt h d.1)
       check-same s m (attribute c n j ∷ cs) e l h k =
           let d = check-cons one size s (attribute c n j) cs k in
@@ -331,21 +338,25 @@ module _ (t : ℕ) (a : Source) where
       check-same s m (reading c o j ∷ cs) e l h k =
           let d = check-cons one size s (reading c o j) cs k in
           check-step two size s (reading c o j) cs (passes s m (reading c o j) cs e l h d.0)
-          (check-same (stepped two size s (reading c o j)) (past m (reading c o j)) cs (omega arith) (still s.last l (reading-placed one size s c o j d.0)) h d.1)
+          (check-same (stepped two size s (reading c o j)) (past m (reading c o j)) cs (omega arith)
+          (still s.last l (reading-placed one size s c o j d.0)) h d.1)
         where
           still : (w : Last) → LastAway w → is_nothing w ≡ false → Away a (value_start w) (value_size w)
           still nothing q f = absurd-bool f
           still (value v n ks) q f = q
       check-same s m (Command.text j ∷ cs) e l h k =
           let d = check-cons one size s (Command.text j) cs k in
-          check-step two size s (Command.text j) cs (passes s m (Command.text j) cs e l h d.0) (check-same (stepped two size s (Command.text j)) (past m (Command.text j))
+          check-step two size s (Command.text j) cs (passes s m (Command.text j) cs e l h d.0)
+          (check-same (stepped two size s (Command.text j)) (past m (Command.text j))
           cs (omega arith) tt h.2 d.1)
       check-same s m (Command.other ∷ cs) e l h k =
           let d = check-cons one size s Command.other cs k in
-          check-step two size s Command.other cs (passes s m Command.other cs e l h d.0) (check-same (stepped two size s Command.other) (past m Command.other)
+          check-step two size s Command.other cs (passes s m Command.other cs e l h d.0)
+          (check-same (stepped two size s Command.other) (past m Command.other)
           cs (omega arith) tt h d.1)
       check-same s m (closing ∷ cs) e l h k =
           let d = check-cons one size s closing cs k in
-          check-step two size s closing cs (passes s m closing cs e l h d.0) (check-same (stepped two size s closing) (past m closing) cs (omega arith) tt h d.1)
+          check-step two size s closing cs (passes s m closing cs e l h d.0)
+          (check-same (stepped two size s closing) (past m closing) cs (omega arith) tt h d.1)
       check-same s m (broken c ∷ cs) e l h k =
           absurd (never-broken one size s c (check-cons one size s (broken c) cs k).0)

@@ -278,7 +278,8 @@ module _ (Q : ℕ → Type 0) where
     q,
     λ v. within-pick (eqb (length v) 1) _ _
         (within-pick (begins_with_space v) _ _ (q, tt) tt)
-        (within-pick (begins_with_space v) _ _ (q, within-pick (ends_with_space v) _ _ (q, tt) tt) (within-pick (ends_with_space v) _ _ (q, tt)
+        (within-pick (begins_with_space v) _ _ (q, within-pick (ends_with_space v) _ _ (q, tt) tt)
+        (within-pick (ends_with_space v) _ _ (q, tt)
         tt)),
   )
 

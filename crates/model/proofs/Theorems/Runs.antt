@@ -15,7 +15,8 @@ use Rattle.model.specs.Names.{is_inheritable, inherit_default}
 use Rattle.model.specs.Drawing.{Attribute, Declaration, reading_of}
 use Rattle.model.specs.Tables.{Tree, Entry, ELEMENT, kind_of, parent_of, from_of, to_of, entry_words, entries_words, entry_word, entry_at}
 use Rattle.model.specs.Tables.{find_entry, attribute_id, holder_from}
-use Rattle.model.specs.Element.{inherited_from, copy_from, default_of, resolve_inherit, append_attribute, has_entry, on_first, add_attribute}
+use Rattle.model.specs.Element.{inherited_from, copy_from, default_of, resolve_inherit, append_attribute, has_entry, on_first}
+use Rattle.model.specs.Element.{add_attribute}
 use Rattle.model.specs.Element.{insert_entry, insert_part, write_declaration}
 use Rattle.model.proofs.Theorems.Agree.{sets-in, sets-out}
 use Rattle.model.proofs.Theorems.Entries.{holder-falls, entry-word, entry-by-words, entries-long}
@@ -198,7 +199,8 @@ run-over ats n es more l h =
     ext_get_or 0 _ _ long (λ q b. at q (dec_lt q (5 * n)) (dec_lt q (5 * n + length ws)))
   where
     at : (q : ℕ) → Dec (q < 5 * n) → Dec (q < 5 * n + length (entries_words more)) →
-        get_or (sets (sets ats (5 * n) (entries_words es)) (5 * n) (entries_words more)) q 0 ≡ get_or (sets ats (5 * n) (entries_words more)) q 0
+        get_or (sets (sets ats (5 * n) (entries_words es)) (5 * n) (entries_words more)) q 0
+        ≡ get_or (sets ats (5 * n) (entries_words more)) q 0
     at q (no a) (yes b) =
         let e : q ≡ 5 * n + (q - 5 * n) = omega arith in
         let room : 5 * n + length (entries_words more) ≤ length ats = omega (arith, entries-long more) in
@@ -265,7 +267,8 @@ module _ (t : Tree) (ats bs : List ℕ) (x y z p n : ℕ) (agree : (q : ℕ) →
   holder-same a zero w l = refl
   holder-same a (suc m) w l = go (ℕ_discrete w 0) (λ b. holder-same a m (parent_of t (w - 1)) b)
     where
-      go : Dec (w ≡ 0) → (parent_of t (w - 1) ≤ p + 1 → holder_from seen a m (parent_of t (w - 1)) ≡ holder_from t a m (parent_of t (w - 1))) →
+      go : Dec (w ≡ 0) → (parent_of t (w - 1) ≤ p + 1 → holder_from seen a m (parent_of t (w - 1))
+          ≡ holder_from t a m (parent_of t (w - 1))) →
           holder_from seen a (suc m) w ≡ holder_from t a (suc m) w
       go (yes e) r = rw (eq-eqb w 0 e) refl
       go (no e) r =

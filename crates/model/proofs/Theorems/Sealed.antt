@@ -16,7 +16,8 @@ use Rattle.model.specs.Tables.{cleared, text_of}
 use Rattle.model.specs.Parse.{plain}
 use Rattle.model.specs.Build.{with_repairs, Result, answered, build, exchanged, exchange_fault, changed, settled, exchange}
 use Rattle.model.specs.Questions.{is_sound, question_fault, attribute_question, element_from, self_or_parent, find_attribute_impl}
-use Rattle.model.specs.Questions.{find_attribute_question, element_by_id_question, TextPart, empty_part, text_of_node, text_at, text_question}
+use Rattle.model.specs.Questions.{find_attribute_question, element_by_id_question, TextPart, empty_part, text_of_node, text_at}
+use Rattle.model.specs.Questions.{text_question}
 use Rattle.model.specs.Noted.{Note, Noted, stripped, notes_of, noted_tree, notes}
 use Rattle.model.proofs.Noted.{notes-forgotten}
 use Rattle.model.specs.Under.{Under, here, up}
@@ -288,7 +289,8 @@ module _ (one two : List ℕ) (s r : Tree) (h : Same one two s r) where
 
     find-attribute-same : (i a : ℕ) → find_attribute_question one s i a ≡ find_attribute_question two r i a
     unfolding find_attribute_question
-    find-attribute-same i a = rw (fault-same i a, find-impl-same i a, attribute-of-same one two s r h (find_attribute_impl r i a - 1) a) refl
+    find-attribute-same i a = rw (fault-same i a, find-impl-same i a, attribute-of-same one two s r h (find_attribute_impl r i a - 1) a)
+        refl
 
     by-id-question-same : (id : List ℕ) → element_by_id_question one s id ≡ element_by_id_question two r id
     unfolding element_by_id_question

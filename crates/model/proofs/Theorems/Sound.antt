@@ -9,7 +9,8 @@ use borrow.Author.Tests.{leb-true, le-leb, eqb-true, eq-eqb, ne_eqb}
 use Rattle.std.proofs.Math.Dec.{eqb}
 use Rattle.model.specs.Base.{pick, and, or}
 use Rattle.model.specs.Names.{is_element, is_attribute}
-use Rattle.model.specs.Tables.{Tree, ROOT, ELEMENT, TEXT, kind_of, parent_of, next_sibling_of, first_child_of, last_child_of, code_of, from_of}
+use Rattle.model.specs.Tables.{Tree, ROOT, ELEMENT, TEXT, kind_of, parent_of, next_sibling_of, first_child_of, last_child_of, code_of}
+use Rattle.model.specs.Tables.{from_of}
 use Rattle.model.specs.Tables.{to_of, Entry, entry_at}
 use Rattle.model.specs.Questions.{counts_fit, is_placed, is_later, is_linked, is_range, is_filled, is_node, is_entry, all_below, is_sound}
 use Rattle.model.proofs.Theorems.Sim.{and_left, and_right}
@@ -168,7 +169,8 @@ module _ (t : Tree) (i : ℕ) where
   node_kept h =
       let p = both (is_placed t i) _ h in
       let q = both (is_linked t i) (is_filled t i) p.1 in
-      let l = both (and (is_later t i (next_sibling_of t i)) (and (is_later t i (first_child_of t i)) (is_later t i (last_child_of t i)))) _ q.0
+      let l = both (and (is_later t i (next_sibling_of t i)) (and (is_later t i (first_child_of t i)) (is_later t i (last_child_of t i))))
+      _ q.0
       in
       let a = both (is_later t i (next_sibling_of t i)) _ l.0 in
       let b = both (is_later t i (first_child_of t i)) (is_later t i (last_child_of t i)) a.1 in

@@ -47,7 +47,8 @@ hint a e = record { name = a; important = 0; entry = some e }
 
 -- All that is declared for a name, in the order of weight.
 abbrev pub all_declared : Tree → ℕ → ℕ → Bool → ℕ → Element → List Longhand
-all_declared t p tag g a e = map (hint a) (as_list (attribute_entry t p tag g a e)) ++ declared_for a (all_written_out t p tag e.declarations)
+all_declared t p tag g a e = map (hint a) (as_list (attribute_entry t p tag g a e))
+    ++ declared_for a (all_written_out t p tag e.declarations)
 
 -- The entry that a longhand comes to.
 abbrev pub entry_in : Option Longhand → Option Entry

@@ -253,7 +253,8 @@ module _ (t : Tree) (p tag : ℕ) (g : Bool) (span : eqb tag EId.Tspan ≡ false
       ≡ href_entry_of (used_href xs)
   unfolding used_href
   tree-href-used xs h =
-      tree-href xs ∙ ap (λ o. href_entry_of (or_else (value_in o) (value_in (first_of (hrefs XLINK xs))))) (sym (one-of-one (hrefs NONE xs) h))
+      tree-href xs ∙ ap (λ o. href_entry_of (or_else (value_in o) (value_in (first_of (hrefs XLINK xs)))))
+      (sym (one-of-one (hrefs NONE xs) h))
       ∙ ap href_entry_of (else-in (first_of (hrefs NONE xs)) (first_of (hrefs XLINK xs)))
 
 -- ATTRIBUTES OF ONE NAME

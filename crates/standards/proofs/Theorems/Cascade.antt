@@ -12,16 +12,14 @@ use Rattle.model.specs.EId
 use Rattle.model.specs.AId
 use Rattle.model.specs.Drawing.{Part, Declaration, Element, reading_of}
 use Rattle.model.specs.Tables.{Tree, ELEMENT, kind_of, from_of, to_of, Entry, fixed_entry, entry_word, entry_at, find_entry, attribute_id}
-use Rattle.model.specs.Element.{inherit_word, marker, inherited_from, copy_from, default_of, resolve_inherit, append_attribute, has_entry, on_first}
+use Rattle.model.specs.Element.{inherit_word, marker, inherited_from, copy_from, default_of, resolve_inherit, append_attribute, has_entry}
+use Rattle.model.specs.Element.{on_first}
 use Rattle.model.specs.Element.{add_attribute, standing, insert_entry, font_parts, insert_attribute, reset_to, insert_part, is_read}
 use Rattle.model.specs.Element.{write_declaration, entries_of}
 use Rattle.standards.specs.CssCascade.{first_of, last_of, those, winner}
+use Rattle.standards.specs.Theorems.Cascade.{kept}
 
 -- THE TWO RULES
-
--- What the Rust keeps: the first important one, else the last.
-unfoldable pub kept : {A : Type 0} → (A → Bool) → List A → Option A
-kept important ds = or_else (first_of (those important ds)) (last_of ds)
 
 pub one-of-one : {A : Type 0} (xs : List A) → length xs ≤ 1 → first_of xs ≡ last_of xs
 unfolding last_of
@@ -90,7 +88,8 @@ module _ (t : Tree) (p tag : ℕ) (d : Declaration) where
       (λ u. longhand AId.MarkerStart d.value.part ∷ longhand AId.MarkerMid d.value.part ∷ longhand AId.MarkerEnd
       d.value.part ∷ [])
       (λ u. pick (eqb d.name AId.Font)
-      (λ v. pick (and (is_read t p tag d 9) (is_read t p tag d 10)) (λ w. map reset_longhand font_resets ++ part_longhands font_parts) (λ w. []))
+      (λ v. pick (and (is_read t p tag d 9) (is_read t p tag d 10)) (λ w. map reset_longhand font_resets ++ part_longhands font_parts)
+      (λ w. []))
       (λ v. pick (is_presentation d.name) (λ w. longhand d.name d.value.part ∷ []) (λ w. [])))
 
 -- All declarations with their shorthands written out, in their order.
@@ -107,7 +106,8 @@ folded-append f b [] ys = refl
 folded-append f b (x ∷ xs) ys = folded-append f (f b x) xs ys
 
 module _ (t : Tree) (p tag : ℕ) (d : Declaration) where
-  resets-out : (rs : List Pair) (es : List Entry) → folded (reset_to t p tag d) es rs ≡ folded inserted es (map (reset_longhand t p tag d) rs)
+  resets-out : (rs : List Pair) (es : List Entry) → folded (reset_to t p tag d) es rs
+      ≡ folded inserted es (map (reset_longhand t p tag d) rs)
   resets-out [] es = refl
   resets-out (r ∷ rs) es = resets-out rs (reset_to t p tag d es r)
 
@@ -116,7 +116,8 @@ module _ (t : Tree) (p tag : ℕ) (d : Declaration) where
   parts_out [] es = refl
   parts_out (k ∷ ks) es = go (reading_of k.key d.value.readings) (λ es. parts_out ks es)
     where
-      go : (o : Option Part) → ((es : List Entry) → folded (insert_part t p tag d) es ks ≡ folded inserted es (part_longhands t p tag d ks)) →
+      go : (o : Option Part) → ((es : List Entry) → folded (insert_part t p tag d) es ks
+          ≡ folded inserted es (part_longhands t p tag d ks)) →
           folded (insert_part t p tag d) (given o (λ v. insert_attribute t p tag d es k.value v) (λ u. es)) ks
           ≡ folded inserted es (given o (λ v. longhand t p tag d k.value v ∷ part_longhands t p tag d ks)
           (λ u. part_longhands t p tag d ks))
@@ -153,7 +154,8 @@ all-out : (t : Tree) (p tag : ℕ) (ds : List Declaration) (es : List Entry) →
 unfolding all_written_out
 all-out t p tag [] es = refl
 all-out t p tag (d ∷ ds) es =
-    all-out t p tag ds (write_declaration t p tag d es) ∙ ap (λ es. folded inserted es (all_written_out t p tag ds)) (write-out t p tag d es)
+    all-out t p tag ds (write_declaration t p tag d es)
+    ∙ ap (λ es. folded inserted es (all_written_out t p tag ds)) (write-out t p tag d es)
     ∙ sym (folded-append inserted es (written_out t p tag d) (all_written_out t p tag ds))
 
 -- THE ENTRY OF A NAME AFTER AN INSERTION
@@ -439,7 +441,8 @@ module _ (t : Tree) (p tag : ℕ) (d : Declaration) where
 all-called : (t : Tree) (p tag : ℕ) (ds : List Declaration) → AllCalled (all_written_out t p tag ds)
 unfolding all_written_out
 all-called t p tag [] = tt
-all-called t p tag (d ∷ ds) = called-append (written_out t p tag d) (all_written_out t p tag ds) (out-called t p tag d) (all-called t p tag ds)
+all-called t p tag (d ∷ ds) = called-append (written_out t p tag d) (all_written_out t p tag ds) (out-called t p tag d)
+    (all-called t p tag ds)
 
 -- THEOREMS
 

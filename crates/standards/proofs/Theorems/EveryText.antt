@@ -18,7 +18,8 @@ use Rattle.model.specs.Check.{State, starting, first_of, string_tests, tests_of,
 use Rattle.model.specs.Tables.{Tree, Out, refused, done, ELEMENT, TEXT, word, kind_of, parent_of, to_of, text_of, Entry, node_room}
 use Rattle.model.specs.Tables.{attribute_room, text_room, add_element, add_text, cleared, rooted}
 use Rattle.model.specs.Element.{entries_of, most_nodes, parse_svg_element}
-use Rattle.model.specs.Text.{XmlSpace, default, preserve, space_of, get_xmlspace, trim_text, total_size, joined, append_text, Trimming, stop}
+use Rattle.model.specs.Text.{XmlSpace, default, preserve, space_of, get_xmlspace, trim_text, total_size, joined, append_text, Trimming}
+use Rattle.model.specs.Text.{stop}
 use Rattle.model.specs.Text.{look, cut, cut_text, run, TextNode, depth_below, text_nodes, own_text_nodes, trimming, trim_text_nodes}
 use Rattle.model.specs.Parse.{inside, label, plain}
 use Rattle.model.specs.Noted.{Note, size, Noted, In, note_of, noting, noted_parsed, noted_tree, notes_of, notes, stripped}
@@ -34,7 +35,8 @@ use Rattle.model.proofs.Theorems.Always.{always-then}
 use Rattle.model.proofs.Theorems.Whole.{build-checked, build-noted}
 use Rattle.standards.specs.SvgSpace.{NEWLINE, BLANK, RETURN, without, convert, as_default, as_preserve}
 use Rattle.standards.proofs.Theorems.Trimmings.{told, run-told}
-use Rattle.standards.proofs.Theorems.Shaved.{Shaved, whole, shaved-then, trimming-kept, shaved-shorter, shaved-visible, shaved-no-two}
+use Rattle.standards.specs.Theorems.Shaved.{Shaved, whole}
+use Rattle.standards.proofs.Theorems.Shaved.{shaved-then, trimming-kept, shaved-shorter, shaved-visible, shaved-no-two}
 use Rattle.standards.proofs.Theorems.Shaved.{shaved-utf8}
 use Rattle.standards.proofs.Theorems.Spaces.{NoTwo, trim-no-two, trim-visible}
 use Rattle.standards.proofs.Theorems.Sequences.{trim-text-utf8, joined-utf8}
@@ -270,7 +272,8 @@ module _ (chars : List ℕ) where
         z = omega arith
 
         back : space_of chars t p ≡ space_of chars r (parent_of r t.node_count - 1)
-        back = sym (ap (λ (i : ℕ). space_of chars r (i - 1)) (its 1 (omega arith) (λ x y. omega arith)) ∙ ap (λ (i : ℕ). space_of chars r i) z
+        back = sym (ap (λ (i : ℕ). space_of chars r (i - 1)) (its 1 (omega arith) (λ x y. omega arith))
+            ∙ ap (λ (i : ℕ). space_of chars r i) z
             ∙ space-same s h.sound r (text_same bytes (total_size from) p t) p low)
 
         own : Raw note r
@@ -557,7 +560,8 @@ module _ (chars : List ℕ) (all : List Event) (ok : TextsOf (Spelled chars) all
       falls = λ i l. let q : i ≡ 0 = omega arith in rw q (omega (arith, top));
       ranges = λ i l k.
           let q : i ≡ 0 = omega arith in
-          let z : ◌≡◌ {A = ℕ} 1 2 = sym (get_or-set_same (replicate n 0) 0 1 0 (omega (arith, room_fits (cleared n m b) h))) ∙ (rw q at k) in
+          let z : ◌≡◌ {A = ℕ} 1 2 = sym (get_or-set_same (replicate n 0) 0 1 0 (omega (arith, room_fits (cleared n m b) h)))
+          ∙ (rw q at k) in
           absurd (omega arith);
       elems = λ k i. absurd i;
       pinned = λ k i. absurd i;
@@ -592,21 +596,28 @@ texts-seen : (chars : List ℕ) (size : ℕ) (s : State) (m : Mark) (cs : List C
     TextsOf (Spelled chars) (events_from chars m cs)
 unfolding events_from tests_of stepped
 texts-seen chars size s m [] e h = tt
-texts-seen chars size s m (opening c n ∷ cs) e h =
-    (tt, texts-seen chars size (stepped chars size s (opening c n)) (past m (opening c n)) cs (omega arith) (check-cons chars size s (opening c n) cs h).1)
+texts-seen chars size s m (opening c n ∷ cs) e h = (
+  tt,
+  texts-seen chars size (stepped chars size s (opening c n)) (past m (opening c n)) cs (omega arith)
+      (check-cons chars size s (opening c n) cs h).1,
+)
 texts-seen chars size s m (attribute a n l ∷ cs) e h =
-    texts-seen chars size (stepped chars size s (attribute a n l)) (past m (attribute a n l)) cs (omega arith) (check-cons chars size s (attribute a n l) cs h).1
+    texts-seen chars size (stepped chars size s (attribute a n l)) (past m (attribute a n l)) cs (omega arith)
+    (check-cons chars size s (attribute a n l) cs h).1
 texts-seen chars size s m (declaration a i l ∷ cs) e h =
-    texts-seen chars size (stepped chars size s (declaration a i l)) (past m (declaration a i l)) cs (omega arith) (check-cons chars size s (declaration a i l) cs h).1
+    texts-seen chars size (stepped chars size s (declaration a i l)) (past m (declaration a i l)) cs (omega arith)
+    (check-cons chars size s (declaration a i l) cs h).1
 texts-seen chars size s m (reading k o l ∷ cs) e h =
-    texts-seen chars size (stepped chars size s (reading k o l)) (past m (reading k o l)) cs (omega arith) (check-cons chars size s (reading k o l) cs h).1
+    texts-seen chars size (stepped chars size s (reading k o l)) (past m (reading k o l)) cs (omega arith)
+    (check-cons chars size s (reading k o l) cs h).1
 texts-seen chars size s m (Command.text l ∷ cs) e h =
     let c = check-cons chars size s (Command.text l) cs h in (
       rw e (spelled-string chars size s.at l (first-drop 3 _ _ (first-drop 6 _ _ c.0).1).1),
       texts-seen chars size (stepped chars size s (Command.text l)) (past m (Command.text l)) cs (omega arith) c.1,
     )
 texts-seen chars size s m (Command.other ∷ cs) e h =
-    texts-seen chars size (stepped chars size s Command.other) (past m Command.other) cs (omega arith) (check-cons chars size s Command.other cs h).1
+    texts-seen chars size (stepped chars size s Command.other) (past m Command.other) cs (omega arith)
+    (check-cons chars size s Command.other cs h).1
 texts-seen chars size s m (closing ∷ cs) e h =
     texts-seen chars size (stepped chars size s closing) (past m closing) cs (omega arith) (check-cons chars size s closing cs h).1
 texts-seen chars size s m (broken b ∷ cs) e h = tt

@@ -16,7 +16,8 @@ use Rattle.model.specs.Theorems.Sim.{Every}
 use Rattle.standards.specs.CssCascade.{those, last_of, first_of}
 use Rattle.standards.specs.SvgHref.{NONE, hrefs, used_href}
 use Rattle.standards.proofs.Theorems.Inheritance.{own_entry}
-use Rattle.standards.proofs.Theorems.Cascade.{kept, is_important, Longhand, longhand, reset_longhand, part_longhands, written_out}
+use Rattle.standards.specs.Theorems.Cascade.{kept}
+use Rattle.standards.proofs.Theorems.Cascade.{is_important, Longhand, longhand, reset_longhand, part_longhands, written_out}
 use Rattle.standards.proofs.Theorems.Cascade.{all_written_out, applying, as_list, attribute_entry}
 use Rattle.standards.proofs.Theorems.Attributes.{href_entry_of, tree-href-used}
 use Rattle.standards.proofs.Theorems.Stored.{not-name, no_such, tree-value-stands}

@@ -126,7 +126,8 @@ module _ (t : Tree) (p a : ℕ) where
   unfolding own_entry
   own-lacks i h = rw h refl
 
-  inherit-from : (n w : ℕ) → from (holder_from t a n w) ≡ inherited true (map (λ i. held (own_entry t a i)) (upward_from t n w)) initial_entry
+  inherit-from : (n w : ℕ) → from (holder_from t a n w)
+      ≡ inherited true (map (λ i. held (own_entry t a i)) (upward_from t n w)) initial_entry
   unfolding holder_from upward_from inherited
   inherit-from zero w = from-none
   inherit-from (suc n) w = go (eqb w 0) refl (inherit-from n (parent_of t (w - 1)))
@@ -162,7 +163,8 @@ module _ (t : Tree) (p a : ℕ) where
 
   -- THEOREM. A value `inherit` below node p becomes the inherited value: for a name that `is_inheritable` the entry of the nearest of p and
   -- those around it that has one, for another name p's own, and else the initial value; the entry comes whole, with its importance.
-  pub inherit-is-inherited : resolve_inherit t p a ≡ inherited (is_inheritable a) (map (λ i. held (own_entry t a i)) (upward t p)) initial_entry
+  pub inherit-is-inherited : resolve_inherit t p a
+      ≡ inherited (is_inheritable a) (map (λ i. held (own_entry t a i)) (upward t p)) initial_entry
   unfolding resolve_inherit inherited_from from upward
   inherit-is-inherited = go (is_inheritable a)
     where

@@ -9,7 +9,8 @@ use Rattle.std.proofs.Math.Dec.{eqb}
 use Rattle.model.specs.Base.{pick}
 use Rattle.model.specs.Tables.{Tree, from_of, to_of, text_of}
 use Rattle.model.specs.Text.{XmlSpace, default, preserve, SPACE, space_of, trim_text, Trimming, stop, run, TextNode, own_text_nodes}
-use Rattle.model.specs.Text.{begins_with_space, ends_with_space, single, only_if, remove_first_space, remove_last_space, trimming, trim_text_nodes}
+use Rattle.model.specs.Text.{begins_with_space, ends_with_space, single, only_if, remove_first_space, remove_last_space, trimming}
+use Rattle.model.specs.Text.{trim_text_nodes}
 use Rattle.model.specs.Theorems.Reach.{Within}
 use Rattle.model.proofs.Theorems.Reach.{within-trimming}
 use Rattle.standards.specs.SvgSpace.{NEWLINE, BLANK, RETURN, convert, as_default, as_preserve}

@@ -108,7 +108,8 @@ pub all-differences : differing properties ≡
     AId.TextOverflow has (handed_down ∷ as_written ∷ []) ∷
     AId.WhiteSpace has (as_written ∷ []) ∷
     []
-unfolding differing differences_of properties ascii Base.among Base.same_bytes Base.paired_with Names.is_presentation Names.is_non_inheritable
+unfolding differing differences_of properties ascii Base.among Base.same_bytes Base.paired_with Names.is_presentation
+    Names.is_non_inheritable
     Names.is_inheritable Names.allows_inherit_value Names.inherit_defaults Names.inherit_default Names.fixed_values Names.fixed_bytes
 all-differences = refl
 
@@ -145,7 +146,8 @@ is_none [] = true
 is_none (d ∷ ds) = false
 
 all_pass : (a b c d e f : Bool) →
-    unless a not_set ++ unless b not_handed_down ++ unless c handed_down ++ unless d as_written ++ unless e dropped ++ unless f other_initial
+    unless a not_set ++ unless b not_handed_down ++ unless c handed_down ++ unless d as_written ++ unless e dropped
+    ++ unless f other_initial
     ≡ [] →
     (a ≡ true) × (b ≡ true) × (c ≡ true) × (d ≡ true) × (e ≡ true) × (f ≡ true)
 all_pass true true true true true true h = (refl, refl, refl, refl, refl, refl)

@@ -11,19 +11,15 @@ use Rattle.std.proofs.Math.Dec.{eqb}
 use Rattle.std.proofs.Math.Seq.{slice, take-length}
 use Rattle.model.specs.Base.{pick, and, given}
 use Rattle.model.specs.Utf8.{is_blank, is_utf8}
-use Rattle.model.specs.Text.{XmlSpace, SPACE, is_default, Trimming, cut_from, cut_to, TextNode, begins_with_space, ends_with_space, is_empty}
+use Rattle.model.specs.Text.{XmlSpace, SPACE, is_default, Trimming, cut_from, cut_to, TextNode, begins_with_space, ends_with_space}
+use Rattle.model.specs.Text.{is_empty}
 use Rattle.model.specs.Text.{single, outer_spaces, last_edge, pair, stands_for, is_nil, pairs, trimming}
 use Rattle.model.proofs.Theorems.Sim.{and_left, and_right}
 use Rattle.standards.specs.SvgSpace.{without}
 use Rattle.standards.proofs.Theorems.Spaces.{NoTwo}
 use Rattle.standards.proofs.Theorems.Sequences.{first-space-utf8, last-space-utf8}
 use Rattle.standards.proofs.Theorems.Trimmings.{cut_list, with_text, told}
-
--- The second text is the first with spaces taken off its ends.
-pub data Shaved : List ℕ → List ℕ → Type 0 where
-  whole : {v : List ℕ} → Shaved v v
-  front : {v w : List ℕ} → Shaved v (SPACE ∷ w) → Shaved v w
-  back : {v w : List ℕ} → Shaved v (w ++ (SPACE ∷ [])) → Shaved v w
+use Rattle.standards.specs.Theorems.Shaved.{Shaved, whole, front, back}
 
 -- ONE SPACE OFF AN END
 

@@ -10,7 +10,8 @@ use borrow.Author.Tests.{eqb-true, eqb-false}
 use Rattle.std.proofs.Math.Dec.{eqb}
 use Rattle.model.specs.Base.{pick, same_bytes}
 use Rattle.model.specs.AId
-use Rattle.model.specs.Tables.{Tree, ELEMENT, TEXT, word, kind_of, parent_of, from_of, to_of, Entry, entry_word, entry_at, value_of, value_at_entry}
+use Rattle.model.specs.Tables.{Tree, ELEMENT, TEXT, word, kind_of, parent_of, from_of, to_of, Entry, entry_word, entry_at, value_of}
+use Rattle.model.specs.Tables.{value_at_entry}
 use Rattle.model.specs.Tables.{find_entry, attribute_id, has_attribute, holder_from, set_text, set_none, add_element, add_text}
 use Rattle.model.specs.Text.{default, preserve, preserve_word, get_xmlspace, space_of, cut_text, cut_from, cut_to}
 use Rattle.model.specs.Repair.{Cut, cut_name, cut_entry, apply_cut, applied}
@@ -49,7 +50,8 @@ module _ (chars : List ℕ) (s r : Tree) (n : ℕ) (k : Sees chars s r n) (falls
       go : (b : Bool) → eqb (attribute_id s i AId.Space) 0 ≡ b →
           pick b (λ u. default) (λ u. pick (same_bytes (value_at_entry chars r (attribute_id s i AId.Space)) preserve_word) (λ v. preserve)
           (λ v. default))
-          ≡ pick b (λ u. default) (λ u. pick (same_bytes (value_at_entry chars s (attribute_id s i AId.Space)) preserve_word) (λ v. preserve)
+          ≡ pick b (λ u. default) (λ u. pick (same_bytes (value_at_entry chars s (attribute_id s i AId.Space)) preserve_word)
+          (λ v. preserve)
           (λ v. default))
       go true e = refl
       go false e = rw (k.values i l (eqb-false (attribute_id s i AId.Space) 0 e)) refl
@@ -107,7 +109,8 @@ find-below s r c a h j (suc m) l = rw (h j (omega arith), find-below s r c a h (
 
 -- The same of a node with the same range.
 id_below : (s r : Tree) (c i a : ℕ) → ((j : ℕ) → j < c → entry_word r j 0 ≡ entry_word s j 0) → kind_of r i ≡ kind_of s i →
-    (kind_of s i ≡ ELEMENT → (from_of r i ≡ from_of s i) × (to_of r i ≡ to_of s i) × (to_of s i ≤ c)) → attribute_id r i a ≡ attribute_id s i a
+    (kind_of s i ≡ ELEMENT → (from_of r i ≡ from_of s i) × (to_of r i ≡ to_of s i) × (to_of s i ≤ c)) → attribute_id r i a
+    ≡ attribute_id s i a
 unfolding attribute_id
 id_below s r c i a h x l = rw x (go (eqb (kind_of s i) ELEMENT) refl)
   where

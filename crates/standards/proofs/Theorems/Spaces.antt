@@ -152,7 +152,7 @@ unfolding without
 none-without c [] h = refl
 none-without c (b ∷ bs) h = rw h.0 (ap (λ r. b ∷ r) (none-without c bs h.1))
 
-none-converted : (c d : ℕ) (bs : List ℕ) → Free c bs → convert c d bs ≡ bs
+pub none-converted : (c d : ℕ) (bs : List ℕ) → Free c bs → convert c d bs ≡ bs
 unfolding convert
 none-converted c d [] h = refl
 none-converted c d (b ∷ bs) h = rw h.0 (ap (λ r. b ∷ r) (none-converted c d bs h.1))
@@ -193,12 +193,6 @@ unfolding trim_text spaced
 default-is-standard bs =
     ap (λ r. no_last (no_first r)) (trim-default 48 bs) ∙ ap no_last (first_goes 48 (spaced bs) refl)
     ∙ edges-front (spaced bs) ∙ sym (default-words (convert RETURN NEWLINE bs))
-
--- So it is the standard's text of every text that has neither newline nor carriage return, such as " a  b ".
-pub default-without-newline : (bs : List ℕ) → Free NEWLINE bs → Free RETURN bs → no_last (no_first (trim_text default bs)) ≡ as_default bs
-default-without-newline bs h g =
-    default-is-standard bs
-    ∙ ap (λ r. as_default (convert NEWLINE BLANK r)) (none-converted RETURN NEWLINE bs g) ∙ ap as_default (none-converted NEWLINE BLANK bs h)
 
 -- NEWLINES. The text with newlines as spaces, and with newlines removed.
 as_spaces : List ℕ → List ℕ
@@ -241,7 +235,8 @@ removed_pass at_break = word
 -- One character more for each seam, and the same text where there is none.
 abbrev ApartBy : Place → ℕ → List ℕ → List ℕ → Type 0
 ApartBy p n x y =
-    (length (words (spaces_pass p) x) ≡ length (words (removed_pass p) y) + n) × (n ≡ 0 → words (spaces_pass p) x ≡ words (removed_pass p) y)
+    (length (words (spaces_pass p) x) ≡ length (words (removed_pass p) y) + n)
+    × (n ≡ 0 → words (spaces_pass p) x ≡ words (removed_pass p) y)
 
 longer : (a b n : ℕ) (x y : List ℕ) → a ≡ b → (length x ≡ length y + n) × (n ≡ 0 → x ≡ y) →
     (length (a ∷ x) ≡ length (b ∷ y) + n) × (n ≡ 0 → a ∷ x ≡ b ∷ y)
@@ -292,23 +287,12 @@ pub seams-none : (bs : List ℕ) → seams bs ≡ 0 → as_default (convert NEWL
 unfolding seams
 seams-none bs h = rw ((as-words bs).0, (as-words bs).1) ((apart_by bs ahead).1 h)
 
--- WHICH TEXTS WITH NEWLINES STILL AGREE: those in which newlines alone stand nowhere between two visible characters, such as
--- "\n  a\n  b\n", the usual indented text.
-pub newline-agrees : (bs : List ℕ) → Free RETURN bs → seams bs ≡ 0 → no_last (no_first (trim_text default bs)) ≡ as_default bs
-newline-agrees bs h g =
-    default-is-standard bs ∙ ap (λ r. as_default (convert NEWLINE BLANK r)) (none-converted RETURN NEWLINE bs h) ∙ seams-none bs g
-
--- THE DIFFERENCE: every other text is longer than the standard's, by one space for each seam.
-pub newline-differs : (bs : List ℕ) → Free RETURN bs → length (no_last (no_first (trim_text default bs))) ≡ length (as_default bs) + seams bs
-newline-differs bs h =
-    ap length (default-is-standard bs ∙ ap (λ r. as_default (convert NEWLINE BLANK r)) (none-converted RETURN NEWLINE bs h))
-    ∙ seams-longer bs
-
 -- The smallest case: "a", a newline, "b". The Rust's text is "a b", the standard's "ab"; there is one seam.
 pub newline-case :
     (no_last (no_first (trim_text default (97 ∷ 10 ∷ 98 ∷ []))) ≡ 97 ∷ 32 ∷ 98 ∷ []) × (as_default (97 ∷ 10 ∷ 98 ∷ []) ≡ 97 ∷ 98 ∷ [])
     × (seams (97 ∷ 10 ∷ 98 ∷ []) ≡ 1)
-unfolding trim_text trim_text_after converted among no_last as_default without convert no_leading no_trailing consolidated seams seams_from sort_of
+unfolding trim_text trim_text_after converted among no_last as_default without convert no_leading no_trailing consolidated seams seams_from
+    sort_of
 newline-case = (refl, refl, refl)
 
 -- A carriage return, which only a character reference can write, becomes a space; the standard names it nowhere and keeps it.
@@ -350,7 +334,8 @@ unfolding squeezed
 squeezed-no-two [] p = (tt, λ e. refl)
 squeezed-no-two (b ∷ bs) p = go (and (eqb b BLANK) (eqb b p)) refl (squeezed-no-two bs p) (squeezed-no-two bs b)
   where
-    go : (c : Bool) → and (eqb b BLANK) (eqb b p) ≡ c → NoTwo (squeezed p bs) × (eqb p BLANK ≡ true → is_blank_next (squeezed p bs) ≡ false) →
+    go : (c : Bool) → and (eqb b BLANK) (eqb b p) ≡ c → NoTwo (squeezed p bs)
+        × (eqb p BLANK ≡ true → is_blank_next (squeezed p bs) ≡ false) →
         NoTwo (squeezed b bs) × (eqb b BLANK ≡ true → is_blank_next (squeezed b bs) ≡ false) →
         NoTwo (pick c (λ u. squeezed p bs) (λ u. b ∷ squeezed b bs))
         × (eqb p BLANK ≡ true → is_blank_next (pick c (λ u. squeezed p bs) (λ u. b ∷ squeezed b bs)) ≡ false)

@@ -11,14 +11,16 @@ use Rattle.model.specs.Names.{is_presentation, allows_inherit_value}
 use Rattle.model.specs.EId
 use Rattle.model.specs.AId
 use Rattle.model.specs.Drawing.{Part, Declaration, Element}
-use Rattle.model.specs.Tables.{Tree, Out, refused, done, ELEMENT, word, Entry, entries_words, entry_word, entry_at, find_entry, attribute_id}
+use Rattle.model.specs.Tables.{Tree, Out, refused, done, ELEMENT, word, Entry, entries_words, entry_word, entry_at, find_entry}
+use Rattle.model.specs.Tables.{attribute_id}
 use Rattle.model.specs.Tables.{node_room, attribute_room, add_element}
 use Rattle.model.specs.Element.{inherit_word, resolve_inherit, append_attribute, entries_of, most_nodes, parse_svg_element}
 use Rattle.model.proofs.Theorems.Laws.{appended-new, room_fits}
 use Rattle.model.proofs.Theorems.Agree.{sets-in}
 use Rattle.model.proofs.Theorems.Entries.{entries-long}
 use Rattle.standards.proofs.Theorems.Inheritance.{own_entry}
-use Rattle.standards.proofs.Theorems.Cascade.{kept, entry_of, is_important, longhand, all_applying, value-stands}
+use Rattle.standards.specs.Theorems.Cascade.{kept}
+use Rattle.standards.proofs.Theorems.Cascade.{entry_of, is_important, longhand, all_applying, value-stands}
 
 -- The entries from j on are these.
 abbrev Stored : Tree → ℕ → List Entry → Type 0

@@ -86,7 +86,8 @@ module _ (i a b : ℕ) (t : Tree) where
   unfolding cut_text set_text new_from new_to
   to-cut h = get_or-set_same (set t.nodes (8 * i + 6) new_from) (8 * i + 7) new_to 0 (rw length-set (omega arith))
 
-  pub bound-else : (j k : ℕ) → (k ≡ 6) ⊎ (k ≡ 7) → (j ≡ i → ⊥) → get_or (cut_text i a b t).nodes (8 * j + k) 0 ≡ get_or t.nodes (8 * j + k) 0
+  pub bound-else : (j k : ℕ) → (k ≡ 6) ⊎ (k ≡ 7) → (j ≡ i → ⊥) → get_or (cut_text i a b t).nodes (8 * j + k) 0
+      ≡ get_or t.nodes (8 * j + k) 0
   unfolding cut_text set_text new_from new_to
   bound-else j k q d =
       get_or-set_other (set t.nodes (8 * i + 6) new_from) (8 * i + 7) (8 * j + k) new_to 0 (off 7 q (omega arith) (omega arith))

@@ -1,7 +1,9 @@
 -- Text nodes in the tables of a build: what an element, a text, a trimming and the repairs keep of them.
-use Rattle.std.specs.Prelude.{ℕ, zero, suc, ◌+◌, ◌-◌, ◌*◌, ◌≤◌, ◌<◌, ◌⊎◌, Bool, true, false, List, [], ◌∷◌, eqb, ltb, get_or, set, take, replicate}
+use Rattle.std.specs.Prelude.{ℕ, zero, suc, ◌+◌, ◌-◌, ◌*◌, ◌≤◌, ◌<◌, ◌⊎◌, Bool, true, false, List, [], ◌∷◌, eqb, ltb, get_or, set, take}
+use Rattle.std.specs.Prelude.{replicate}
 use Rattle.std.proofs.Math.Path.{◌≡◌, refl, sym}
-use Rattle.std.proofs.Common.{ap, ◌∙◌, inl, inr, length-take, length-drop, length-append, get_or-set_same, get_or-set_other, ext_get_or, get_or-take, get_or-drop}
+use Rattle.std.proofs.Common.{ap, ◌∙◌, inl, inr, length-take, length-drop, length-append, get_or-set_same, get_or-set_other, ext_get_or}
+use Rattle.std.proofs.Common.{get_or-take, get_or-drop}
 use native.Mathlib.Omega.{arith}
 use Rattle.std.proofs.Math.Decide.{dec_lt}
 use Rattle.std.proofs.Math.ListN.{length, length-set}
@@ -9,7 +11,8 @@ use Rattle.std.proofs.lemmas.List.Edits.{sets}
 use Rattle.std.proofs.Math.Seq.{slice, length-sets, length-slice}
 use Rattle.model.specs.Base.{pick, and}
 use Rattle.model.specs.Drawing.{Source}
-use Rattle.model.specs.Tables.{Tree, Out, ELEMENT, TEXT, word, kind_of, parent_of, from_of, to_of, text_of, set_text, Entry, node_room, add_element}
+use Rattle.model.specs.Tables.{Tree, Out, ELEMENT, TEXT, word, kind_of, parent_of, from_of, to_of, text_of, set_text, Entry, node_room}
+use Rattle.model.specs.Tables.{add_element}
 use Rattle.model.specs.Tables.{add_text, cleared, rooted, set_none}
 use Rattle.model.specs.Text.{XmlSpace, is_default, SPACE, converted, trim_text_after, trim_text, total_size, joined, space_of, get_xmlspace}
 use Rattle.model.specs.Text.{Trimming, stop, look, cut, cut_text, cut_from, cut_to, run, depth_below, text_nodes, own_text_nodes, trimming}

@@ -26,7 +26,7 @@ returns-then-refused-ne0 c =
     ∙ all-behind _ _ _ _ _ c.requires.rooted _ refl _ _
     c.pass_unbuilt.ensures refl refl in
     c.refuse.ensures _
-    ∙ fill-refused _ _ _ _ _ rooted _ refl _ _ _ _
+    ∙ fill-refused _ _ _ _ _ rooted _ refl _ _ _ c.parse_xml_node_children-refused.new.taken
     c.parse_xml_node_children-refused.result told
     c.nodes-1.given c.attributes-1.given
     c.text-1.given
@@ -48,7 +48,7 @@ returns c =
     ∙ all-behind _ _ _ _ _ c.requires.rooted _ refl _ _
     c.pass_unbuilt.ensures refl refl in
     c.finish.ensures
-    ∙ fill_done _ _ _ _ _ rooted _ refl _ _ _ _
+    ∙ fill_done _ _ _ _ _ rooted _ refl _ _ _ c.parse_xml_node_children-refused.new.taken
     c.parse_xml_node_children-refused.result told
     c.nodes-1.given c.attributes-1.given
     c.text-1.given c.if-refused-ne0.false _
