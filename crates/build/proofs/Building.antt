@@ -2,7 +2,7 @@
 use mathlib.Core.Path.{◌≡◌, refl, sym, ap, ◌∙◌, subst}
 use mathlib.Core.List.{List}
 use mathlib.Core.Bool.{Bool, true, false}
-use Prim.Native.Nat.{ℕ, zero, suc, ◌*◌, ◌/◌, ◌≤◌, ◌<◌}
+use Prim.Native.Nat.{ℕ, zero, suc, ◌*◌, ◌≤◌, ◌<◌}
 use native.Mathlib.Omega.{arith}
 use borrow.Author.Tests.{eqb-true, eqb-false, ne_eqb, ltb-false, lt-ltb, le-ltb}
 use lib.Dec.{eqb, ltb}
@@ -156,7 +156,7 @@ module _ (script chars ns es bs : List ℕ) (h : Rooted script chars (tree_of ns
           ≡ answered chars (cleared_as ns es bs) (whole (parsed (plain chars) (events script chars) first))
       fill_done z c g =
           ap (λ (m : Counts). answered chars (cleared_as ns' es' bs')
-              (with_repairs chars (events script chars) (tested (tree_of ns' es' bs' m)))) g
+          (with_repairs chars (events script chars) (tested (tree_of ns' es' bs' m)))) g
           ∙ same_answer (done (tree_of ns' es' bs' (counts_in k')))
           (is-parsed (done (tree_of ns' es' bs' (counts_in k'))) (ap (outcome_of k' (tree_of ns' es' bs' (counts_in k'))) z))
 

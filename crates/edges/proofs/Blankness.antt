@@ -8,7 +8,8 @@ use lib.ListN.{length, get_or, drop, length-drop, drop_of_length-le}
 use lib.Seq.{drop-cons, drop-drop, get_or-drop}
 use borrow.Author.Tests.{le-leb, lt-leb, eq-eqb, ne_eqb}
 use Rattle.model.specs.Base.{pick}
-use Rattle.model.specs.Utf8.{Range, is_within, begins, sequence_of, well_formed, code_point, white_spaces, is_within_any, is_blank_from, is_blank}
+use Rattle.model.specs.Utf8.{Range, is_within, begins, sequence_of, well_formed, code_point, white_spaces, is_within_any, is_blank_from}
+use Rattle.model.specs.Utf8.{is_blank}
 
 begins-length : (rs : List Range) (bs : List ℕ) → begins rs bs ≡ true → length rs ≤ length bs
 unfolding begins

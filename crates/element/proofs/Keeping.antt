@@ -1,6 +1,6 @@
 -- What an element leaves of the facts that a build keeps: whoever appends one below another cites these. Assumes nothing.
-use Prim.Native.Nat.{ℕ, ◌+◌, ◌*◌, ◌≤◌, ◌<◌, min}
-use mathlib.Core.Path.{◌≡◌, refl, sym, ◌∙◌}
+use Prim.Native.Nat.{ℕ, ◌+◌, ◌≤◌, ◌<◌}
+use mathlib.Core.Path.{◌≡◌, refl}
 use mathlib.Core.Bool.{Bool, true, false}
 use mathlib.Core.List.{List}
 use native.Mathlib.Omega.{arith}
@@ -10,7 +10,7 @@ use lib.ListN.{length}
 use Rattle.model.specs.Base.{pick}
 use Rattle.model.specs.Names.{is_element}
 use Rattle.model.specs.Drawing.{Element}
-use Rattle.model.specs.Tables.{Tree, Entry, Out, refused, done, most, node_room, attribute_room, add_element}
+use Rattle.model.specs.Tables.{Tree, Entry, refused, done, most, node_room, attribute_room, add_element}
 use Rattle.model.specs.Element.{entries_of, most_nodes, parse_svg_element}
 use Rattle.model.specs.Theorems.Sim.{Every}
 use Rattle.model.specs.Theorems.Entries.{Closed}

@@ -1,5 +1,5 @@
 -- An element: its entries, then its node. Assumes nothing.
-use Prim.Native.Nat.{ℕ, zero, ◌+◌, ◌-◌, ◌*◌, ◌≤◌, ◌<◌}
+use Prim.Native.Nat.{ℕ, ◌+◌, ◌-◌, ◌*◌, ◌≤◌, ◌<◌}
 use mathlib.Core.Path.{◌≡◌, refl, sym, ap, ◌∙◌}
 use mathlib.Core.Bool.{Bool, true, false}
 use mathlib.Core.List.{List, [], ◌∷◌}
@@ -143,7 +143,7 @@ module _ (ns ats : List ℕ) (c : Counts) (p tag : ℕ) (ready : Ready ns ats c 
     unfolding entries_of
     entries-alike =
         writes-alike (declarations_in script chars e.inside)
-            (folded (add_attribute t p tag ignored) [] (attributes_in script chars e.inside))
+        (folded (add_attribute t p tag ignored) [] (attributes_in script chars e.inside))
         ∙ ap (λ (l : List Entry). folded (declared_in ns at ats) l (declarations_in script chars e.inside))
         (adds-alike (attributes_in script chars e.inside) [])
 

@@ -1,6 +1,6 @@
 -- Demand 3 of the code, from demand 3 of the definitions. Assumes nothing.
 use mathlib.Core.Path.{◌≡◌, sym, ap, ◌∙◌}
-use Prim.Native.Nat.{ℕ, ◌+◌}
+use Prim.Native.Nat.{ℕ}
 use lib.ListN.{length, length-replicate}
 use Rattle.model.specs.Tables.{Tree, cleared}
 use Rattle.model.specs.Build.{Result, build, exchanged}

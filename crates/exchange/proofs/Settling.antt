@@ -9,7 +9,7 @@ use lib.Seq.{sets}
 use Rattle.model.specs.Base.{pick}
 use Rattle.model.specs.Check.{check}
 use Rattle.model.specs.Tables.{cleared, refused}
-use Rattle.model.specs.Build.{Result, answered, build, exchange_fault, changed, settled, exchange}
+use Rattle.model.specs.Build.{Result, answered, build, exchange_fault, settled, exchange}
 use Rattle.model.proofs.Refusals.{build-refused}
 use Rattle.build.specs.declared.Built.{Built}
 use Rattle.build.specs.Results.{result_of, left_by}

@@ -1,16 +1,13 @@
 -- Tables that differ in words of importance alone: what is read in them is the same. Assumes nothing.
 use mathlib.Core.Path.{◌≡◌, refl, sym, ap, ◌∙◌}
-use mathlib.Core.Bool.{Bool, true, false}
-use mathlib.Core.List.{List, []}
-use Prim.Native.Nat.{ℕ, zero, suc, ◌+◌, ◌-◌, ◌*◌, ◌/◌, ◌%◌, ◌<◌, ◌≤◌}
+use mathlib.Core.List.{List}
+use Prim.Native.Nat.{ℕ, zero, suc, ◌+◌, ◌-◌, ◌*◌, ◌%◌, ◌<◌, ◌≤◌}
 use native.Mathlib.Omega.{arith}
 use native.Mathlib.Decide.{ℕ_discrete}
-use lib.Dec.{eqb}
-use lib.ListN.{length, get_or, set, length-set}
+use lib.ListN.{length, get_or, length-set}
 use lib.Seq.{get_or-set_same, get_or-set_other}
-use Rattle.model.specs.Base.{pick, same_bytes}
 use Rattle.model.specs.AId
-use Rattle.model.specs.Tables.{Tree, ELEMENT, kind_of, from_of, to_of, entry_word, entry_at, value_of, value_at_entry, find_entry, attribute_id}
+use Rattle.model.specs.Tables.{Tree, from_of, to_of, entry_at, value_of, find_entry, attribute_id}
 use Rattle.model.specs.Repair.{element_id}
 use Rattle.model.specs.Theorems.Kept.{KeptNode, KeptEntry, Tidy}
 use Rattle.tree.specs.declared.Counts.{Counts}

@@ -1,6 +1,6 @@
 -- Buckets, and the words of importance, one after another. Assumes nothing.
 use mathlib.Core.Path.{◌≡◌, refl, sym, ap, ◌∙◌}
-use mathlib.Core.List.{List, [], ◌∷◌}
+use mathlib.Core.List.{List}
 use Prim.Native.Nat.{ℕ, suc, ◌+◌, ◌*◌, ◌%◌, ◌<◌, ◌≤◌}
 use native.Mathlib.Omega.{arith}
 use native.Mathlib.Decide.{ℕ_discrete}
@@ -25,7 +25,7 @@ summing-more s h i w l b e = record {
   small = omega arith;
   same =
       let on : bucket_from h (drop i s) ≡ bucket_from ((h * 7735 + get_or s i 0) % 2048) (drop (suc i) s) =
-            ap (bucket_from h) (drop-cons s i 0 l) in
+      ap (bucket_from h) (drop-cons s i 0 l) in
       rw (e, add-one i) (sym on ∙ w.same);
 }
 

@@ -1,6 +1,26 @@
 -- Chains of ids, through the words of importance.
 use Rattle.std.specs.Prelude.{
-    ◌≡◌, ℕ, zero, suc, ◌+◌, ◌-◌, ◌*◌, ◌/◌, ◌%◌, ◌<◌, ◌≤◌, Bool, true, false, List, [], ◌∷◌, eqb, length, get_or, set
+  ◌≡◌,
+  ℕ,
+  zero,
+  suc,
+  ◌+◌,
+  ◌-◌,
+  ◌*◌,
+  ◌/◌,
+  ◌%◌,
+  ◌<◌,
+  ◌≤◌,
+  Bool,
+  true,
+  false,
+  List,
+  [],
+  ◌∷◌,
+  eqb,
+  length,
+  get_or,
+  set,
 }
 use Rattle.model.specs.Base.{pick}
 use Rattle.model.specs.AId

@@ -11,7 +11,7 @@ use Rattle.model.specs.Drawing.{Element, Event, events}
 use Rattle.model.specs.Tables.{Tree, Out, refused, done, then, text_of, set_text, add_element}
 use Rattle.model.specs.Element.{parse_svg_element}
 use Rattle.model.specs.Text.{Trimming, stop, look, cut, run, cut_text, space_of, own_text_nodes, trim_text_nodes}
-use Rattle.model.specs.Parse.{inside, label, plain}
+use Rattle.model.specs.Parse.{label, plain}
 use Rattle.model.specs.Theorems.Kept.{Tidy}
 use Rattle.model.specs.Theorems.Reach as R
 use Rattle.model.specs.Theorems.Reach.{IsText}

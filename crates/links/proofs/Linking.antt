@@ -12,7 +12,8 @@ use Rattle.model.specs.Base.{pick, and, or, given, or_else, among, same_bytes}
 use Rattle.model.specs.AId
 use Rattle.model.specs.Names.{is_element}
 use Rattle.model.specs.Drawing as model
-use Rattle.model.specs.Drawing.{Event, events, attribute_in, value_at, part_at, reading_of, iri_of, use_href, tref_href, first_with_id, linked_by}
+use Rattle.model.specs.Drawing.{Event, events, attribute_in, value_at, part_at, reading_of, iri_of, use_href, tref_href, first_with_id}
+use Rattle.model.specs.Drawing.{linked_by}
 use Rattle.model.specs.Drawing.{number_of, leads_back, uses_in}
 use Rattle.model.specs.Drawing.{has_tag_name, copied, use_target, quoted_from, quoted, texts_in}
 use Rattle.script.specs.declared.cursor.Cursor.{Cursor}
@@ -63,7 +64,7 @@ module _ (s chars : List ℕ) (r : FoundValue) where
     pub href-first : (v : ValueAt) → r ≡ found.At v → part_of chars p ≡ iri_of (value_in s chars r) → part_of chars p ≡ iri_of (or_else a b)
     href-first v t h =
         h ∙ ap (λ w. iri_of (value_in s chars w)) t ∙ ap (λ w. iri_of (or_else (value_in s chars w) b)) (sym t)
-            ∙ ap (λ w. iri_of (or_else w b)) f
+        ∙ ap (λ w. iri_of (or_else w b)) f
 
     pub href-second : (n : Cursor) → r ≡ found.Nothing n → (w : FoundValue) → value_in s chars w ≡ b
         → part_of chars p ≡ iri_of (value_in s chars w)

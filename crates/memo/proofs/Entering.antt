@@ -2,37 +2,29 @@
 use mathlib.Core.Path.{◌≡◌, refl, sym, ap, ◌∙◌, subst}
 use mathlib.Core.List.{List, [], ◌∷◌}
 use mathlib.Core.Bool.{Bool, true, false, false≢true}
-use Prim.Native.Nat.{ℕ, zero, suc, ◌+◌, ◌-◌, ◌*◌, ◌/◌, ◌%◌, ◌<◌, ◌≤◌}
-use native.Mathlib.Decide.{ℕ_discrete}
+use Prim.Native.Nat.{ℕ, zero, suc, ◌+◌, ◌-◌, ◌*◌, ◌<◌, ◌≤◌}
 use native.Mathlib.Omega.{arith}
-use lib.ListN.{length, get_or, set, replicate, length-set}
-use lib.Seq.{slice, get_or-set_same}
-use Rattle.model.specs.Base.{pick, same_bytes}
-use Rattle.model.specs.Check.{most_bytes}
-use Rattle.model.specs.Drawing as model
-use Rattle.model.specs.Drawing.{Event, begin, events, has_id, first_with_id}
+use lib.ListN.{length}
+use lib.Seq.{slice}
+use Rattle.model.specs.Base.{same_bytes}
+use Rattle.model.specs.Drawing.{Event, has_id}
 use Rattle.script.specs.declared.cursor.Cursor.{Cursor}
-use Rattle.script.specs.Step.{Fit, at_start, commands_at}
-use Rattle.script.proofs.Commands.{placed_first}
 use Rattle.walk.specs.declared.node.Opened.{Opened}
-use Rattle.walk.specs.declared.node.Item.{Item}
 use Rattle.walk.specs.declared.value.ValueAt.{ValueAt}
 use Rattle.walk.specs.declared.value.FoundPart.{FoundPart}
 use Rattle.walk.specs.declared.value.FoundValue.{FoundValue}
 use Rattle.walk.specs.declared.value.FoundValue.TheVariants as found
 use Rattle.walk.specs.Values.{events_at, SameNodes, PartFit}
-use Rattle.walk.specs.Nodes.{element_of, node_at, events_of, Standing, Further}
-use Rattle.walk.proofs.Walks.{ItemIs, item-told}
-use Rattle.memo.specs.Words.{unit, mark_at, spacing, mark_in, slot_in, mark_of, print_in, print_of, probes, start_of, step_of, next_slot}
-use Rattle.memo.specs.Words.{is_open, key_of, Apart, RoomFor, MarkPut, SlotPut}
-use Rattle.memo.specs.Table.{within, Seen, seen_nodes, Outcome, free, over, sees, probed_from, probed, free_for}
-use Rattle.memo.specs.Table.{Placed, Ahead, Told, Known, Memo, Named, Seeing, Ready, Kept, Entered, IdEntered, Follows, Filling, Blank}
+use Rattle.walk.specs.Nodes.{element_of, node_at}
+use Rattle.memo.specs.Words.{unit, spacing, mark_in, slot_in, mark_of, print_in, print_of, probes, start_of, step_of, next_slot}
+use Rattle.memo.specs.Words.{is_open, key_of, SlotPut}
+use Rattle.memo.specs.Table.{within, seen_nodes, sees, probed_from, probed, free_for}
+use Rattle.memo.specs.Table.{Known, Named, Ready, Kept, Entered, IdEntered}
 use Rattle.memo.proofs.Ids.{IdIs, compared, has-none, value-fit}
-use Rattle.memo.proofs.Parts.{unit-some, unit-low, same-unit, same-mark, same-slot, same-spacing, same-open, apart-set, apart_none}
-use Rattle.memo.proofs.Within.{Some, none-some, within-hit, within-less}
-use Rattle.memo.proofs.Probing.{OnThis, OnFound, found-holds, IsFree, IsEmpty, IsThis, probing-same, free-zero, none_free, now-found}
-use Rattle.memo.proofs.Knowing.{same-eq, same-itself, open-closed, open-long, open-some, probed-shut, probed-open, known-closed}
-use Rattle.memo.proofs.Knowing.{seen-empty, seen-within, seen-taken, known_on, known_past, same_seen, same-placed}
+use Rattle.memo.proofs.Parts.{unit-some, same-unit, same-open}
+use Rattle.memo.proofs.Probing.{IsFree, IsThis, free-zero, none_free, now-found}
+use Rattle.memo.proofs.Knowing.{same-eq, same-itself, open-long, open-some, probed-shut, probed-open}
+use Rattle.memo.proofs.Knowing.{seen-within, seen-taken, known_past}
 use Rattle.memo.proofs.Knowing.{put-spacing, put-marks, put-seen, known-put}
 
 -- MARKS THAT STAY
@@ -158,7 +150,7 @@ module _ (s chars : List ℕ) (e : Opened) (r : FoundValue) (h : IdIs s chars e 
     pub entered-id : Entered s chars slots next e slots' v.behind
     entered-id =
         let w : Kept slots slots' × Known s chars slots' next (events_at s chars e.inside) =
-              id-entered s chars slots next m e y few p named slots' i in
+        id-entered s chars slots next m e y few p named slots' i in
         let a : SameNodes s chars e.inside v.behind = (value-fit s chars e.inside r v t h.1).rest.nodes in
         record {
           nodes = a;

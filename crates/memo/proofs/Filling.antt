@@ -9,7 +9,6 @@ use lib.ListN.{length, get_or, set, replicate, length-set}
 use lib.Seq.{get_or-set_same}
 use Rattle.model.specs.Base.{pick}
 use Rattle.model.specs.Check.{most_bytes}
-use Rattle.model.specs.Drawing as model
 use Rattle.model.specs.Drawing.{Event, begin, events, events_from, element_at, attributes_at, declarations_at, has_id, first_with_id}
 use Rattle.script.specs.declared.cursor.Cursor.{Cursor}
 use Rattle.script.specs.Step.{Fit, at_start, commands_at}
@@ -18,9 +17,9 @@ use Rattle.walk.specs.declared.node.Opened.{Opened}
 use Rattle.walk.specs.declared.value.FoundValue.{FoundValue}
 use Rattle.walk.specs.declared.value.FoundValue.TheVariants as found
 use Rattle.walk.specs.Values.{events_at, SameNodes}
-use Rattle.walk.specs.Nodes.{element_of, node_at, events_of, Standing, Further}
+use Rattle.walk.specs.Nodes.{element_of, node_at, Standing}
 use Rattle.walk.proofs.Walks.{stepped}
-use Rattle.memo.specs.Words.{unit, mark_at, spacing, mark_in, slot_in, mark_of, probes, start_of, step_of, next_slot}
+use Rattle.memo.specs.Words.{unit, spacing, mark_in, slot_in, mark_of, probes, start_of, step_of, next_slot}
 use Rattle.memo.specs.Words.{is_open, key_of, Apart, RoomFor, MarkPut}
 use Rattle.memo.specs.Table.{within, Outcome, sees, probed_from, probed}
 use Rattle.memo.specs.Table as table
@@ -30,7 +29,15 @@ use Rattle.memo.proofs.Parts.{unit-some, unit-low, same-unit, same-mark, same-sl
 use Rattle.memo.proofs.Within.{Some, within-hit, within-less}
 use Rattle.memo.proofs.Probing.{OnThis, OnFound, found-holds, probing-same}
 use Rattle.memo.proofs.Knowing.{
-    open-closed, probed-shut, probed-open, known-closed, seen-empty, known_on, known_past, same_seen, same-placed
+  open-closed,
+  probed-shut,
+  probed-open,
+  known-closed,
+  seen-empty,
+  known_on,
+  known_past,
+  same_seen,
+  same-placed,
 }
 
 -- THE LAST MARK

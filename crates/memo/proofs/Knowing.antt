@@ -2,7 +2,7 @@
 use mathlib.Core.Path.{◌≡◌, refl, sym, ap, ◌∙◌, subst}
 use mathlib.Core.List.{List, [], ◌∷◌}
 use mathlib.Core.Bool.{Bool, true, false, not, false≢true}
-use Prim.Native.Nat.{ℕ, zero, suc, ◌+◌, ◌-◌, ◌*◌, ◌<◌, ◌≤◌}
+use Prim.Native.Nat.{ℕ, ◌+◌, ◌*◌, ◌<◌, ◌≤◌}
 use native.Mathlib.Decide.{ℕ_discrete}
 use native.Mathlib.Omega.{arith}
 use borrow.Author.Tests.{eqb-true, eq-eqb, ne_eqb, leb-true}
@@ -21,9 +21,8 @@ use Rattle.memo.specs.declared.table.Probe.{Probe}
 use Rattle.memo.specs.Plain.{node_of, NodeFit}
 use Rattle.memo.specs.Words.{unit, spacing, mark_in, slot_in, mark_of, print_in, print_of, probes, start_of, step_of, next_slot}
 use Rattle.memo.specs.Words.{is_wanted, is_open, key_of, SlotPut}
-use Rattle.memo.specs.Table.{
-    within, Seen, this, another, empty, seen_nodes, seen_by, Outcome, found, free, over, probing, sees, probed_from, probed
-}
+use Rattle.memo.specs.Table.{within, Seen, another, empty, seen_nodes, seen_by, Outcome, found, free, over, probing, sees, probed_from}
+use Rattle.memo.specs.Table.{probed}
 use Rattle.memo.specs.Table.{seen_as, LookFit, outcome_as, ProbeFit, Placed, Held, Ahead, Told, Known, Memo}
 use Rattle.memo.proofs.Ids.{id-miss}
 use Rattle.memo.proofs.Parts.{unit-some, same-unit, same-mark, same-slot, same-spacing, same-open}
@@ -125,7 +124,7 @@ module _ (s chars slots id : List ℕ) (i : ℕ) where
       go : Dec (print_in (slot_in slots i) ≡ print_of (key_of id)) → IsEmpty (sees s chars slots id i) → ⊥
       go (yes m) h =
           nodes (within (spacing slots) id (events_at s chars (mark_in slots (mark_of (slot_in slots i)))))
-              (subst IsEmpty (seen-within n m) h)
+          (subst IsEmpty (seen-within n m) h)
       go (no m) h = subst IsEmpty (seen-print n m) h
 
   not-empty : (IsEmpty (sees s chars slots id i) → ⊥) → slot_in slots i ≡ 0 → ⊥
@@ -297,7 +296,7 @@ module _ (s chars slots : List ℕ) (next : ℕ) (xs : List Event) (h : Known s 
           subst (Told s chars slots' next xs id) (sym (probed-open s chars slots' id (put-open (key_of id) ∙ e)
           ∙ ap (λ u. probed_from (sees s chars slots' id) u (key_of id)) words))
           (by (probed_from (sees s chars slots id) (unit slots) (key_of id)) refl
-              (subst (Told s chars slots next xs id) (probed-open s chars slots id e) (h.told id)))
+          (subst (Told s chars slots next xs id) (probed-open s chars slots id e) (h.told id)))
       go false e = subst (Told s chars slots' next xs id) (sym (probed-shut s chars slots' id (put-open (key_of id) ∙ e))) tt
 
   pub known-put : Known s chars slots' next xs

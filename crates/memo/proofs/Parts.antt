@@ -8,13 +8,25 @@ use native.Mathlib.Decide.{ℕ_discrete}
 use native.Mathlib.Numerals.{add-one}
 use native.Mathlib.Omega.{arith}
 use borrow.Author.Tests.{ne_eqb, eq-eqb, lt-ltb, le-ltb, lt-leb, le-leb}
-use lib.Dec.{eqb, leb, ltb}
+use lib.Dec.{eqb, leb}
 use lib.ListN.{length, get_or, set, drop, length-set, drop_of_length-le}
 use lib.Seq.{get_or-set_same, get_or-set_other, drop-cons}
 use Rattle.model.specs.Base.{pick, and, folded}
 use Rattle.script.specs.declared.cursor.Cursor.{Cursor}
 use Rattle.memo.specs.Words.{
-    mixed, key_of, unit, mark_at, spacing, cursor_of, upper_of, cursor_in, mark_in, slot_count, slot_in, is_wanted, is_open
+  mixed,
+  key_of,
+  unit,
+  mark_at,
+  spacing,
+  cursor_of,
+  upper_of,
+  cursor_in,
+  mark_in,
+  slot_count,
+  slot_in,
+  is_wanted,
+  is_open,
 }
 use Rattle.memo.specs.Words.{powers, bit_of, has_bit, next_slot, Apart, RoomFor, MarkPut, SlotPut}
 

@@ -252,7 +252,7 @@ module _ (script chars : List ℕ) (left origin p : ℕ) (from : Cursor) (n : �
           more = omega (arith, g.more, after.more);
           same = ap (λ x. level_built script chars left x p (place_in s'') v) (sym g.by)
               ∙ ap (λ zs. each (node (plain chars) (events script chars) left) (children_from zero zs) (origin_in s)
-                  (is_copied (origin_in s)) p v)
+              (is_copied (origin_in s)) p v)
               after.behind
               ∙ then-done v (first_of script chars left (origin_in s) p xs t) others (ap (outcome_of k'' v) (sym z) ∙ node-is)
               ∙ whole;

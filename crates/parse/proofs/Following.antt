@@ -1,12 +1,12 @@
 -- One node after another, whatever stands before it. Assumes nothing.
 use Prim.Native.Nat.{ℕ, zero, ◌≤◌}
-use mathlib.Core.Path.{◌≡◌, refl, ap, sym, ◌∙◌}
+use mathlib.Core.Path.{◌≡◌, refl, ap, sym}
 use mathlib.Core.Bool.{Bool}
 use mathlib.Core.List.{List, [], ◌∷◌}
 use Rattle.model.specs.Drawing as model
 use Rattle.model.specs.Drawing.{Event, begin, close, children_from}
 use Rattle.model.specs.Tables.{Tree, Out, refused, done, then}
-use Rattle.model.specs.Parse.{Builder, each, level, node, plain}
+use Rattle.model.specs.Parse.{Builder, each, node, plain}
 use Rattle.walk.specs.Nodes.{leave}
 use Rattle.walk.proofs.Along.{children-behind}
 use Rattle.label.specs.Walk.{Lies}

@@ -1,17 +1,17 @@
 -- A node that the recursion meets, case by case. Assumes nothing.
-use Prim.Native.Nat.{ℕ, zero, suc, ◌+◌, ◌-◌, ◌≤◌, ◌<◌}
-use mathlib.Core.Path.{◌≡◌, refl, ap, sym, ◌∙◌, subst}
+use Prim.Native.Nat.{ℕ, zero, suc, ◌+◌, ◌-◌, ◌≤◌}
+use mathlib.Core.Path.{◌≡◌, ap, sym, ◌∙◌, subst}
 use mathlib.Core.Bool.{Bool, true, not}
-use mathlib.Core.List.{List, ◌∷◌}
+use mathlib.Core.List.{List}
 use native.Mathlib.Omega.{arith}
 use borrow.Author.Tests.{ne_eqb}
-use Rattle.model.specs.Drawing.{Event, begin, events, use_target}
+use Rattle.model.specs.Drawing.{Event, events, use_target}
 use Rattle.model.specs.Tables.{Tree, Out, refused}
 use Rattle.model.specs.Parse.{copy, node, plain}
 use Rattle.script.specs.declared.cursor.Cursor.{Cursor}
 use Rattle.script.specs.Step.{Fit}
 use Rattle.walk.specs.declared.node.Opened.{Opened}
-use Rattle.walk.specs.Nodes.{element_of, node_at, leave, Standing}
+use Rattle.walk.specs.Nodes.{element_of, node_at, leave}
 use Rattle.walk.specs.Values.{events_at}
 use Rattle.memo.specs.declared.plain.FoundElement.{FoundElement}
 use Rattle.memo.specs.declared.plain.FoundElement.TheVariants as found

@@ -18,7 +18,7 @@ use Rattle.walk.specs.Values.{events_at}
 use Rattle.walk.proofs.Along.{behind-close}
 use Rattle.label.specs.Walk.{Lies}
 use Rattle.parse.specs.Cycle.{is_parsed}
-use Rattle.parse.specs.State.{place_in, origin_in, Stood}
+use Rattle.parse.specs.State.{place_in, Stood}
 use Rattle.parse.specs.Met.{is_copied}
 use Rattle.parse.specs.Unbuilt.{is_built, past_unbuilt, Skipped}
 use Rattle.parse.proofs.Levels.{node-level}

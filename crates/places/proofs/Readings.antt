@@ -10,7 +10,8 @@ use lib.Dec.{eqb, ltb}
 use lib.ListN.{length}
 use Rattle.model.specs.Base.{pick, or}
 use Rattle.model.specs.Check as check
-use Rattle.model.specs.Check.{Test, ◌if◌, State, Stage, may_attribute, may_declare, first_of, tests_of, stepped, check_from, starting, most_bytes}
+use Rattle.model.specs.Check.{Test, ◌if◌, State, Stage, may_attribute, may_declare, first_of, tests_of, stepped, check_from, starting}
+use Rattle.model.specs.Check.{most_bytes}
 use Rattle.model.specs.Drawing as model
 use Rattle.model.specs.Drawing.{Command, opening, attribute, declaration, reading, closing, broken, Mark, past, Value, value_at}
 use Rattle.model.specs.Drawing.{attributes_at}
@@ -229,7 +230,7 @@ pub checked-readings : (s chars : List ℕ) → check.check s chars ≡ 0 → (k
 unfolding check.check events place_of commands_at starting
 checked-readings s chars h k =
     at_place chars s k at_start
-        ∙ ap (λ n. readings_of n (values_from chars start (commands s))) (let z : 0 + k + 1 ≡ k + 1 = omega arith in z)
+    ∙ ap (λ n. readings_of n (values_from chars start (commands s))) (let z : 0 + k + 1 ≡ k + 1 = omega arith in z)
     ∙ ap (readings_of (k + 1)) (sym
     (all-values chars (length chars) (commands s) starting check.children start refl
     (go (or (ltb most_bytes (length s)) (ltb most_bytes (length chars))) h)))

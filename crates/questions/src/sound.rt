@@ -1,7 +1,8 @@
 // The test whose number is 40: do the lent tables hold a tree?
 ghost use Rattle.std.specs.Prelude.{◌≡◌, [], ◌+◌, ◌*◌, ◌<◌, ◌≤◌, length};
 ghost use Rattle.model.specs.Tables.{entry_at};
-ghost use Rattle.model.specs.Questions.{counts_fit, is_placed, is_later, is_linked, is_range, is_filled, is_node, is_entry, all_below, is_sound};
+ghost use Rattle.model.specs.Questions.{counts_fit, is_placed, is_later, is_linked, is_range, is_filled};
+ghost use Rattle.model.specs.Questions.{is_node, is_entry, all_below, is_sound};
 ghost use Rattle.tree.specs.Lent.{tree_of, nodes_of, entries_of};
 ghost use Rattle.questions.specs.Answers.{is_below_root};
 

@@ -13,7 +13,8 @@ use Rattle.model.specs.Base.{pick, given, Pair}
 use Rattle.model.specs.EId
 use Rattle.model.specs.AId
 use Rattle.model.specs.Drawing.{Value, reading_of}
-use Rattle.model.specs.Tables.{Tree, word, entry_at, value_of, entry_word, attribute_id, attribute_of, has_id_bytes, last_with_id, element_by_id, set_none, parent_of}
+use Rattle.model.specs.Tables.{Tree, word, entry_at, value_of, entry_word, attribute_id, attribute_of, has_id_bytes, last_with_id}
+use Rattle.model.specs.Tables.{element_by_id, set_none, parent_of}
 use Rattle.model.specs.Repair.{up_from, all_named, link_kind, link_of, element_id, readings_of_attribute, paints_with, node_attribute}
 use Rattle.model.specs.Repair.{recursive_fe_image, Cut, cut_name, cut_at, apply_cut, applied}
 use Rattle.model.proofs.Theorems.Agree.{agree-sets, sets-out}
@@ -169,8 +170,10 @@ module _ (n : ℕ) (chars : List ℕ) (values : List Value) where
   unfolding cuts_along
   twin-along k [] t u w = refl
   twin-along k (m ∷ ms) t u w =
-      rw (twin-cut n t u w k m,
-          twin-along k ms (apply_cut t (cut_at t k m)) (apply_cut u (cut_at t k m)) (twin-apply n t u w (cut_at t k m))) refl
+      rw (
+        twin-cut n t u w k m,
+        twin-along k ms (apply_cut t (cut_at t k m)) (apply_cut u (cut_at t k m)) (twin-apply n t u w (cut_at t k m)),
+      ) refl
 
   twin-going : (k : ℕ) (ps : List Pair) (t u : Tree) → Twin n t u → going_on chars values k u ps ≡ going_on chars values k t ps
   unfolding going_on

@@ -5,30 +5,27 @@ use mathlib.Core.Bool.{Bool, true, false, not}
 use Prim.Native.Nat.{ℕ, ◌+◌, ◌-◌, ◌<◌, ◌≤◌}
 use native.Mathlib.Nat.{add-zero}
 use native.Mathlib.Omega.{arith}
-use borrow.Author.Tests.{ltb-false, eq-eqb, ne_eqb, le-leb, lt-leb, le-ltb, lt-ltb}
+use borrow.Author.Tests.{ltb-false, eq-eqb, ne_eqb, le-leb, le-ltb, lt-ltb}
 use lib.Dec.{eqb, leb, ltb}
-use lib.ListN.{length, drop}
+use lib.ListN.{length}
 use lib.Seq.{slice}
-use Rattle.model.specs.Base.{pick, and, or, among}
+use Rattle.model.specs.Base.{pick, and}
 use Rattle.model.specs.Utf8.{is_utf8}
-use Rattle.model.specs.Drawing.{Command, opening, attribute, declaration, reading, text, other, closing, broken, commands}
-use Rattle.model.specs.Check as model
-use Rattle.model.specs.Check.{Test, ◌if◌, first_of, string_tests, tests_of, tests_at_end, stepped, check_from, starting, check}
+use Rattle.model.specs.Drawing.{Command, opening, attribute, declaration, reading, text, other, closing}
+use Rattle.model.specs.Check.{◌if◌, first_of, string_tests, tests_of, tests_at_end, stepped, check_from, starting, check}
 use Rattle.script.specs.declared.cursor.Cursor.{Cursor}
-use Rattle.script.specs.declared.check.Stage.{Stage}
 use Rattle.script.specs.declared.check.Stage.TheVariants.{Attributes, Declarations, Children}
-use Rattle.script.specs.declared.check.Last.{Last}
 use Rattle.script.specs.declared.check.Last.TheVariants.{Nothing, Value}
 use Rattle.script.specs.declared.check.State.{State}
 use Rattle.script.specs.declared.check.Judgement.{Judgement}
 use Rattle.script.specs.declared.check.Judgement.TheVariants.{Passed, Refused}
 use Rattle.script.specs.declared.check.Turn.{Turn}
-use Rattle.script.specs.Step.{Fit, Here, commands_at, moved, at_start}
-use Rattle.script.specs.Known.{stage_of, bit, Kinds, last_of, Held, Inside, state_of, test_of, Passing, Judged, onward_of, check_at}
+use Rattle.script.specs.Step.{Fit, Here, commands_at, at_start}
+use Rattle.script.specs.Known.{bit, Kinds, Held, Inside, state_of, test_of, Passing, Judged, onward_of, check_at}
 use Rattle.script.specs.Known.{Onward, Turned}
 use Rattle.script.proofs.Commands.{placed_first}
 use Rattle.script.proofs.Mask.{none}
-use Rattle.script.proofs.Parts.{hit, over, passed}
+use Rattle.script.proofs.Parts.{hit}
 
 -- A string that passed lies inside the characters.
 pub string-inside : (chars : List ℕ) (a l : ℕ) → first_of (string_tests chars (length chars) a l) ≡ 0 → a + l ≤ length chars

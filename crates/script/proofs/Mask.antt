@@ -1,15 +1,15 @@
 -- The kinds of a value's readings as bits. Assumes nothing.
-use mathlib.Core.Path.{◌≡◌, refl, sym, ap, ap₂, ◌∙◌, subst}
+use mathlib.Core.Path.{◌≡◌, refl, sym, ap, ◌∙◌, subst}
 use mathlib.Core.List.{List, [], ◌∷◌}
 use mathlib.Core.Bool.{Bool, true, false, not}
-use Prim.Native.Nat.{ℕ, zero, suc, ◌+◌, ◌*◌, ◌/◌, ◌%◌, ◌^◌, ◌<◌, ◌≤◌}
+use Prim.Native.Nat.{ℕ, zero, suc, ◌*◌, ◌/◌, ◌%◌, ◌^◌, ◌<◌, ◌≤◌}
 use native.Mathlib.Nat.{mod-lt}
 use native.Mathlib.Omega.{arith}
 use borrow.Author.Tests.{eqb-true, ltb-true, not-true}
 use lib.Dec.{eqb, leb, ltb, lit<, lit≤}
 use lib.Bits.{bit_or, or_shr, or_mod, or_zero_r, or_lt}
 use Rattle.model.specs.Base.{pick, and, or, among}
-use Rattle.model.specs.Check.{nothing, value, is_half_font}
+use Rattle.model.specs.Check.{value, is_half_font}
 use Rattle.script.specs.declared.check.Last.{Last}
 use Rattle.script.specs.declared.check.Last.TheVariants.{Nothing, Value}
 use Rattle.script.specs.Known.{bit, Kinds, last_of, Held}

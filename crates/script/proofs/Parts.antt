@@ -2,12 +2,12 @@
 use mathlib.Core.Path.{◌≡◌, refl, sym, ap, ◌∙◌}
 use mathlib.Core.List.{List, [], ◌∷◌}
 use mathlib.Core.Bool.{Bool, true, false, not, false≢true}
-use Prim.Native.Nat.{ℕ, zero, suc, ◌+◌, ◌-◌, ◌≤◌}
+use Prim.Native.Nat.{ℕ, zero, suc, ◌+◌, ◌-◌}
 use native.Mathlib.Nat.{suc-add, zero-add}
 use native.Mathlib.Omega.{arith}
 use lib.ListN.{take, drop}
-use lib.Seq.{slice, drop-nil, take-nil}
-use Rattle.model.specs.Base.{and, pick}
+use lib.Seq.{slice, take-nil}
+use Rattle.model.specs.Base.{and}
 use Rattle.model.specs.Utf8.{is_utf8}
 use Rattle.model.specs.Check.{Test, ◌if◌, first_of}
 

@@ -3,7 +3,8 @@ ghost use Rattle.std.specs.Prelude.{◌≡◌, not, false, List, [], ◌∷◌, 
 ghost use Rattle.std.proofs.Math.Seq.{slice};
 ghost use Rattle.model.specs.Base.{and, or};
 ghost use Rattle.model.specs.Drawing.{opening, attribute, declaration, reading, text, other, closing, broken};
-ghost use Rattle.model.specs.Check.{◌if◌, may_attribute, may_declare, is_element_code, is_attribute_code, is_declaration_code, is_half_font};
+ghost use Rattle.model.specs.Check.{◌if◌, may_attribute, may_declare, is_half_font};
+ghost use Rattle.model.specs.Check.{is_element_code, is_attribute_code, is_declaration_code};
 ghost use Rattle.model.specs.Check.{first_of, string_tests, tests_of, tests_at_end, check};
 ghost use Rattle.model.specs.Utf8.{is_utf8};
 ghost use Rattle.script.specs.Step.{Fit, most_place};

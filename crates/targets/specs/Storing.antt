@@ -1,5 +1,5 @@
 -- What storing a mark changes.
-use Rattle.std.specs.Prelude.{◌≡◌, ℕ, ◌+◌, ◌-◌, ◌*◌, ◌/◌, ◌%◌, ◌<◌, ◌≤◌, List, length, get_or}
+use Rattle.std.specs.Prelude.{◌≡◌, ℕ, ◌+◌, ◌-◌, ◌*◌, ◌/◌, ◌%◌, ◌<◌, List, length, get_or}
 use Rattle.model.specs.Drawing.{Value}
 use Rattle.model.specs.Tables.{Tree, attribute_id}
 use Rattle.model.specs.Repair.{cut_name}

@@ -239,7 +239,7 @@ module _ (chars ns₀ ns es : List ℕ) (s : Steady ns₀ ns) where
   xmlspace-steady w i =
       ap (λ j. pick (eqb j 0) (λ u. w)
       (λ u. pick (same_bytes (value_at_entry chars (read_of ns₀ es) j) preserve_word) (λ v. preserve) (λ v. default)))
-          (id-steady i AId.Space)
+      (id-steady i AId.Space)
 
   space-steady : (w : XmlSpace) (i : ℕ) → space_at chars (read_of ns es) w i ≡ space_at chars (read_of ns₀ es) w i
   space-steady w i = xmlspace-steady w (word ns i 1 - 1) ∙ ap (λ k. get_xmlspace chars (read_of ns₀ es) (k - 1) w) (s.parents i)

@@ -54,7 +54,7 @@ module _ (ns : List ℕ) (e n : ℕ) (b : Below ns e n) where
           (e < word ns i 1 - 1 → word ns i 1 - 1 < n → word ns i 1 - 1 ≤ k → word ns i 1 - 1 ≤ m →
           depth_below t e k (word ns i 1 - 1) ≡ depth_below t e m (word ns i 1 - 1)) →
           pick c (λ u. 0) (λ u. suc (depth_below t e k (word ns i 1 - 1)))
-              ≡ pick c (λ u. 0) (λ u. suc (depth_below t e m (word ns i 1 - 1)))
+          ≡ pick c (λ u. 0) (λ u. suc (depth_below t e m (word ns i 1 - 1)))
       go true q f = refl
       go false q f =
           let d : (word ns i 1 ≡ e + 1 → ⊥) = eqb-false (word ns i 1) (e + 1) q in

@@ -34,7 +34,7 @@ module _ (chars : List ℕ) (t : Tree) where
   texts-same w e zero i = refl
   texts-same w e (suc n) i =
       go (eqb (kind_of t i) TEXT) (texts-same w e n (i + 1)) (depth_same seen t (λ j. refl) e i i)
-          (xmlspace-same chars t (parent_of t i - 1) w)
+      (xmlspace-same chars t (parent_of t i - 1) w)
     where
       go : (b : Bool) {l m : List TextNode} {d f : ℕ} {x y : XmlSpace} → l ≡ m → d ≡ f → x ≡ y →
           pick b (λ u. record { node = i; depth = d; space = x } ∷ l) (λ u. l) ≡

@@ -4,7 +4,8 @@ use mathlib.Core.List.{List}
 use mathlib.Core.Bool.{Bool, true, false, not}
 use Prim.Native.Nat.{ℕ, zero, suc, ◌+◌, ◌-◌, ◌<◌, ◌≤◌}
 use native.Mathlib.Omega.{arith}
-use borrow.Author.Tests.{eqb-true, eqb-false, leb-false, not-true}
+use borrow.Author.Tests.{eqb-true, eqb-false, eq-eqb, leb-false, not-true}
+use borrow.Author.Count.{below_more}
 use lib.Dec.{eqb}
 use lib.ListN.{length, get_or, drop, length-drop}
 use lib.Seq.{drop-drop, get_or-drop}
@@ -14,8 +15,8 @@ use Rattle.utf8.proofs.Parts.{any_none}
 use Rattle.utf8.proofs.Sequence.{Read, read_none, read-bad, read-on, read-ascii, read_all}
 
 -- The n bytes from i on are all ASCII.
-pub record Ascii (s : List ℕ) (i n : ℕ) : Type 0 where
-  pub each : (k : ℕ) → k < n → get_or s (i + k) 0 < 0x80
+abbrev pub Ascii : List ℕ → ℕ → ℕ → Type 0
+Ascii s i n = (k : ℕ) → k < n → get_or s (i + k) 0 < 0x80
 
 -- How far a string is read that is read from a on: from i on it is UTF-8 just if it is from a on.
 pub record Reach (s : List ℕ) (a i : ℕ) : Type 0 where
@@ -74,8 +75,8 @@ pub reach-block : (s : List ℕ) (i n : ℕ) → i + n ≤ length s → Ascii s 
 reach-block s i zero h a = subst (λ j. Reach s i j) (let z : i ≡ i + 0 = omega arith in z) (reach-none s i (omega arith))
 reach-block s i (suc n) h a =
     subst (λ j. Reach s i j) (let z : i + n + 1 ≡ i + suc n = omega arith in z)
-    (reach-join s i (i + n) (i + n + 1) (reach-block s i n (omega arith) (record { each = λ k l. a.each k (omega arith) }))
-    (reach-ascii s (i + n) (omega arith) (a.each n (omega arith))))
+    (reach-join s i (i + n) (i + n + 1) (reach-block s i n (omega arith) (λ k l. a k (omega arith)))
+    (reach-ascii s (i + n) (omega arith) (a n (omega arith))))
 
 -- Near the end: at most m bytes are left.
 pub record Rest (s : List ℕ) (m a i : ℕ) : Type 0 where
@@ -97,11 +98,40 @@ rest_all s m a i r h b =
     reach-join s a i (length s) r.reach
     (subst (λ j. Reach s i j) (let z : i + (length s - i) ≡ length s = omega arith in z)
     (reach-block s i (length s - i) (omega arith)
-    (record {
-      each = λ k q. subst (λ x. get_or s x 0 < 0x80) (let z : length s - m + (i + k - (length s - m)) ≡ i + k = omega arith in z)
-          (b.each (i + k - (length s - m)) (omega arith));
-    })))
+    (λ k q. subst (λ x. get_or s x 0 < 0x80) (let z : length s - m + (i + k - (length s - m)) ≡ i + k = omega arith in z)
+    (b (i + k - (length s - m)) (omega arith)))))
 
 -- Where no byte of a block is beyond ASCII, all of them are ASCII.
 pub ascii-told : (s : List ℕ) (i n : ℕ) (r : Bool) → r ≡ not (beyond_in s i n) → r ≡ true → Ascii s i n
-ascii-told s i n r e t = record { each = λ k h. leb-false 0x80 _ (any_none n _ (not-true _ (sym e ∙ t)) k h) }
+ascii-told s i n r e t = λ k h. leb-false 0x80 _ (any_none n _ (not-true _ (sym e ∙ t)) k h)
+
+-- COUNTING A BLOCK
+
+-- n of the j bytes from i on are ASCII: all of them are just if n is j.
+pub record Counted (s : List ℕ) (i n j : ℕ) : Type 0 where
+  pub most : n ≤ j
+  pub sound : n ≡ j → Ascii s i j
+  pub complete : Ascii s i j → n ≡ j
+
+pub counted-none : (s : List ℕ) (i : ℕ) → Counted s i 0 0
+counted-none s i = record { most = omega arith; sound = λ e k l. absurd (omega arith); complete = λ a. refl }
+
+pub counted-more : (s : List ℕ) (i n j m : ℕ) → Counted s i n j → get_or s (i + j) 0 < 0x80 → m ≡ n + 1 → Counted s i m (j + 1)
+counted-more s i n j m c h e = record {
+  most = omega (arith, c.most);
+  sound = λ q. below_more (λ k. get_or s (i + k) 0 < 0x80) j (c.sound (omega arith)) h;
+  complete = λ a. omega (arith, c.complete (λ k l. a k (omega arith)));
+}
+
+pub counted-not : (s : List ℕ) (i n j m : ℕ) → Counted s i n j → 0x80 ≤ get_or s (i + j) 0 → m ≡ n → Counted s i m (j + 1)
+counted-not s i n j m c h e = record {
+  most = omega (arith, c.most);
+  sound = λ q. absurd (omega (arith, c.most));
+  complete = λ a. absurd (omega (arith, a j (omega arith)));
+}
+
+pub counted-all : (s : List ℕ) (i n j m : ℕ) → Counted s i n j → j ≡ m → (eqb n m ≡ true → Ascii s i m) × (Ascii s i m → eqb n m ≡ true)
+counted-all s i n j m c e = (
+  λ t. subst (λ k. Ascii s i k) e (c.sound (eqb-true n m t ∙ sym e)),
+  λ a. eq-eqb n m (c.complete (subst (λ k. Ascii s i k) (sym e) a) ∙ e),
+)

@@ -1,18 +1,15 @@
 -- Blocks of bytes that are each in place behind the three before. Assumes nothing.
-use mathlib.Core.Path.{◌≡◌, refl, sym, ap, ap₂, ◌∙◌, subst}
+use mathlib.Core.Path.{◌≡◌, refl, sym, ap, ◌∙◌, subst}
 use mathlib.Core.List.{List}
 use mathlib.Core.Bool.{Bool, true, false, not, ◌&&◌, ◌||◌, beq}
-use mathlib.Core.Logic.{⊎_elim, inl, inr, ◌⊎◌}
 use Prim.Native.Nat.{ℕ, zero, suc, ◌+◌, ◌-◌, ◌<◌, ◌≤◌}
 use native.Mathlib.Omega.{arith}
-use native.Mathlib.Numerals.{add-one}
-use borrow.Author.Count.{below_more}
-use borrow.Author.Tests.{eqb-true, eqb-false, leb-true, leb-false, ltb-true, ltb-false, not-false, ne_eqb, lt-ltb, le-ltb, le-leb, lt-leb}
+use borrow.Author.Tests.{eqb-true, eqb-false, leb-true, leb-false, ltb-true, not-false, ne_eqb, lt-ltb, le-ltb, le-leb, lt-leb}
 use lib.Dec.{eqb, leb, ltb}
 use lib.ListN.{length, get_or, drop}
 use Rattle.model.specs.Base.{pick, and, or}
 use Rattle.model.specs.Utf8.{Range, ◌to◌, is_within, well_formed, sequence_of}
-use Rattle.utf8.specs.Lead.{length_of, second_of, never, left_out, misplaced, misplaced_of_two, begun_by, any_below, misplaced_in}
+use Rattle.utf8.specs.Lead.{length_of, second_of, never, left_out, misplaced, misplaced_of_two, begun_by, misplaced_in}
 use Rattle.utf8.specs.Lead.{misplaced_of_two_in, begun_at}
 use Rattle.utf8.proofs.Parts.{and_left, and_right, any_none}
 use Rattle.utf8.proofs.Sequence.{all_below, below, first-most, length_most, one, two, three, four}
@@ -121,7 +118,7 @@ misplaced-is p3 p2 p1 b h = go (leb 0xC0 p1) (leb 0xE0 p2) (leb 0xF0 p3) refl
     go : (t u v : Bool) → leb 0xC0 p1 ≡ t
         → computed (t || (u || v)) p1 b
         ≡ pick t (λ x. not (is_within b (second_of p1)))
-            (λ x. pick (or u v) (λ y. not (is_within b (0x80 to 0xBF))) (λ y. eqb (length_of b) 0))
+        (λ x. pick (or u v) (λ y. not (is_within b (0x80 to 0xBF))) (λ y. eqb (length_of b) 0))
     go true u v e = second_is p1 b h
     go false true v e = further-is p1 b h (leb-false 0xC0 p1 e)
     go false false true e = further-is p1 b h (leb-false 0xC0 p1 e)
@@ -323,8 +320,11 @@ module _ (s : List ℕ) (a n : ℕ) (r : a + 3 + n ≤ length s) (q : Quiet s a)
       let k : 1 < n = omega arith in
       record {
         is = three s (a + 3) 3 (omega arith) (first-most b0 2 e) (sym e)
-            (record { second = record { room = omega arith; size = omega arith; fits = at_second m k }; size = omega arith;
-                fits = at-third l h }) (omega arith);
+            (record {
+              second = record { room = omega arith; size = omega arith; fits = at_second m k };
+              size = omega arith;
+              fits = at-third l h;
+            }) (omega arith);
         quiet = record {
           third = omega (arith, high 2 e);
           second = less (a + 3 + 1) (a + 3 + 1) 0xC0 0xE0 refl (omega arith) (second-less m k);
@@ -343,8 +343,11 @@ module _ (s : List ℕ) (a n : ℕ) (r : a + 3 + n ≤ length s) (q : Quiet s a)
       record {
         is = four s (a + 3) 4 (omega arith) (first-most b0 3 e) (sym e)
             (record {
-              third = record { second = record { room = omega arith; size = omega arith; fits = at_second o k }; size = omega arith;
-                  fits = at-third m j };
+              third = record {
+                second = record { room = omega arith; size = omega arith; fits = at_second o k };
+                size = omega arith;
+                fits = at-third m j;
+              };
               size = omega arith;
               fits = at-fourth l h;
             });

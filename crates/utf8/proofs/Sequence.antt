@@ -215,9 +215,11 @@ module _ (b : ℕ) (h : b < 256) (l : 0x80 ≤ b) where
       → (count_leading_zeros 8 (255 - b) ≡ 4 → ⊥)
       → length_of b ≡ 0
   unfolding by_ones
-  ones_none x y z = length-by-ones ∙ rw
-      (ne_eqb (count_leading_zeros 8 (255 - b)) 2 x, ne_eqb (count_leading_zeros 8 (255 - b)) 3 y,
-          ne_eqb (count_leading_zeros 8 (255 - b)) 4 z)
+  ones_none x y z = length-by-ones ∙ rw (
+    ne_eqb (count_leading_zeros 8 (255 - b)) 2 x,
+    ne_eqb (count_leading_zeros 8 (255 - b)) 3 y,
+    ne_eqb (count_leading_zeros 8 (255 - b)) 4 z,
+  )
 
   -- Not two: none, three or four.
   ones-others : (count_leading_zeros 8 (255 - b) ≡ 2 → ⊥) → length_of b ≡ 0 ⊎ 3 ≤ length_of b

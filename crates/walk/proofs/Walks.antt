@@ -10,20 +10,18 @@ use Rattle.model.specs.Drawing.{attributes_at, declarations_at, readings_at, par
 use Rattle.script.specs.declared.cursor.Cursor.{Cursor}
 use Rattle.script.specs.declared.cursor.Step.{Step}
 use Rattle.script.specs.declared.cursor.Step.TheVariants as step
-use Rattle.script.specs.Step.{Fit, Here, commands_at, mark_of, moved, most_place, step_at, Going}
+use Rattle.script.specs.Step.{Fit, Here, commands_at, mark_of, most_place, step_at, Going}
 use Rattle.script.proofs.Commands.{Told, told, goes}
-use Rattle.walk.specs.declared.node.Opened.{Opened}
 use Rattle.walk.specs.declared.node.Item.{Item}
 use Rattle.walk.specs.declared.node.Item.TheVariants as item
-use Rattle.walk.specs.declared.value.ValueAt.{ValueAt}
 use Rattle.walk.specs.declared.value.NextValue.{NextValue}
 use Rattle.walk.specs.declared.value.NextValue.TheVariants as next
 use Rattle.walk.specs.declared.value.NextReading.{NextReading}
 use Rattle.walk.specs.declared.value.NextReading.TheVariants as read
-use Rattle.walk.specs.Values.{attributes_in, declarations_in, readings_in, events_at, SameNodes, SameRest, attributes_of, AttributeFit}
+use Rattle.walk.specs.Values.{attributes_in, declarations_in, readings_in, events_at, SameRest, attributes_of, AttributeFit}
 use Rattle.walk.specs.Values.{declarations_of}
 use Rattle.walk.specs.Values.{DeclarationFit, readings_of, ReadingFit}
-use Rattle.walk.specs.Nodes.{element_of, events_of, Further, ItemFit}
+use Rattle.walk.specs.Nodes.{events_of, Further, ItemFit}
 
 -- What g says of the commands from c on, it says of those from n on, if a command x between them changes nothing.
 module _ {A : Type 0} (g : Mark → List Command → A) where

@@ -1,7 +1,6 @@
 use native.Mathlib.Omega.{arith}
 use Rattle.walk.proofs.Walks.{item-told}
 use Rattle.elements.proofs.Turning.{opening, further-on, above-there, behind-text, behind-other, behind-close}
-use borrow.Author.Rules.{rules}
 use Rattle.elements.proofs.advance.Goals as goal
 
 pub begin-requires : goal.begin-requires

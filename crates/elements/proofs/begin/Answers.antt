@@ -1,6 +1,5 @@
 use Rattle.tree.proofs.Bools.{passes}
 use Rattle.elements.proofs.Turning.{ready, inside, passed, grown, kept-tag, done-told, behind-told}
-use borrow.Author.Rules.{rules}
 use Rattle.elements.proofs.begin.Goals as goal
 
 pub returns-then-not-is_kept : goal.returns-then-not-is_kept

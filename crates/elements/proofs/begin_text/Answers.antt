@@ -1,5 +1,4 @@
 use Rattle.elements.proofs.Turning.{beginning, labelled}
-use borrow.Author.Rules.{rules}
 use Rattle.elements.proofs.begin_text.Goals as goal
 
 pub parse_svg_text_element-requires : goal.parse_svg_text_element-requires

@@ -1,8 +1,6 @@
 use lib.ListN.{length}
 use mathlib.Core.Path.{sym, ◌∙◌}
-use native.Mathlib.Omega.{arith}
 use Rattle.elements.proofs.Turning.{starting}
-use borrow.Author.Rules.{rules}
 use Rattle.elements.proofs.elements_build.Goals as goal
 
 pub run-requires : goal.run-requires

@@ -1,6 +1,5 @@
 use borrow.Author.Tests.{eq-eqb, ne_eqb, le-leb, lt-leb}
-use mathlib.Core.Path.{refl, sym}
-use borrow.Author.Rules.{rules}
+use mathlib.Core.Path.{refl}
 use Rattle.elements.proofs.is_kept.Goals as goal
 
 pub returns-then-space-gt1 : goal.returns-then-space-gt1

@@ -1,7 +1,6 @@
 use mathlib.Core.Path.{sym, ap}
 use Prim.Native.Nat.{ℕ}
 use lib.ListN.{replicate, length-replicate}
-use borrow.Author.Rules.{rules}
 use Rattle.elements.proofs.run.Goals as goal
 
 pub fill-requires : goal.fill-requires

@@ -1,9 +1,6 @@
 use borrow.Author.Rules.{rules}
-use mathlib.Core.Path.{◌≡◌, refl, ◌∙◌}
+use mathlib.Core.Path.{refl}
 use native.Mathlib.Omega.{arith}
-use Prim.Native.Nat.{◌-◌}
-use lib.ListN.{length}
-use Rattle.elements.specs.Turns.{Going}
 use Rattle.elements.proofs.Turning.{turn-told}
 use Rattle.elements.proofs.run_by.Goals as goal
 

@@ -1,6 +1,5 @@
 use Rattle.model.specs.Names.{fixed_bytes, fixed_values}
 use Rattle.names.proofs.Compared.{same-empty, no-fixed}
-use borrow.Author.Rules.{rules}
 use Rattle.names.proofs.is_fixed.Goals as goal
 
 pub returns-in-1 : goal.returns-in-1

@@ -2,7 +2,6 @@ use mathlib.Core.Path.{sym}
 use Rattle.model.specs.Base.{among_words}
 use Rattle.model.specs.Names.{image_rendering_words}
 use Rattle.names.proofs.Compared.{decided}
-use borrow.Author.Rules.{rules}
 use Rattle.names.proofs.is_image_rendering_word.Goals as goal
 
 pub returns-then-same : goal.returns-then-same

@@ -1,6 +1,5 @@
 use mathlib.Core.Path.{sym}
 use Rattle.model.specs.Names.{is_inheritable}
-use borrow.Author.Rules.{rules}
 use Rattle.names.proofs.is_inheritable.Goals as goal
 
 pub returns-then-is_presentation : goal.returns-then-is_presentation

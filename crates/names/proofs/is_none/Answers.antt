@@ -1,5 +1,4 @@
 use Rattle.model.specs.Names.{fixed_bytes, fixed_values}
-use borrow.Author.Rules.{rules}
 use Rattle.names.proofs.is_none.Goals as goal
 
 pub returns : goal.returns

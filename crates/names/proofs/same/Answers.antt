@@ -1,9 +1,7 @@
 use borrow.Author.Tests.{eq-eqb, ne_eqb}
-use mathlib.Core.Path.{◌≡◌, refl, sym, ◌∙◌}
-use Prim.Native.Nat.{◌≤◌, ◌-◌, zero-le}
+use mathlib.Core.Path.{refl, sym, ◌∙◌}
+use Prim.Native.Nat.{zero-le}
 use native.Mathlib.Omega.{arith}
-use lib.ListN.{length, drop}
-use Rattle.model.specs.Base.{same_bytes}
 use Rattle.names.proofs.Compared.{differ, same_step, same_end}
 use Rattle.names.proofs.same.Goals as goal
 
@@ -31,8 +29,7 @@ pub loop-i-smaller : goal.loop-i-smaller
 loop-i-smaller c = omega arith
 
 pub loop-i-preserved : goal.loop-i-preserved
-loop-i-preserved c =
-    (
+loop-i-preserved c = (
   omega arith,
   sym
       (same_step _ _ _ c.loop-i-test.true (omega arith) ∙ rw (eq-eqb _ _ c.if-a-i.false))

@@ -1,10 +1,7 @@
-use borrow.Author.Tests.{eq-eqb, ne_eqb}
-use mathlib.Core.Path.{◌≡◌, refl, sym, ◌∙◌}
-use Prim.Native.Nat.{◌≤◌, ◌-◌, zero-le}
-use native.Mathlib.Omega.{arith}
+use mathlib.Core.Path.{◌≡◌}
+use Prim.Native.Nat.{◌≤◌, ◌-◌}
 use lib.ListN.{length, drop}
 use Rattle.model.specs.Base.{same_bytes}
-use Rattle.names.proofs.Compared.{differ, same_step, same_end}
 use Rattle.names.proofs.same.Given as goal
 
 abbrev pub invariant-loop-i : goal.invariant-loop-i

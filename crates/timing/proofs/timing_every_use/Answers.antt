@@ -1,9 +1,8 @@
 use native.Mathlib.Omega.{arith}
 use borrow.Author.Rules.{rules}
-use Prim.Native.Nat.{ℕ, ◌-◌, ◌≤◌}
-use lib.ListN.{length, replicate, length-replicate}
+use Prim.Native.Nat.{ℕ}
+use lib.ListN.{replicate, length-replicate}
 use mathlib.Core.Path.{sym, ap}
-use Rattle.script.specs.Step.{Fit}
 use Rattle.script.proofs.Commands.{placed_first}
 use Rattle.links.proofs.Linking.{use-told}
 use Rattle.timing.proofs.timing_every_use.Goals as goal

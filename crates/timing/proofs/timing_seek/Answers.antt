@@ -1,7 +1,4 @@
-use native.Mathlib.Omega.{arith}
 use borrow.Author.Rules.{rules}
-use Prim.Native.Nat.{◌-◌, ◌≤◌}
-use Rattle.script.specs.Step.{Fit}
 use Rattle.script.proofs.Commands.{placed_first}
 use Rattle.timing.proofs.timing_seek.Goals as goal
 

@@ -1,8 +1,5 @@
-use native.Mathlib.Omega.{arith}
-use borrow.Author.Rules.{rules}
-use Prim.Native.Nat.{◌-◌, ◌≤◌}
+use Prim.Native.Nat.{◌-◌}
 use Rattle.script.specs.Step.{Fit}
-use Rattle.script.proofs.Commands.{placed_first}
 use Rattle.timing.proofs.timing_seek.Given as goal
 
 abbrev pub invariant-loop-i : goal.invariant-loop-i

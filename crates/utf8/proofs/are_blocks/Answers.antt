@@ -1,10 +1,7 @@
 use native.Mathlib.Omega.{arith}
-use mathlib.Core.Logic.{⊎_elim}
 use mathlib.Core.Path.{sym, ◌∙◌, ap}
-use Prim.Native.Nat.{◌≤◌}
-use lib.ListN.{length, drop}
+use lib.ListN.{drop}
 use Rattle.model.specs.Utf8.{is_utf8_from}
-use borrow.Author.Rules.{rules}
 use Rattle.utf8.proofs.are_blocks.Goals as goal
 use Rattle.utf8.proofs.are_blocks.Goals.{then-i-lt3+else-i-lt3-2, else-i-lt3}
 
@@ -17,6 +14,7 @@ past_blocks-requires c = elim c.if-i-lt3.branch
 
 pub returns : goal.returns
 returns c =
-    c.are_sequences.ensures ∙ (c.past_blocks.ensures.1 ∙ elim c.if-i-lt3.branch
-    [ then-i-lt3+else-i-lt3-2 w ↦ ap (λ j. is_utf8_from 0 (drop j c.args.s.now)) w.i-is ∙ w.past_sequences-i.ensures.1
-    | else-i-lt3 w ↦ ap (λ j. is_utf8_from 0 (drop j c.args.s.now)) w.i-is ])
+    c.are_sequences.ensures ∙ (c.past_blocks.ensures.1 ∙ elim c.if-i-lt3.branch [
+      | then-i-lt3+else-i-lt3-2 w ↦ ap (λ j. is_utf8_from 0 (drop j c.args.s.now)) w.i-is ∙ w.past_sequences-i.ensures.1
+      | else-i-lt3 w ↦ ap (λ j. is_utf8_from 0 (drop j c.args.s.now)) w.i-is
+    ])

@@ -1,5 +1,4 @@
 use Rattle.utf8.proofs.Ascii.{reach-end}
-use borrow.Author.Rules.{rules}
 use Rattle.utf8.proofs.are_sequences.Goals as goal
 
 pub returns : goal.returns

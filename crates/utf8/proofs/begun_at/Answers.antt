@@ -1,7 +1,6 @@
 use native.Mathlib.Omega.{arith}
 use mathlib.Core.Path.{sym}
 use Rattle.utf8.proofs.Blocks.{begun-one, begun-two, begun-three, begun-none}
-use borrow.Author.Rules.{rules}
 use Rattle.utf8.proofs.begun_at.Goals as goal
 
 pub returns-then-s-a-ge192 : goal.returns-then-s-a-ge192

@@ -2,7 +2,6 @@ use native.Mathlib.Omega.{arith}
 use borrow.Author.Tests.{not-true, not-false}
 use mathlib.Core.Path.{sym, ◌∙◌}
 use Rattle.utf8.proofs.Sequence.{first-most, cut, four, bad-second, bad-third, bad-fourth}
-use borrow.Author.Rules.{rules}
 use Rattle.utf8.proofs.four_at.Goals as goal
 
 pub returns-then-s-i-lt4 : goal.returns-then-s-i-lt4

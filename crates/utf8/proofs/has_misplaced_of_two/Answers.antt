@@ -1,7 +1,5 @@
-use borrow.Author.Rules.{rules}
 use native.Mathlib.Omega.{arith}
-use mathlib.Core.Path.{◌≡◌, refl, subst, ◌∙◌, ap}
-use Prim.Native.Nat.{◌-◌, ◌≤◌}
+use mathlib.Core.Path.{refl, ◌∙◌, ap}
 use Rattle.utf8.specs.Lead.{misplaced_of_two_in, any_below}
 use Rattle.utf8.proofs.Parts.{any-more}
 use Rattle.utf8.proofs.has_misplaced_of_two.Goals as goal

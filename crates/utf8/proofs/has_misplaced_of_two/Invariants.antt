@@ -1,9 +1,6 @@
-use borrow.Author.Rules.{rules}
-use native.Mathlib.Omega.{arith}
-use mathlib.Core.Path.{◌≡◌, refl, subst, ◌∙◌, ap}
+use mathlib.Core.Path.{◌≡◌}
 use Prim.Native.Nat.{◌-◌, ◌≤◌}
-use Rattle.utf8.specs.Lead.{misplaced_of_two_in, any_below}
-use Rattle.utf8.proofs.Parts.{any-more}
+use Rattle.utf8.specs.Lead.{misplaced_of_two_in}
 use Rattle.utf8.proofs.has_misplaced_of_two.Given as goal
 
 abbrev pub invariant-loop-j : goal.invariant-loop-j

@@ -1,8 +1,6 @@
-use borrow.Author.Rules.{rules}
 use native.Mathlib.Omega.{arith}
 use mathlib.Core.Bool.{not}
 use mathlib.Core.Path.{◌≡◌, refl, ap, ◌∙◌}
-use Prim.Native.Nat.{◌-◌, ◌≤◌}
 use Rattle.utf8.specs.Lead.{beyond_in, any_below}
 use borrow.Author.Tests.{lt-leb}
 use Rattle.utf8.proofs.Parts.{any-more, none_any}
@@ -25,7 +23,7 @@ pub returns-clause-told : goal.returns-clause-told
 returns-clause-told c =
     let args = c.args in
     let told : not c.loop-j.beyond ≡ not (beyond_in args.s.now args.i args.size) =
-        ap not (c.loop-j.invariant.1 ∙ ap (λ n. beyond_in args.s.now args.i n) (omega arith)) in (
-      (λ h. (ascii-told _ _ _ _ told h).each),
+    ap not (c.loop-j.invariant.1 ∙ ap (λ n. beyond_in args.s.now args.i n) (omega arith)) in (
+      (λ h. ascii-told _ _ _ _ told h),
       (λ h. told ∙ ap not (none_any args.size _ (λ k l. lt-leb 0x80 _ (h k l)))),
     )

@@ -1,10 +1,6 @@
-use borrow.Author.Rules.{rules}
-use native.Mathlib.Omega.{arith}
-use mathlib.Core.Bool.{not}
-use mathlib.Core.Path.{◌≡◌, refl, ap, ◌∙◌}
+use mathlib.Core.Path.{◌≡◌}
 use Prim.Native.Nat.{◌-◌, ◌≤◌}
-use Rattle.utf8.specs.Lead.{beyond_in, any_below}
-use Rattle.utf8.proofs.Parts.{any-more}
+use Rattle.utf8.specs.Lead.{beyond_in}
 use Rattle.utf8.proofs.is_ascii.Given as goal
 
 abbrev pub invariant-loop-j : goal.invariant-loop-j

@@ -1,7 +1,5 @@
 use native.Mathlib.Omega.{arith}
-use mathlib.Core.Path.{◌≡◌, refl}
 use Rattle.utf8.proofs.Blocks.{misplaced-is}
-use borrow.Author.Rules.{rules}
 use Rattle.utf8.proofs.is_misplaced.Goals as goal
 
 pub returns : goal.returns

@@ -1,6 +1,5 @@
 use native.Mathlib.Omega.{arith}
 use Rattle.utf8.proofs.Blocks.{of-two-is}
-use borrow.Author.Rules.{rules}
 use Rattle.utf8.proofs.is_misplaced_of_two.Goals as goal
 
 pub returns : goal.returns

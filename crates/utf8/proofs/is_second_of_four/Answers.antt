@@ -1,8 +1,6 @@
-use native.Mathlib.Omega.{arith}
 use mathlib.Core.Path.{sym, ap, ◌∙◌}
 use Rattle.model.specs.Utf8.{is_within}
 use Rattle.utf8.proofs.Sequence.{four_low, four-high, four-wide}
-use borrow.Author.Rules.{rules}
 use Rattle.utf8.proofs.is_second_of_four.Goals as goal
 
 pub returns-then-first-eq240 : goal.returns-then-first-eq240

@@ -1,8 +1,6 @@
-use native.Mathlib.Omega.{arith}
 use mathlib.Core.Path.{sym, ap, ◌∙◌}
 use Rattle.model.specs.Utf8.{is_within}
 use Rattle.utf8.proofs.Sequence.{three-low, three-high, three-wide}
-use borrow.Author.Rules.{rules}
 use Rattle.utf8.proofs.is_second_of_three.Goals as goal
 
 pub returns-then-first-eq224 : goal.returns-then-first-eq224

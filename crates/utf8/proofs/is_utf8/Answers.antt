@@ -2,7 +2,6 @@ use native.Mathlib.Omega.{arith}
 use mathlib.Core.Path.{◌∙◌}
 use Rattle.model.specs.Utf8.{is_utf8}
 use Rattle.utf8.proofs.Ascii.{reach-all}
-use borrow.Author.Rules.{rules}
 use Rattle.utf8.proofs.is_utf8.Goals as goal
 
 pub returns-then-s-ge16 : goal.returns-then-s-ge16

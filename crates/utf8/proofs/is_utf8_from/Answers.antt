@@ -1,7 +1,6 @@
 use native.Mathlib.Omega.{arith}
 use mathlib.Core.Path.{◌∙◌}
 use Rattle.utf8.proofs.Ascii.{reach-all}
-use borrow.Author.Rules.{rules}
 use Rattle.utf8.proofs.is_utf8_from.Goals as goal
 
 pub returns-then-i-s : goal.returns-then-i-s

@@ -1,10 +1,6 @@
-use native.Mathlib.Omega.{arith}
-use borrow.Author.Rules.{rules}
-use borrow.Author.Tests.{not-false}
-use mathlib.Core.Path.{◌∙◌}
 use Prim.Native.Nat.{◌-◌, ◌≤◌}
 use lib.ListN.{length}
-use Rattle.utf8.proofs.Ascii.{Reach, reach-block, reach-join, ascii-told}
+use Rattle.utf8.proofs.Ascii.{Reach}
 use Rattle.utf8.proofs.past_ascii.Given as goal
 
 abbrev pub invariant-loop-i : goal.invariant-loop-i

@@ -1,9 +1,6 @@
 use native.Mathlib.Omega.{arith}
-use borrow.Author.Rules.{rules}
 use mathlib.Core.Path.{◌∙◌}
-use Prim.Native.Nat.{◌+◌, ◌-◌, ◌≤◌}
-use lib.ListN.{length}
-use Rattle.utf8.proofs.Ascii.{Reach, reach-none}
+use Rattle.utf8.proofs.Ascii.{reach-none}
 use Rattle.utf8.proofs.past_blocks.Goals as goal
 
 pub loop-i-init : goal.loop-i-init
@@ -13,8 +10,7 @@ pub returns-then-next-i : goal.returns-then-next-i
 returns-then-next-i c = (c.loop-i.invariant.1.within, c.loop-i.invariant.1.same)
 
 pub loop-i-preserved : goal.loop-i-preserved
-loop-i-preserved c =
-    (
+loop-i-preserved c = (
   omega arith,
   record {
     within = c.past_block-next.ensures.1;

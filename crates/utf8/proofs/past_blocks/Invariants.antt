@@ -1,9 +1,6 @@
-use native.Mathlib.Omega.{arith}
-use borrow.Author.Rules.{rules}
-use mathlib.Core.Path.{◌∙◌}
-use Prim.Native.Nat.{◌+◌, ◌-◌, ◌≤◌}
+use Prim.Native.Nat.{◌-◌, ◌≤◌}
 use lib.ListN.{length}
-use Rattle.utf8.proofs.Ascii.{Reach, reach-none}
+use Rattle.utf8.proofs.Ascii.{Reach}
 use Rattle.utf8.proofs.past_blocks.Given as goal
 
 abbrev pub invariant-loop-i : goal.invariant-loop-i

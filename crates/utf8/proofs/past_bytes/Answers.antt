@@ -1,8 +1,5 @@
 use native.Mathlib.Omega.{arith}
-use borrow.Author.Rules.{rules}
-use Prim.Native.Nat.{◌-◌, ◌≤◌}
-use lib.ListN.{length}
-use Rattle.utf8.proofs.Ascii.{Reach, reach-none, reach-ascii, reach-join}
+use Rattle.utf8.proofs.Ascii.{reach-none, reach-ascii, reach-join}
 use Rattle.utf8.proofs.past_bytes.Goals as goal
 
 pub loop-i-init : goal.loop-i-init
@@ -14,8 +11,7 @@ returns-then-s-i-ge128 c =
     (loop-inv.0, loop-inv.1, loop-inv.2.same)
 
 pub loop-i-preserved : goal.loop-i-preserved
-loop-i-preserved c =
-    (
+loop-i-preserved c = (
   omega arith,
   omega arith,
   reach-join _ _ _ _ c.loop-i.invariant.2 (reach-ascii _ _ (omega arith) c.if-s-i-ge128.false),

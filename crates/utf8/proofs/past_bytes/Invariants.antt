@@ -1,8 +1,6 @@
-use native.Mathlib.Omega.{arith}
-use borrow.Author.Rules.{rules}
 use Prim.Native.Nat.{◌-◌, ◌≤◌}
 use lib.ListN.{length}
-use Rattle.utf8.proofs.Ascii.{Reach, reach-none, reach-ascii, reach-join}
+use Rattle.utf8.proofs.Ascii.{Reach}
 use Rattle.utf8.proofs.past_bytes.Given as goal
 
 abbrev pub invariant-loop-i : goal.invariant-loop-i

@@ -1,11 +1,9 @@
 use native.Mathlib.Omega.{arith}
-use mathlib.Core.Path.{◌≡◌, sym, ap, ◌∙◌, subst}
-use Prim.Native.Nat.{ℕ, ◌+◌, ◌-◌, ◌≤◌}
+use mathlib.Core.Path.{sym, ◌∙◌, subst}
+use Prim.Native.Nat.{◌-◌}
 use lib.ListN.{length}
-use Rattle.utf8.specs.Lead.{begun_at}
 use Rattle.utf8.proofs.Ascii.{Reach}
 use Rattle.utf8.proofs.Blocks.{last-reach, begun-most}
-use borrow.Author.Rules.{rules}
 use Rattle.utf8.proofs.past_last.Goals as goal
 
 pub overflow_sub-result : goal.overflow_sub-result

@@ -1,9 +1,6 @@
 use native.Mathlib.Omega.{arith}
-use borrow.Author.Rules.{rules}
 use borrow.Author.Tests.{not-false}
-use Prim.Native.Nat.{◌-◌, ◌≤◌}
-use lib.ListN.{length}
-use Rattle.utf8.proofs.Ascii.{Reach, reach-none, reach-block, reach-join, ascii-told}
+use Rattle.utf8.proofs.Ascii.{reach-none, reach-block, reach-join, ascii-told}
 use Rattle.utf8.proofs.past_long.Goals as goal
 
 pub loop-i-init : goal.loop-i-init
@@ -15,8 +12,7 @@ returns-then-not-is_ascii c =
     (loop-inv.0, loop-inv.1.within, loop-inv.1.same)
 
 pub loop-i-preserved : goal.loop-i-preserved
-loop-i-preserved c =
-    (
+loop-i-preserved c = (
   omega arith,
   reach-join _ _ _ _ c.loop-i.invariant.1
       (reach-block _ _ 256 (omega arith) (ascii-told _ _ _ _ c.is_ascii.ensures.beyond (not-false _ c.if-not-is_ascii.false-raw))),

@@ -1,9 +1,6 @@
-use native.Mathlib.Omega.{arith}
-use borrow.Author.Rules.{rules}
-use borrow.Author.Tests.{not-false}
 use Prim.Native.Nat.{◌-◌, ◌≤◌}
 use lib.ListN.{length}
-use Rattle.utf8.proofs.Ascii.{Reach, reach-none, reach-block, reach-join, ascii-told}
+use Rattle.utf8.proofs.Ascii.{Reach}
 use Rattle.utf8.proofs.past_long.Given as goal
 
 abbrev pub invariant-loop-i : goal.invariant-loop-i

@@ -1,16 +1,12 @@
 use native.Mathlib.Omega.{arith}
-use borrow.Author.Rules.{rules}
-use Prim.Native.Nat.{◌-◌, ◌≤◌}
-use lib.ListN.{length}
-use Rattle.utf8.proofs.Ascii.{Reach, reach-none, reach-on, reach-bad, reach-join}
+use Rattle.utf8.proofs.Ascii.{reach-none, reach-on, reach-bad, reach-join}
 use Rattle.utf8.proofs.past_sequences.Goals as goal
 
 pub loop-i-init : goal.loop-i-init
 loop-i-init c = reach-none _ _ (omega arith)
 
 pub returns-then-n-eq0 : goal.returns-then-n-eq0
-returns-then-n-eq0 c =
-    (
+returns-then-n-eq0 c = (
   c.loop-i.invariant.within,
   c.loop-i.invariant.same,
   λ l. reach-bad _ c.loop-i.i (omega arith) _ c.sequence_at-n.ensures c.if-n-eq0.true,

@@ -1,7 +1,6 @@
 use native.Mathlib.Omega.{arith}
 use mathlib.Core.Path.{refl, sym}
 use Rattle.utf8.proofs.Sequence.{ascii-length, ones-two, ones-two-none, ones-three, ones-four, ones-four-none, ones_none, one, few}
-use borrow.Author.Rules.{rules}
 use Rattle.utf8.proofs.sequence_at.Goals as goal
 
 pub returns-then-b-lt128 : goal.returns-then-b-lt128
@@ -25,8 +24,8 @@ two_at-requires c =
     record {
       i_in_bounds = c.requires;
       i_value = ones-two _
-      (omega (arith, c.type_inv.s c.args.i))
-      c.if-b-lt128.false c.if-n-eq2.true c.if-b-lt194.false;
+          (omega (arith, c.type_inv.s c.args.i))
+          c.if-b-lt128.false c.if-n-eq2.true c.if-b-lt194.false;
     }
 
 pub returns-then-s-i-lt3 : goal.returns-then-s-i-lt3
@@ -40,10 +39,10 @@ three_at-requires c =
     record {
       i_in_bounds = omega arith;
       i_value = ones-three _ (omega (
-    arith,
-    c.type_inv.s c.args.i,
-  ))
-      c.if-b-lt128.false c.if-n-eq3.true;
+        arith,
+        c.type_inv.s c.args.i,
+      ))
+          c.if-b-lt128.false c.if-n-eq3.true;
     }
 
 pub returns-then-b-gt244 : goal.returns-then-b-gt244

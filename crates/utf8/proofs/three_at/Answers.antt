@@ -2,7 +2,6 @@ use native.Mathlib.Omega.{arith}
 use borrow.Author.Tests.{not-true, not-false}
 use mathlib.Core.Path.{sym, ◌∙◌}
 use Rattle.utf8.proofs.Sequence.{first-most, three, bad-second, bad-third}
-use borrow.Author.Rules.{rules}
 use Rattle.utf8.proofs.three_at.Goals as goal
 
 pub returns-then-not-is_second_of_three : goal.returns-then-not-is_second_of_three

@@ -5,7 +5,6 @@ use Prim.Native.Nat.{◌+◌}
 use lib.ListN.{get_or}
 use Rattle.model.specs.Utf8.{is_within}
 use Rattle.utf8.proofs.Sequence.{first-most, second-of-two, cut, two, bad-second}
-use borrow.Author.Rules.{rules}
 use Rattle.utf8.proofs.two_at.Goals as goal
 
 pub returns-then-s-i-lt2 : goal.returns-then-s-i-lt2

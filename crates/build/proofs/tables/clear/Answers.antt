@@ -1,5 +1,4 @@
 use Rattle.build.proofs.Answering.{all-cleared}
-use borrow.Author.Rules.{rules}
 use Rattle.build.proofs.tables.clear.Goals as goal
 
 pub returns : goal.returns

@@ -1,6 +1,5 @@
 use mathlib.Core.Path.{◌∙◌}
 use Rattle.build.proofs.Answering.{first-none, first_some}
-use borrow.Author.Rules.{rules}
 use Rattle.build.proofs.tables.first_is_svg.Goals as goal
 
 pub returns-then-first-eq0 : goal.returns-then-first-eq0

@@ -1,5 +1,4 @@
 use Rattle.build.proofs.Answering.{refused-clear, refused-as-is}
-use borrow.Author.Rules.{rules}
 use Rattle.build.proofs.tables.refuse.Goals as goal
 
 pub returns-then-clears : goal.returns-then-clears

@@ -1,6 +1,5 @@
-use mathlib.Core.Path.{◌∙◌, sym}
+use mathlib.Core.Path.{◌∙◌}
 use Rattle.build.proofs.Building.{check-refused}
-use borrow.Author.Rules.{rules}
 use Rattle.build.proofs.whole.build.Goals as goal
 
 pub returns-then-k-ne0 : goal.returns-then-k-ne0

@@ -1,8 +1,6 @@
 use mathlib.Core.Path.{◌∙◌}
-use native.Mathlib.Omega.{arith}
 use Rattle.build.proofs.Answering.{refused-answer}
 use Rattle.build.proofs.Building.{no-root, root-room, root-alone, with-root}
-use borrow.Author.Rules.{rules}
 use Rattle.build.proofs.whole.build_checked.Goals as goal
 
 pub returns-then-node_room-eq0 : goal.returns-then-node_room-eq0

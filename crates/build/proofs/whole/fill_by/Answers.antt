@@ -1,6 +1,5 @@
 use mathlib.Core.Path.{◌∙◌, refl}
 use Rattle.build.proofs.Building.{begins, begins-behind, all-behind, fill-refused, fill_done, fill-tended}
-use borrow.Author.Rules.{rules}
 use Rattle.build.proofs.whole.fill_by.Goals as goal
 
 pub pass_unbuilt-requires : goal.pass_unbuilt-requires

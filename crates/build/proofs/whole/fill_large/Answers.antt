@@ -2,7 +2,6 @@ use mathlib.Core.Path.{sym, ap}
 use Prim.Native.Nat.{ℕ}
 use lib.ListN.{replicate, length-replicate}
 use Rattle.build.proofs.Building.{both_small}
-use borrow.Author.Rules.{rules}
 use Rattle.build.proofs.whole.fill_large.Goals as goal
 
 pub fill-requires : goal.fill-requires

@@ -2,7 +2,6 @@ use mathlib.Core.Path.{◌∙◌}
 use borrow.Author.Tests.{not-true, not-false}
 use Rattle.repair.proofs.Mending.{tidy-seen}
 use Rattle.build.proofs.Building.{first-there, finish-refused, finish-done}
-use borrow.Author.Rules.{rules}
 use Rattle.build.proofs.whole.finish.Goals as goal
 
 pub first_is_svg-requires : goal.first_is_svg-requires

@@ -3,7 +3,6 @@ use mathlib.Core.Path.{◌∙◌}
 use borrow.Author.Tests.{eq-eqb, ne_eqb}
 use Rattle.tree.proofs.Facts.{readable}
 use Rattle.cuts.proofs.Turning.{back-told, back_cut, back-kept}
-use borrow.Author.Rules.{rules}
 use Rattle.cuts.proofs.back.cut_back.Goals as goal
 
 pub mark_of-mark-requires : goal.mark_of-mark-requires

@@ -1,6 +1,5 @@
 use native.Mathlib.Omega.{arith}
-use Prim.Native.Nat.{◌-◌}
-use Rattle.cuts.proofs.Looking.{Cutting, cutting-first, cutting-turn, cutting-done, cutting-silent}
+use Rattle.cuts.proofs.Looking.{cutting-first, cutting-turn, cutting-done, cutting-silent}
 use Rattle.cuts.proofs.back.cut_below.Goals as goal
 
 pub behind_target-end-requires : goal.behind_target-end-requires
@@ -37,7 +36,7 @@ pub returns : goal.returns
 returns c =
     record {
       tables = cutting-done _ _ _ _ _ _ _ _ _ _ _ _ _ c.loop-m.invariant c.loop-m-test.false
-      c.behind_target-end.ensures;
+          c.behind_target-end.ensures;
       range = c.behind_target-end.ensures;
       silent = cutting-silent _ _ _ _ _ _ _ _ _ _ _ _ _ c.loop-m.invariant c.loop-m-test.false;
     }

@@ -1,5 +1,4 @@
 use native.Mathlib.Omega.{arith}
-use borrow.Author.Rules.{rules}
 use Rattle.cuts.proofs.Looking.{onward-one, range-kept, onward-range}
 use Rattle.cuts.proofs.back.cut_next.Goals as goal
 

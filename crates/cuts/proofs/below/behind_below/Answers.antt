@@ -1,6 +1,5 @@
-use Prim.Native.Nat.{◌-◌}
 use native.Mathlib.Omega.{arith}
-use Rattle.cuts.proofs.Descending.{Passed, passed_first, passed-more, passed-stop, passed-all}
+use Rattle.cuts.proofs.Descending.{passed_first, passed-more, passed-stop, passed-all}
 use Rattle.cuts.proofs.below.behind_below.Goals as goal
 
 pub overflow_add-j : goal.overflow_add-j

@@ -1,6 +1,5 @@
 use Prim.Native.Nat.{◌-◌}
-use native.Mathlib.Omega.{arith}
-use Rattle.cuts.proofs.Descending.{Passed, passed_first, passed-more, passed-stop, passed-all}
+use Rattle.cuts.proofs.Descending.{Passed}
 use Rattle.cuts.proofs.below.behind_below.Given as goal
 
 abbrev pub invariant-loop-j : goal.invariant-loop-j

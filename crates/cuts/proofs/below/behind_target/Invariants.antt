@@ -1,8 +1,5 @@
-use native.Mathlib.Omega.{arith}
-use borrow.Author.Rules.{rules}
 use Prim.Native.Nat.{◌-◌}
-use Rattle.cuts.proofs.Descending.{Passed, passed_first, passed-more, passed-range, passed-stop, passed-all}
-use Rattle.cuts.proofs.Quieting.{remembered-range}
+use Rattle.cuts.proofs.Descending.{Passed}
 use Rattle.cuts.proofs.below.behind_target.Given as goal
 
 abbrev pub invariant-loop-j : goal.invariant-loop-j

@@ -1,8 +1,6 @@
 use native.Mathlib.Omega.{arith}
 use mathlib.Core.Path.{sym, ◌∙◌}
-use Prim.Native.Nat.{◌-◌}
-use Rattle.tree.specs.Lent.{read_of}
-use Rattle.cuts.proofs.Descending.{Without, without-first, without_more}
+use Rattle.cuts.proofs.Descending.{without-first, without_more}
 use Rattle.cuts.proofs.below.first_with.Goals as goal
 
 pub loop-m-init : goal.loop-m-init

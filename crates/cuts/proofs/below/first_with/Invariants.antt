@@ -1,8 +1,6 @@
-use native.Mathlib.Omega.{arith}
-use mathlib.Core.Path.{sym, ◌∙◌}
 use Prim.Native.Nat.{◌-◌}
 use Rattle.tree.specs.Lent.{read_of}
-use Rattle.cuts.proofs.Descending.{Without, without-first, without_more}
+use Rattle.cuts.proofs.Descending.{Without}
 use Rattle.cuts.proofs.below.first_with.Given as goal
 
 abbrev pub invariant-loop-m : goal.invariant-loop-m

@@ -1,6 +1,5 @@
 use native.Mathlib.Omega.{arith}
 use Rattle.cuts.proofs.Descending.{links-found}
-use borrow.Author.Rules.{rules}
 use Rattle.cuts.proofs.below.has_links.Goals as goal
 
 pub first_with-requires : goal.first_with-requires

@@ -2,7 +2,6 @@ use mathlib.Core.Path.{ap, ◌∙◌}
 use native.Mathlib.Omega.{arith}
 use Rattle.model.specs.Tables.{attribute_id}
 use Rattle.cuts.proofs.Writing.{cut-none, cut-some}
-use borrow.Author.Rules.{rules}
 use Rattle.cuts.proofs.cut.cut.Goals as goal
 
 pub returns-then-j-eq0 : goal.returns-then-j-eq0

@@ -1,14 +1,14 @@
 use native.Mathlib.Omega.{arith}
 use Rattle.tree.proofs.Facts.{readable}
 use Rattle.cuts.proofs.Aiming.{known_in, key_here, key-absent, key-empty, key-some}
-use borrow.Author.Rules.{rules}
 use Rattle.cuts.proofs.key.key_of.Goals as goal
 
 pub attribute_id-requires : goal.attribute_id-requires
 attribute_id-requires c = readable _ _ c.requires.kept _ c.requires.i_lt_nodes
 
 pub returns-then-attribute_id-eq0 : goal.returns-then-attribute_id-eq0
-returns-then-attribute_id-eq0 c = key-absent _ _ _ _ (omega (arith, c.if-pass-gt2.true)) _ c.attribute_id.ensures.found c.if-attribute_id-eq0.true
+returns-then-attribute_id-eq0 c = key-absent _ _ _ _ (omega (arith, c.if-pass-gt2.true)) _ c.attribute_id.ensures.found
+    c.if-attribute_id-eq0.true
 
 pub returns-then-pass-gt2 : goal.returns-then-pass-gt2
 returns-then-pass-gt2 c =

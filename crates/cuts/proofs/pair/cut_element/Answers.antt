@@ -2,7 +2,6 @@ use native.Mathlib.Omega.{arith}
 use mathlib.Core.Path.{sym, ◌∙◌}
 use Rattle.tree.proofs.Facts.{readable}
 use Rattle.cuts.proofs.Pairing.{element-bare, element-unled, element-pairs}
-use borrow.Author.Rules.{rules}
 use Rattle.cuts.proofs.pair.cut_element.Goals as goal
 
 pub first_with-first-requires : goal.first_with-first-requires
@@ -16,7 +15,8 @@ pub returns-then-first-end : goal.returns-then-first-end
 returns-then-first-end c =
     let below = c.behind_below-end.ensures in record {
       tables = element-bare _ _ _ _ c.args.counts _ _ _ _ _
-          below c.cut_name-name.ensures c.first_with-first.ensures.within.0 c.first_with-first.ensures.within.1 c.first_with-first.ensures.none c.if-first-end.true;
+          below c.cut_name-name.ensures c.first_with-first.ensures.within.0 c.first_with-first.ensures.within.1
+          c.first_with-first.ensures.none c.if-first-end.true;
       known = c.requires.known_2;
     }
 
@@ -25,7 +25,8 @@ returns-then-key-eq0 c =
     let below = c.behind_below-end.ensures in record {
       tables = element-unled _ _ _ _
           c.args.counts _ _ _ _ _
-          below c.cut_name-name.ensures c.first_with-first.ensures.within.0 c.first_with-first.ensures.within.1 c.first_with-first.ensures.none
+          below c.cut_name-name.ensures c.first_with-first.ensures.within.0 c.first_with-first.ensures.within.1
+          c.first_with-first.ensures.none
           c.requires.le_pass.0 c.requires.le_pass.1 (sym c.key_of-key.ensures ∙ c.if-key-eq0.true);
       known = c.requires.known_2;
     }
@@ -35,12 +36,12 @@ cut_pairs-requires c =
     let below = c.behind_below-end.ensures in record {
       cuttable = c.requires.cuttable;
       aimed = record {
-          first = c.requires.le_pass.0;
-          last = c.requires.le_pass.1;
-          inside = c.requires.i_lt_nodes;
-          key = c.key_of-key.ensures;
-          some = c.if-key-eq0.false;
-        };
+        first = c.requires.le_pass.0;
+        last = c.requires.le_pass.1;
+        inside = c.requires.i_lt_nodes;
+        key = c.key_of-key.ensures;
+        some = c.if-key-eq0.false;
+      };
       end_le_nodes = below.high;
       known_2 = c.requires.known_2;
     }
@@ -50,6 +51,7 @@ returns c =
     let below = c.behind_below-end.ensures in record {
       tables = element-pairs _ _ _ _ c.args.counts _ _ _ _ _ below
           c.cut_name-name.ensures
-          c.first_with-first.ensures.within.0 c.first_with-first.ensures.within.1 c.first_with-first.ensures.none _ c.cut_pairs.ensures.tables;
+          c.first_with-first.ensures.within.0 c.first_with-first.ensures.within.1 c.first_with-first.ensures.none _
+          c.cut_pairs.ensures.tables;
       known = c.cut_pairs.ensures.known;
     }

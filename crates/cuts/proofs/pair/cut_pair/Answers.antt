@@ -4,7 +4,6 @@ use borrow.Author.Tests.{eq-eqb, ne_eqb}
 use Rattle.tree.proofs.Facts.{readable}
 use Rattle.cuts.proofs.Turning.{back-told, back_cut}
 use Rattle.cuts.proofs.Pairing.{target-nowhere, target-on, target-inside, pair-back, pair-nowhere, pair-below, quiet-on}
-use borrow.Author.Rules.{rules}
 use Rattle.cuts.proofs.pair.cut_pair.Goals as goal
 
 pub mark_of-mark-requires : goal.mark_of-mark-requires
@@ -58,10 +57,10 @@ cut_target-requires c =
       aimed = a;
       quiet_2 = c.requires.quiet_2;
       w_lt_nodes = omega (
-            arith,
-            target-inside _ _ _ _ _ _ a _ _
-                c.mark_of-mark.ensures (omega (arith, c.if-mark-lt2.false)),
-          );
+        arith,
+        target-inside _ _ _ _ _ _ a _ _
+            c.mark_of-mark.ensures (omega (arith, c.if-mark-lt2.false)),
+      );
     }
 
 pub returns : goal.returns

@@ -1,8 +1,6 @@
 use native.Mathlib.Omega.{arith}
-use borrow.Author.Rules.{rules}
 use mathlib.Core.Path.{refl}
-use Prim.Native.Nat.{◌-◌}
-use Rattle.cuts.proofs.Pairing.{Pairs, pairs_start, pairs-turn, pairs-done, settled-quiet, known-aim}
+use Rattle.cuts.proofs.Pairing.{pairs_start, pairs-turn, pairs-done, settled-quiet, known-aim}
 use Rattle.cuts.proofs.pair.cut_pairs.Goals as goal
 
 pub loop-j-init : goal.loop-j-init

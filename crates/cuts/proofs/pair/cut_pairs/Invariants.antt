@@ -1,12 +1,10 @@
-use native.Mathlib.Omega.{arith}
-use borrow.Author.Rules.{rules}
-use mathlib.Core.Path.{refl}
 use Prim.Native.Nat.{◌-◌}
-use Rattle.cuts.proofs.Pairing.{Pairs, pairs_start, pairs-turn, pairs-done, settled-quiet, known-aim}
+use Rattle.cuts.proofs.Pairing.{Pairs}
 use Rattle.cuts.proofs.pair.cut_pairs.Given as goal
 
 abbrev pub invariant-loop-j : goal.invariant-loop-j
-invariant-loop-j l = Pairs l.script l.characters l.marks l.heads l.nodes l.counts l.aim l.first l.end l.initial.attributes l.attributes l.quiet l.j
+invariant-loop-j l = Pairs l.script l.characters l.marks l.heads l.nodes l.counts l.aim l.first l.end l.initial.attributes l.attributes
+    l.quiet l.j
 
 abbrev pub decreases-loop-j : goal.decreases-loop-j
 decreases-loop-j l = l.end - l.j

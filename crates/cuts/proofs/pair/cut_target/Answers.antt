@@ -1,6 +1,5 @@
 use Rattle.cuts.proofs.Pairing.{covered-kept, quiet-on}
 use Rattle.cuts.proofs.Quieting.{quiet-more}
-use borrow.Author.Rules.{rules}
 use Rattle.cuts.proofs.pair.cut_target.Goals as goal
 
 pub returns-then-is_quiet : goal.returns-then-is_quiet

@@ -1,4 +1,3 @@
-use borrow.Author.Rules.{rules}
 use Rattle.cuts.proofs.pair.settle.Goals as goal
 
 pub returns : goal.returns

@@ -1,5 +1,4 @@
 use Rattle.cuts.proofs.Quieting.{spread_none, spread-one}
-use borrow.Author.Rules.{rules}
 use Rattle.cuts.proofs.quiet.cover.Goals as goal
 
 pub returns-then-quiet-b : goal.returns-then-quiet-b

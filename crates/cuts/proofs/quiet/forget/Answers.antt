@@ -1,7 +1,5 @@
-use borrow.Author.Rules.{rules}
 use native.Mathlib.Omega.{arith}
-use Prim.Native.Nat.{◌≤◌, ◌-◌}
-use Rattle.cuts.proofs.Quieting.{Forgotten, forgotten-more}
+use Rattle.cuts.proofs.Quieting.{forgotten-more}
 use Rattle.cuts.proofs.quiet.forget.Goals as goal
 
 pub loop-b-init : goal.loop-b-init

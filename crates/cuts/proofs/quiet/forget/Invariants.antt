@@ -1,7 +1,5 @@
-use borrow.Author.Rules.{rules}
-use native.Mathlib.Omega.{arith}
 use Prim.Native.Nat.{◌≤◌, ◌-◌}
-use Rattle.cuts.proofs.Quieting.{Forgotten, forgotten-more}
+use Rattle.cuts.proofs.Quieting.{Forgotten}
 use Rattle.cuts.proofs.quiet.forget.Given as goal
 
 abbrev pub invariant-loop-b : goal.invariant-loop-b

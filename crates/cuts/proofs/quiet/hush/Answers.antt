@@ -1,6 +1,5 @@
 use native.Mathlib.Omega.{arith}
 use Rattle.cuts.proofs.Quieting.{hushed-none, hushed-spread}
-use borrow.Author.Rules.{rules}
 use Rattle.cuts.proofs.quiet.hush.Goals as goal
 
 pub returns-then-b-ge4096 : goal.returns-then-b-ge4096

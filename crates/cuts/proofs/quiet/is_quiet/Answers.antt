@@ -3,7 +3,6 @@ use mathlib.Core.Path.{refl}
 use mathlib.Core.Bool.{false≢true}
 use borrow.Author.Tests.{ltb-true}
 use Rattle.cuts.proofs.Quieting.{covered-by}
-use borrow.Author.Rules.{rules}
 use Rattle.cuts.proofs.quiet.is_quiet.Goals as goal
 
 pub returns-then-b-ge4096 : goal.returns-then-b-ge4096

@@ -1,7 +1,4 @@
-use borrow.Author.Rules.{rules}
 use native.Mathlib.Omega.{arith}
-use Prim.Native.Nat.{◌≤◌, ◌-◌}
-use Rattle.cuts.specs.Seen.{Spread}
 use Rattle.cuts.proofs.Quieting.{spread_none, spread-more}
 use Rattle.cuts.proofs.quiet.spread.Goals as goal
 
@@ -9,8 +6,7 @@ pub loop-b-init : goal.loop-b-init
 loop-b-init c = (omega arith, spread_none _ _ _)
 
 pub cover-requires : goal.cover-requires
-cover-requires c =
-    (
+cover-requires c = (
   omega (arith, c.loop-b-test.true, c.blocks-last.ensures.0),
   c.requires,
 )

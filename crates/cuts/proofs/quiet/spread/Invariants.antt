@@ -1,8 +1,5 @@
-use borrow.Author.Rules.{rules}
-use native.Mathlib.Omega.{arith}
 use Prim.Native.Nat.{◌≤◌, ◌-◌}
 use Rattle.cuts.specs.Seen.{Spread}
-use Rattle.cuts.proofs.Quieting.{spread_none, spread-more}
 use Rattle.cuts.proofs.quiet.spread.Given as goal
 
 abbrev pub invariant-loop-b : goal.invariant-loop-b

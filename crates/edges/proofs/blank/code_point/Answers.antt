@@ -1,5 +1,4 @@
 use Rattle.edges.proofs.Blankness.{code_one, code-two, code-three, code-four}
-use borrow.Author.Rules.{rules}
 use Rattle.edges.proofs.blank.code_point.Goals as goal
 
 pub returns-then-n-le1 : goal.returns-then-n-le1

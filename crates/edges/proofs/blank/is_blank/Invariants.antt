@@ -1,11 +1,6 @@
-use native.Mathlib.Omega.{arith}
 use Prim.Native.Nat.{◌-◌}
 use lib.ListN.{length}
-use borrow.Author.Rules.{rules}
-use mathlib.Core.Path.{sym, ap, ◌∙◌}
-use borrow.Author.Tests.{not-true, not-false}
-use Rattle.model.specs.Utf8.{is_within_any, white_spaces}
-use Rattle.edges.proofs.Blankness.{Blank, blank_none, not-blank, blank-on, blank-all, sequence-fits}
+use Rattle.edges.proofs.Blankness.{Blank}
 use Rattle.edges.proofs.blank.is_blank.Given as goal
 
 abbrev pub invariant-loop-i : goal.invariant-loop-i

@@ -1,7 +1,6 @@
 use mathlib.Core.Path.{refl, sym, ◌∙◌}
 use Rattle.model.specs.Utf8.{is_within_any, white_spaces}
 use Rattle.edges.proofs.Blankness.{either}
-use borrow.Author.Rules.{rules}
 use Rattle.edges.proofs.blank.is_white_space.Goals as goal
 
 pub returns-then-is_within : goal.returns-then-is_within

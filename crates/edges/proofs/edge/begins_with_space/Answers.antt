@@ -1,5 +1,4 @@
 use Rattle.edges.proofs.Looking.{text-begins-not, text-begins}
-use borrow.Author.Rules.{rules}
 use Rattle.edges.proofs.edge.begins_with_space.Goals as goal
 
 pub returns-then-node_word-from : goal.returns-then-node_word-from

@@ -1,5 +1,4 @@
 use Rattle.edges.proofs.Looking.{text-ends-not, text-ends}
-use borrow.Author.Rules.{rules}
 use Rattle.edges.proofs.edge.ends_with_space.Goals as goal
 
 pub returns-then-to-node_word : goal.returns-then-to-node_word

@@ -1,7 +1,6 @@
 use mathlib.Core.Path.{◌∙◌, ap}
 use Rattle.model.specs.Utf8.{is_blank}
 use Rattle.edges.proofs.Looking.{text-part}
-use borrow.Author.Rules.{rules}
 use Rattle.edges.proofs.edge.is_blank_text.Goals as goal
 
 pub returns : goal.returns

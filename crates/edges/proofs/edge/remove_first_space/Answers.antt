@@ -1,6 +1,5 @@
 use native.Mathlib.Omega.{arith}
 use Rattle.edges.proofs.Looking.{first-cut}
-use borrow.Author.Rules.{rules}
 use Rattle.edges.proofs.edge.remove_first_space.Goals as goal
 
 pub returns : goal.returns

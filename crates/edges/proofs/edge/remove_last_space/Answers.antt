@@ -1,6 +1,5 @@
 use native.Mathlib.Omega.{arith}
 use Rattle.edges.proofs.Looking.{last-cut}
-use borrow.Author.Rules.{rules}
 use Rattle.edges.proofs.edge.remove_last_space.Goals as goal
 
 pub returns : goal.returns

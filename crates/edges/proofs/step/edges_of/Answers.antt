@@ -1,5 +1,4 @@
 use Rattle.edges.proofs.Steps.{edges-told}
-use borrow.Author.Rules.{rules}
 use Rattle.edges.proofs.step.edges_of.Goals as goal
 
 pub returns : goal.returns

@@ -2,7 +2,6 @@ use mathlib.Core.Path.{refl, ap}
 use mathlib.Core.Bool.{not}
 use lib.Dec.{eqb}
 use borrow.Author.Tests.{not-true, not-false}
-use borrow.Author.Rules.{rules}
 use Rattle.edges.proofs.step.is_first_trimmed.Goals as goal
 
 pub returns-then-not-p : goal.returns-then-not-p

@@ -1,6 +1,5 @@
 use mathlib.Core.Path.{refl, sym, ◌∙◌}
 use borrow.Author.Tests.{not-true, not-false, eq-eqb, ne_eqb}
-use borrow.Author.Rules.{rules}
 use Rattle.edges.proofs.step.is_last_trimmed.Goals as goal
 
 pub returns-then-not-p : goal.returns-then-not-p

@@ -1,6 +1,5 @@
 use mathlib.Core.Path.{refl}
 use borrow.Author.Tests.{not-true, not-false}
-use borrow.Author.Rules.{rules}
 use Rattle.edges.proofs.step.remove_first_if.Goals as goal
 
 pub returns-then-not-passed : goal.returns-then-not-passed

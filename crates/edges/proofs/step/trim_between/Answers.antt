@@ -2,7 +2,6 @@ use mathlib.Core.Path.{refl}
 use borrow.Author.Tests.{not-true, not-false}
 use Rattle.edges.specs.Pairs.{after_between}
 use Rattle.edges.proofs.Steps.{first-filled, second-filled}
-use borrow.Author.Rules.{rules}
 use Rattle.edges.proofs.step.trim_between.Goals as goal
 
 pub returns-then-not-c : goal.returns-then-not-c

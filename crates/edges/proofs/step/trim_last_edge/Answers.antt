@@ -2,7 +2,6 @@ use mathlib.Core.Path.{refl, sym, ◌∙◌}
 use borrow.Author.Tests.{not-true, not-false, eq-eqb, ne_eqb}
 use Rattle.edges.proofs.Looking.{ends-filled}
 use Rattle.edges.proofs.Steps.{last-is}
-use borrow.Author.Rules.{rules}
 use Rattle.edges.proofs.step.trim_last_edge.Goals as goal
 
 pub returns-then-not-p : goal.returns-then-not-p

@@ -1,7 +1,6 @@
 use mathlib.Core.Path.{refl, sym, ◌∙◌}
 use borrow.Author.Tests.{not-true, not-false}
 use Rattle.edges.proofs.Steps.{outer-first-filled, outer-last-filled, outer-is}
-use borrow.Author.Rules.{rules}
 use Rattle.edges.proofs.step.trim_outer.Goals as goal
 
 pub remove_first_space-requires : goal.remove_first_space-requires

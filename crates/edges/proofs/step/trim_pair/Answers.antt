@@ -1,7 +1,6 @@
 use mathlib.Core.Path.{ap, ◌∙◌}
 use Rattle.edges.specs.Pairs.{after_outer, after_last, after_pair}
 use Rattle.edges.proofs.Steps.{both-between, both-outer}
-use borrow.Author.Rules.{rules}
 use Rattle.edges.proofs.step.trim_pair.Goals as goal
 
 pub trim_outer-requires : goal.trim_outer-requires

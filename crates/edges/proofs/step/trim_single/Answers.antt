@@ -3,7 +3,6 @@ use borrow.Author.Tests.{eq-eqb, ne_eqb}
 use Rattle.edges.specs.Pairs.{cut_if, after_single}
 use Rattle.edges.proofs.Looking.{begins-filled, size_is}
 use Rattle.edges.proofs.Steps.{single-last}
-use borrow.Author.Rules.{rules}
 use Rattle.edges.proofs.step.trim_single.Goals as goal
 
 pub returns-then-size_of-eq1 : goal.returns-then-size_of-eq1

@@ -1,16 +1,10 @@
 use native.Mathlib.Omega.{arith}
-use borrow.Author.Rules.{rules}
-use Prim.Native.Nat.{◌-◌}
-use lib.ListN.{length}
-use Rattle.model.specs.Base.{folded}
-use Rattle.walk.specs.Values.{attributes_in}
 use Rattle.walk.proofs.Walks.{attribute-told}
 use Rattle.walk.proofs.Finding.{rest-on}
-use Rattle.entries.specs.Space.{so_far}
 use Rattle.element.specs.Runs.{added_in}
 use Rattle.entries.proofs.Inserting.{climbs}
 use Rattle.element.proofs.Fonts.{held_place, held_whole}
-use Rattle.element.proofs.Running.{Running, all_attributes, rest-none, run-first, run_lies, run_step, run-stop, run_end}
+use Rattle.element.proofs.Running.{all_attributes, rest-none, run-first, run_lies, run_step, run-stop, run_end}
 use Rattle.element.proofs.Running.{adds-steady, held-attributed, added-whole}
 use Rattle.element.proofs.attribute.add_attributes.Goals as goal
 
@@ -40,7 +34,7 @@ add_attribute-step-requires c =
     let held = held-attributed _ _ inside.small _ _ here.1 lies in record {
       space = c.loop-name.invariant.towards.on.space;
       climbable = climbs _ _ _ _ c.requires.above
-            c.loop-name.invariant.towards.on.space;
+          c.loop-name.invariant.towards.on.space;
       size_in_bounds = rw c.value_of-value.ensures (held_whole _ _ _ held);
     }
 

@@ -1,22 +1,17 @@
-use native.Mathlib.Omega.{arith}
-use borrow.Author.Rules.{rules}
 use Prim.Native.Nat.{◌-◌}
 use lib.ListN.{length}
 use Rattle.model.specs.Base.{folded}
 use Rattle.walk.specs.Values.{attributes_in}
-use Rattle.walk.proofs.Walks.{attribute-told}
-use Rattle.walk.proofs.Finding.{rest-on}
 use Rattle.entries.specs.Space.{so_far}
 use Rattle.element.specs.Runs.{added_in}
-use Rattle.entries.proofs.Inserting.{climbs}
-use Rattle.element.proofs.Fonts.{held_place, held_whole}
-use Rattle.element.proofs.Running.{Running, all_attributes, rest-none, run-first, run_lies, run_step, run-stop, run_end}
-use Rattle.element.proofs.Running.{adds-steady, held-attributed, added-whole}
+use Rattle.element.proofs.Running.{Running, all_attributes}
 use Rattle.element.proofs.attribute.add_attributes.Given as goal
 
 abbrev pub invariant-loop-name : goal.invariant-loop-name
-invariant-loop-name l = Running (all_attributes l.script l.characters) (length l.characters) (added_in l.nodes l.place l.ignored) l.initial.attributes l.place
-    (folded (added_in l.nodes l.place l.ignored l.initial.attributes) (so_far l.initial.attributes l.place l.next) (attributes_in l.script l.characters l.initial.c)) l.initial.c l.c l.n
+invariant-loop-name l = Running (all_attributes l.script l.characters) (length l.characters) (added_in l.nodes l.place l.ignored)
+    l.initial.attributes l.place
+    (folded (added_in l.nodes l.place l.ignored l.initial.attributes) (so_far l.initial.attributes l.place l.next) (attributes_in
+    l.script l.characters l.initial.c)) l.initial.c l.c l.n
     l.attributes
 
 abbrev pub decreases-loop-name : goal.decreases-loop-name

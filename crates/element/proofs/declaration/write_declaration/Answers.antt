@@ -1,7 +1,6 @@
 use Rattle.tree.proofs.Bools.{fails, passes}
 use Rattle.element.proofs.Fonts.{held_place, held_whole}
 use Rattle.element.proofs.Declaring.{marker-written, as-font, as-nothing, as-name}
-use borrow.Author.Rules.{rules}
 use Rattle.element.proofs.declaration.write_declaration.Goals as goal
 
 pub value_of-value-requires : goal.value_of-value-requires

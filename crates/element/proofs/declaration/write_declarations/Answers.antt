@@ -1,13 +1,7 @@
 use native.Mathlib.Omega.{arith}
-use borrow.Author.Rules.{rules}
-use Prim.Native.Nat.{◌-◌}
-use lib.ListN.{length}
-use Rattle.model.specs.Base.{folded}
-use Rattle.walk.specs.Values.{declarations_in}
 use Rattle.walk.proofs.Finding.{nodes-on}
-use Rattle.entries.specs.Space.{so_far}
-use Rattle.element.specs.Font.{declared_in, declaration_of}
-use Rattle.element.proofs.Running.{Running, all_declarations, nodes-none, run-first, run_lies, run_step, run-stop, run_end}
+use Rattle.element.specs.Font.{declared_in}
+use Rattle.element.proofs.Running.{all_declarations, nodes-none, run-first, run_lies, run_step, run-stop, run_end}
 use Rattle.element.proofs.Running.{writes-steady, declaration-told, held-declared}
 use Rattle.element.proofs.declaration.write_declarations.Goals as goal
 

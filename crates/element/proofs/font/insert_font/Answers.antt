@@ -1,10 +1,9 @@
 use Rattle.model.specs.Element.{font_parts}
 use Rattle.tree.proofs.Bools.{fails, passes}
 use Rattle.entries.proofs.Inserting.{on-told}
-use Rattle.element.proofs.Fonts.{resets-steady, parts-steady}
+use Rattle.element.proofs.Fonts.{parts-steady}
 use Rattle.element.proofs.Steps.{run_on, run-full}
 use Rattle.element.proofs.Declaring.{no_size, no-family, font-written}
-use borrow.Author.Rules.{rules}
 use Rattle.element.proofs.font.insert_font.Goals as goal
 
 pub returns-then-not-is_read : goal.returns-then-not-is_read

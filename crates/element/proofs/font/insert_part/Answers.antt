@@ -1,6 +1,5 @@
 use native.Mathlib.Omega.{arith}
-use Rattle.element.proofs.Fonts.{held_place, held-reading, held-part, part-row, part-inserted, part-passed}
-use borrow.Author.Rules.{rules}
+use Rattle.element.proofs.Fonts.{held_place, held-part, part-row, part-inserted, part-passed}
 use Rattle.element.proofs.font.insert_part.Goals as goal
 
 pub value_of-whole-requires : goal.value_of-whole-requires
@@ -23,7 +22,7 @@ insert_attribute-requires c =
       space = c.requires.space;
       above = c.requires.above;
       size_in_bounds = held-part _ _ _ held _ _ c.reading_of.ensures.same _ _
-            c.in-At.is;
+          c.in-At.is;
     }
 
 pub returns-in-At : goal.returns-in-At

@@ -1,18 +1,13 @@
 use Rattle.model.specs.Element.{font_parts}
 use Rattle.element.specs.Font.{parts_of}
 use native.Mathlib.Omega.{arith}
-use borrow.Author.Rules.{rules}
-use Prim.Native.Nat.{ℕ, ◌-◌, ◌≤◌}
-use lib.ListN.{drop, drop_of_length-le}
-use Rattle.model.specs.Base.{folded}
-use Rattle.entries.specs.Space.{so_far}
+use lib.ListN.{drop_of_length-le}
 use Rattle.element.proofs.Fonts.{rows-from, parts-steady, parts-long}
-use Rattle.element.proofs.Steps.{Towards, at_first, step-on, step-full, at-end}
+use Rattle.element.proofs.Steps.{at_first, step-on, step-full, at-end}
 use Rattle.element.proofs.font.insert_parts.Goals as goal
 
 pub loop-k-init : goal.loop-k-init
-loop-k-init c =
-    (
+loop-k-init c = (
   omega arith,
   at_first (parts_of _ _ _ c.args.place
       c.args.important c.args.v) _
@@ -57,8 +52,7 @@ pub loop-k-smaller : goal.loop-k-smaller
 loop-k-smaller c = omega arith
 
 pub loop-k-preserved : goal.loop-k-preserved
-loop-k-preserved c =
-    (
+loop-k-preserved c = (
   omega arith,
   step-on _ _ _ (parts-steady _ _ _ _ _
       c.requires.above _

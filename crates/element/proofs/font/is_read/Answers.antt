@@ -1,6 +1,4 @@
-use mathlib.Core.Path.{sym}
-use Rattle.element.proofs.Fonts.{held-reading, is-read, not-read}
-use borrow.Author.Rules.{rules}
+use Rattle.element.proofs.Fonts.{is-read, not-read}
 use Rattle.element.proofs.font.is_read.Goals as goal
 
 pub returns-in-At : goal.returns-in-At

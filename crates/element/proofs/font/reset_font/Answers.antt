@@ -1,13 +1,9 @@
 use native.Mathlib.Omega.{arith}
-use borrow.Author.Rules.{rules}
-use Prim.Native.Nat.{ℕ, ◌-◌, ◌≤◌}
-use lib.ListN.{drop, drop_of_length-le}
-use Rattle.model.specs.Base.{folded}
+use lib.ListN.{drop_of_length-le}
 use Rattle.model.specs.Names.{font_resets}
-use Rattle.entries.specs.Space.{so_far}
 use Rattle.element.specs.Font.{reset_as}
 use Rattle.element.proofs.Fonts.{rows-from, resets-steady, resets-long}
-use Rattle.element.proofs.Steps.{Towards, at_first, step-on, step-full, at-end}
+use Rattle.element.proofs.Steps.{at_first, step-on, step-full, at-end}
 use Rattle.element.proofs.font.reset_font.Goals as goal
 
 pub loop-k-init : goal.loop-k-init
@@ -45,8 +41,7 @@ pub loop-k-smaller : goal.loop-k-smaller
 loop-k-smaller c = omega arith
 
 pub loop-k-preserved : goal.loop-k-preserved
-loop-k-preserved c =
-    (
+loop-k-preserved c = (
   omega arith,
   step-on _ _ _ (resets-steady _ _ _) _ _ _ _ _
       (rw (rows-from font_resets c.loop-k.k

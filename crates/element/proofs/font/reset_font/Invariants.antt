@@ -1,13 +1,10 @@
-use native.Mathlib.Omega.{arith}
-use borrow.Author.Rules.{rules}
-use Prim.Native.Nat.{ℕ, ◌-◌, ◌≤◌}
-use lib.ListN.{drop, drop_of_length-le}
+use Prim.Native.Nat.{◌-◌, ◌≤◌}
+use lib.ListN.{drop}
 use Rattle.model.specs.Base.{folded}
 use Rattle.model.specs.Names.{font_resets}
 use Rattle.entries.specs.Space.{so_far}
 use Rattle.element.specs.Font.{reset_as}
-use Rattle.element.proofs.Fonts.{rows-from, resets-steady, resets-long}
-use Rattle.element.proofs.Steps.{Towards, at_first, step-on, step-full, at-end}
+use Rattle.element.proofs.Steps.{Towards}
 use Rattle.element.proofs.font.reset_font.Given as goal
 
 abbrev pub invariant-loop-k : goal.invariant-loop-k

@@ -1,5 +1,4 @@
 use Rattle.element.proofs.Fonts.{reset-row}
-use borrow.Author.Rules.{rules}
 use Rattle.element.proofs.font.reset_one.Goals as goal
 
 pub returns : goal.returns

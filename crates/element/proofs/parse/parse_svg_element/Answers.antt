@@ -1,6 +1,4 @@
-use native.Mathlib.Omega.{arith}
 use Rattle.element.proofs.Whole.{at-space, at_above, no_room, too_many, no_record, appended-here, record-there, nodes-told}
-use borrow.Author.Rules.{rules}
 use Rattle.element.proofs.parse.parse_svg_element.Goals as goal
 
 pub store_entries-run-requires : goal.store_entries-run-requires

@@ -1,6 +1,4 @@
-use Rattle.walk.proofs.Finding.{nodes-on}
-use Rattle.element.proofs.Whole.{space-none, entries-full, entries-on, entries-behind, declarations-behind, rest-told, run-nodes}
-use borrow.Author.Rules.{rules}
+use Rattle.element.proofs.Whole.{entries-full, entries-on, entries-behind, declarations-behind, rest-told, run-nodes}
 use Rattle.element.proofs.parse.store_entries.Goals as goal
 
 pub returns-in_default : goal.returns-in_default
@@ -23,7 +21,7 @@ write_declarations-requires c =
       space = (entries-on _ _ _ _ _ _ _ room above _ _ step _ _ c.in-Next.is).space;
       above = above;
       in_declarations = declarations-behind _ _ _ _ rest
-            c.requires.in_attributes.1;
+          c.requires.in_attributes.1;
     }
 
 pub returns : goal.returns

@@ -4,7 +4,6 @@ use Rattle.model.specs.Drawing.{part_at}
 use Rattle.model.specs.Element.{add_attribute}
 use Rattle.tree.proofs.Bools.{fails, passes}
 use Rattle.entries.proofs.Storing.{same_entries, is_none, is_some}
-use borrow.Author.Rules.{rules}
 use Rattle.entries.proofs.attribute.add_attribute.Goals as goal
 
 pub returns-then-not-is_taken : goal.returns-then-not-is_taken

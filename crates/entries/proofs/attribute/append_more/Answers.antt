@@ -1,5 +1,4 @@
 use Rattle.entries.proofs.Adding.{more-itself, more-other, more-nothing}
-use borrow.Author.Rules.{rules}
 use Rattle.entries.proofs.attribute.append_more.Goals as goal
 
 pub returns-in-Itself : goal.returns-in-Itself

@@ -1,6 +1,5 @@
 use borrow.Author.Tests.{le-leb, lt-leb}
 use mathlib.Core.Path.{refl}
-use borrow.Author.Rules.{rules}
 use Rattle.entries.proofs.attribute.is_known.Goals as goal
 
 pub returns-then-space-gt3 : goal.returns-then-space-gt3

@@ -5,7 +5,6 @@ use Prim.Native.Nat.{ℕ}
 use Rattle.model.specs.Base.{among_words}
 use Rattle.model.specs.Names.{image_rendering_words}
 use Rattle.tree.proofs.Entries.{part_of}
-use borrow.Author.Rules.{rules}
 use Rattle.entries.proofs.attribute.is_rendering_word.Goals as goal
 
 pub returns-then-name-ne-IMAGE_RENDERING : goal.returns-then-name-ne-IMAGE_RENDERING

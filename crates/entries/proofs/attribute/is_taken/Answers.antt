@@ -2,7 +2,6 @@ use mathlib.Core.Path.{refl, sym}
 use Rattle.model.specs.Drawing.{part_at}
 use Rattle.model.specs.Element.{is_taken}
 use Rattle.tree.proofs.Bools.{fails, passes}
-use borrow.Author.Rules.{rules}
 use Rattle.entries.proofs.attribute.is_taken.Goals as goal
 
 pub returns-then-not-is_known : goal.returns-then-not-is_known

@@ -1,5 +1,4 @@
 use Rattle.entries.proofs.Adding.{href-over, href-skipped}
-use borrow.Author.Rules.{rules}
 use Rattle.entries.proofs.attribute.overwrite_href.Goals as goal
 
 pub returns-then-space-eq0 : goal.returns-then-space-eq0

@@ -1,7 +1,6 @@
 use Rattle.entries.proofs.Storing.{insert-new, insert-over, insert-stands}
 use Rattle.tree.specs.Lent.{entry_of}
 use mathlib.Core.Path.{sym, ◌∙◌}
-use borrow.Author.Rules.{rules}
 use Rattle.entries.proofs.entry.insert_entry.Goals as goal
 
 pub returns-then-w-eq0 : goal.returns-then-w-eq0

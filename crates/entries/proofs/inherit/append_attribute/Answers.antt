@@ -3,7 +3,6 @@ use Rattle.model.specs.Drawing.{part_at}
 use Rattle.model.specs.Element.{append_attribute}
 use Rattle.tree.proofs.Bools.{fails, passes}
 use Rattle.entries.proofs.Resolving.{inherits-other, inherits-nothing}
-use borrow.Author.Rules.{rules}
 use Rattle.entries.proofs.inherit.append_attribute.Goals as goal
 
 pub returns-then-is_left_out : goal.returns-then-is_left_out

@@ -3,7 +3,6 @@ use native.Mathlib.Omega.{arith}
 use mathlib.Core.Path.{refl, sym, ap, ◌∙◌}
 use mathlib.Core.Option.{some}
 use Rattle.model.specs.Tables.{entry_at}
-use borrow.Author.Rules.{rules}
 use Rattle.entries.proofs.inherit.copy_from.Goals as goal
 
 pub returns-then-w-eq0 : goal.returns-then-w-eq0

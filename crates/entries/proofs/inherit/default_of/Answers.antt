@@ -3,7 +3,6 @@ use mathlib.Core.Path.{refl, sym, ap, ◌∙◌}
 use mathlib.Core.Option.{some}
 use Prim.Native.Nat.{ℕ}
 use Rattle.model.specs.Tables.{fixed_entry}
-use borrow.Author.Rules.{rules}
 use Rattle.entries.proofs.inherit.default_of.Goals as goal
 
 pub returns-then-number-eq0 : goal.returns-then-number-eq0

@@ -1,7 +1,6 @@
 use native.Mathlib.Omega.{arith}
 use mathlib.Core.Path.{refl, sym}
 use Rattle.model.specs.Element.{inherited_from}
-use borrow.Author.Rules.{rules}
 use Rattle.entries.proofs.inherit.inherited_from.Goals as goal
 
 pub returns-then-is_inheritable : goal.returns-then-is_inheritable

@@ -1,4 +1,4 @@
-use mathlib.Core.Path.{refl, sym, ap, ◌∙◌}
+use mathlib.Core.Path.{ap, ◌∙◌}
 use mathlib.Core.List.{List}
 use Prim.Native.Nat.{ℕ}
 use Rattle.model.specs.Base.{same_bytes}
@@ -6,7 +6,6 @@ use Rattle.model.specs.Names.{allows_inherit_value}
 use Rattle.model.specs.Element.{inherit_word}
 use Rattle.tree.proofs.Bools.{and-false, and-true, fails, passes}
 use Rattle.tree.proofs.Entries.{part_of}
-use borrow.Author.Rules.{rules}
 use Rattle.entries.proofs.inherit.is_inherited.Goals as goal
 
 pub returns-then-not-is_inherit : goal.returns-then-not-is_inherit

@@ -9,7 +9,12 @@ pub returns-then-name-eq-CLASS : goal.returns-then-name-eq-CLASS
 returns-then-name-eq-CLASS c = rw (ne_eqb _ _ c.if-name-eq-STYLE.false, eq-eqb _ _ c.if-name-eq-CLASS.true) refl
 
 pub returns-then-tag-ne-TSPAN : goal.returns-then-tag-ne-TSPAN
-returns-then-tag-ne-TSPAN c = rw (ne_eqb _ _ c.if-name-eq-STYLE.false, ne_eqb _ _ c.if-name-eq-CLASS.false, ne_eqb _ _ c.if-tag-ne-TSPAN.true) refl
+returns-then-tag-ne-TSPAN c = rw (
+  ne_eqb _ _ c.if-name-eq-STYLE.false,
+  ne_eqb _ _ c.if-name-eq-CLASS.false,
+  ne_eqb _ _
+      c.if-tag-ne-TSPAN.true,
+) refl
 
 pub returns : goal.returns
 returns c = rw (ne_eqb _ _ c.if-name-eq-STYLE.false, ne_eqb _ _ c.if-name-eq-CLASS.false, eq-eqb _ _ c.if-tag-ne-TSPAN.false) refl

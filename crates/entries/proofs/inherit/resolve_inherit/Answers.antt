@@ -1,7 +1,6 @@
 use native.Mathlib.Omega.{arith}
 use Prim.Native.Nat.{◌-◌}
 use Rattle.entries.proofs.Resolving.{resolve-kept, resolve-dropped}
-use borrow.Author.Rules.{rules}
 use Rattle.entries.proofs.inherit.resolve_inherit.Goals as goal
 
 pub copy_from-copy-requires : goal.copy_from-copy-requires

@@ -1,5 +1,4 @@
 use Rattle.entries.proofs.Inserting.{climbs, insert-itself, insert-other, insert-nothing}
-use borrow.Author.Rules.{rules}
 use Rattle.entries.proofs.insert.insert_attribute.Goals as goal
 
 pub append_attribute-requires : goal.append_attribute-requires

@@ -1,5 +1,4 @@
 use Rattle.entries.proofs.Inserting.{inserts-more, two-more, then-inserted, on-told, full-told}
-use borrow.Author.Rules.{rules}
 use Rattle.entries.proofs.insert.insert_marker.Goals as goal
 
 pub returns-in_default : goal.returns-in_default

@@ -2,7 +2,6 @@ use mathlib.Core.Path.{◌∙◌, sym}
 use native.Mathlib.Omega.{arith}
 use Rattle.build.proofs.Building.{both_small}
 use Rattle.exchange.proofs.Faults.{check-fault, no_text, text-fault, granted}
-use borrow.Author.Rules.{rules}
 use Rattle.exchange.proofs.fault.target_of.Goals as goal
 
 pub returns-then-k-ne0 : goal.returns-then-k-ne0

@@ -3,7 +3,6 @@ use mathlib.Core.Bool.{not}
 use borrow.Author.Tests.{eq-eqb, ne_eqb}
 use Rattle.model.proofs.Theorems.Inside.{first-none}
 use Rattle.exchange.proofs.Faults.{first-hit, first-miss}
-use borrow.Author.Rules.{rules}
 use Rattle.exchange.proofs.fault.text_fault.Goals as goal
 
 pub returns-then-in_style : goal.returns-then-in_style

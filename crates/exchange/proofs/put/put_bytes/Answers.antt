@@ -1,7 +1,5 @@
-use Prim.Native.Nat.{◌-◌}
-use lib.ListN.{length}
 use native.Mathlib.Omega.{arith}
-use Rattle.exchange.proofs.Bytes.{Putting, put-none, put-more, put_all}
+use Rattle.exchange.proofs.Bytes.{put-none, put-more, put_all}
 use Rattle.exchange.proofs.put.put_bytes.Goals as goal
 
 pub loop-k-init : goal.loop-k-init

@@ -1,7 +1,6 @@
 use Prim.Native.Nat.{◌-◌}
 use lib.ListN.{length}
-use native.Mathlib.Omega.{arith}
-use Rattle.exchange.proofs.Bytes.{Putting, put-none, put-more, put_all}
+use Rattle.exchange.proofs.Bytes.{Putting}
 use Rattle.exchange.proofs.put.put_bytes.Given as goal
 
 abbrev pub invariant-loop-k : goal.invariant-loop-k

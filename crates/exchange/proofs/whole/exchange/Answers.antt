@@ -1,7 +1,6 @@
 use mathlib.Core.Path.{subst}
 use Rattle.exchange.specs.Changes.{TargetFit}
 use Rattle.exchange.proofs.Settling.{fault-told, change-told}
-use borrow.Author.Rules.{rules}
 use Rattle.exchange.proofs.whole.exchange.Goals as goal
 
 pub exchange_short-requires : goal.exchange_short-requires

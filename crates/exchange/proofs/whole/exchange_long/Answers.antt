@@ -1,5 +1,4 @@
 use Rattle.exchange.proofs.Settling.{after-put, change-made, change-refused, as_long}
-use borrow.Author.Rules.{rules}
 use Rattle.exchange.proofs.whole.exchange_long.Goals as goal
 
 pub returns-then-before-ne0 : goal.returns-then-before-ne0

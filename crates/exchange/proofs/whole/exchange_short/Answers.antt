@@ -3,7 +3,6 @@ use native.Mathlib.Omega.{arith}
 use lib.ListN.{replicate, length-replicate}
 use Rattle.exchange.proofs.Bytes.{back-room, undone}
 use Rattle.exchange.proofs.Settling.{after-put, change-stays, change-undone}
-use borrow.Author.Rules.{rules}
 use Rattle.exchange.proofs.whole.exchange_short.Goals as goal
 
 pub build_checked-built-requires : goal.build_checked-built-requires

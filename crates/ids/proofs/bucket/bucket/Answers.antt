@@ -1,9 +1,6 @@
 use native.Mathlib.Omega.{arith}
-use borrow.Author.Rules.{rules}
 use mathlib.Core.Path.{refl}
-use Prim.Native.Nat.{◌-◌}
-use lib.ListN.{length}
-use Rattle.ids.proofs.Marking.{Summing, summing-more, summing-done}
+use Rattle.ids.proofs.Marking.{summing-more, summing-done}
 use Rattle.ids.proofs.bucket.bucket.Goals as goal
 
 pub loop-i-init : goal.loop-i-init

@@ -1,9 +1,6 @@
-use native.Mathlib.Omega.{arith}
-use borrow.Author.Rules.{rules}
-use mathlib.Core.Path.{refl}
 use Prim.Native.Nat.{◌-◌}
 use lib.ListN.{length}
-use Rattle.ids.proofs.Marking.{Summing, summing-more, summing-done}
+use Rattle.ids.proofs.Marking.{Summing}
 use Rattle.ids.proofs.bucket.bucket.Given as goal
 
 abbrev pub invariant-loop-i : goal.invariant-loop-i

@@ -1,10 +1,8 @@
 use native.Mathlib.Omega.{arith}
-use borrow.Author.Rules.{rules}
 use borrow.Author.Tests.{not-true, not-false}
-use Prim.Native.Nat.{◌-◌}
 use Rattle.tree.proofs.Facts.{readable-in}
 use Rattle.ids.proofs.Likeness.{like-itself, like-tidy}
-use Rattle.ids.proofs.Chaining.{Linking, linking-first, linking-next, linking-stop, linking-done}
+use Rattle.ids.proofs.Chaining.{linking-first, linking-next, linking-stop, linking-done}
 use Rattle.ids.proofs.chain.chain.Goals as goal
 
 pub loop-i-init : goal.loop-i-init
@@ -14,7 +12,7 @@ pub chain_one-requires : goal.chain_one-requires
 chain_one-requires c =
     record {
       readable_in = readable-in _ _ (like-tidy _ _ _ _ _ _ c.loop-i.invariant.like
-      c.requires.tidy).kept _ c.loop-i-test.true;
+          c.requires.tidy).kept _ c.loop-i-test.true;
       i_bound = omega (arith, c.loop-i-test.true);
     }
 

@@ -1,7 +1,6 @@
 use native.Mathlib.Omega.{arith}
 use Rattle.tree.proofs.Alike.{held-value}
 use Rattle.ids.proofs.Chaining.{turned_none, turned-some, turned-not}
-use borrow.Author.Rules.{rules}
 use Rattle.ids.proofs.chain.chain_one.Goals as goal
 
 pub returns-then-j-eq0 : goal.returns-then-j-eq0

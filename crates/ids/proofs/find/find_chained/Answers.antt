@@ -1,10 +1,8 @@
 use native.Mathlib.Omega.{arith}
-use borrow.Author.Rules.{rules}
 use Prim.Native.Nat.{◌-◌, zero-le}
 use Rattle.model.specs.Tables.{entry_at}
-use Rattle.tree.specs.Lent.{read_of}
 use Rattle.tree.proofs.Alike.{held-value}
-use Rattle.ids.proofs.Hunting.{Hunting, hunt-first, hunt-id, hunt-hit, hunt-on, hunt-none}
+use Rattle.ids.proofs.Hunting.{hunt-first, hunt-id, hunt-hit, hunt-on, hunt-none}
 use Rattle.ids.proofs.find.find_chained.Goals as goal
 
 pub bounds-heads-b : goal.bounds-heads-b
@@ -41,8 +39,8 @@ unfolding entry_at
 returns-then-has_value c =
     record {
       found = hunt-hit _ _ _ _ c.requires.chained _ _
-      c.loop-n.invariant c.loop-n-test.true _
-      c.attribute_id-j.ensures.found _ c.has_value.ensures c.if-has_value.true;
+          c.loop-n.invariant c.loop-n-test.true _
+          c.attribute_id-j.ensures.found _ c.has_value.ensures c.if-has_value.true;
       within = c.loop-n.invariant.high;
     }
 
@@ -84,6 +82,6 @@ pub returns : goal.returns
 returns c =
     record {
       found = hunt-none _ _ _ _ c.requires.chained _ _ c.loop-n.invariant
-      c.loop-n-test.false;
+          c.loop-n-test.false;
       within = zero-le;
     }

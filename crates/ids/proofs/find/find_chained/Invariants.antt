@@ -1,10 +1,5 @@
-use native.Mathlib.Omega.{arith}
-use borrow.Author.Rules.{rules}
-use Prim.Native.Nat.{◌-◌, zero-le}
-use Rattle.model.specs.Tables.{entry_at}
 use Rattle.tree.specs.Lent.{read_of}
-use Rattle.tree.proofs.Alike.{held-value}
-use Rattle.ids.proofs.Hunting.{Hunting, hunt-first, hunt-id, hunt-hit, hunt-on, hunt-none}
+use Rattle.ids.proofs.Hunting.{Hunting}
 use Rattle.ids.proofs.find.find_chained.Given as goal
 
 abbrev pub invariant-loop-n : goal.invariant-loop-n

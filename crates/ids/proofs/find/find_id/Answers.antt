@@ -1,4 +1,3 @@
-use borrow.Author.Rules.{rules}
 use Rattle.ids.proofs.find.find_id.Goals as goal
 
 pub find_chained-requires : goal.find_chained-requires

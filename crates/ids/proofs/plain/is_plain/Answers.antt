@@ -1,8 +1,6 @@
 use native.Mathlib.Omega.{arith}
-use borrow.Author.Rules.{rules}
 use mathlib.Core.Bool.{false≢true}
-use Prim.Native.Nat.{◌-◌}
-use Rattle.ids.proofs.Marking.{Plain, plain_more}
+use Rattle.ids.proofs.Marking.{plain_more}
 use Rattle.ids.proofs.plain.is_plain.Goals as goal
 
 pub loop-j-init : goal.loop-j-init

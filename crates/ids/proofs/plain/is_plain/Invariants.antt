@@ -1,8 +1,5 @@
-use native.Mathlib.Omega.{arith}
-use borrow.Author.Rules.{rules}
-use mathlib.Core.Bool.{false≢true}
 use Prim.Native.Nat.{◌-◌}
-use Rattle.ids.proofs.Marking.{Plain, plain_more}
+use Rattle.ids.proofs.Marking.{Plain}
 use Rattle.ids.proofs.plain.is_plain.Given as goal
 
 abbrev pub invariant-loop-j : goal.invariant-loop-j

@@ -1,6 +1,4 @@
 use native.Mathlib.Omega.{arith}
-use borrow.Author.Rules.{rules}
-use Prim.Native.Nat.{◌-◌, ◌≤◌}
 use mathlib.Core.Path.{◌≡◌, subst}
 use Rattle.ids.specs.Chains.{Unmarked}
 use Rattle.ids.proofs.Marking.{unmarked-none, unmarked-more}
@@ -16,8 +14,7 @@ pub bounds-attributes-at-in-loop-j : goal.bounds-attributes-at-in-loop-j
 bounds-attributes-at-in-loop-j c = omega (arith, c.requires, c.loop-j-test.true, c.loop-j.invariant.0.long)
 
 pub loop-j-preserved : goal.loop-j-preserved
-loop-j-preserved c =
-    (
+loop-j-preserved c = (
   unmarked-more _ _ _ c.loop-j.invariant.0
       (omega (arith, c.requires, c.loop-j-test.true)),
   omega (arith, c.loop-j-test.true),

@@ -1,9 +1,5 @@
-use native.Mathlib.Omega.{arith}
-use borrow.Author.Rules.{rules}
 use Prim.Native.Nat.{◌-◌, ◌≤◌}
-use mathlib.Core.Path.{◌≡◌, subst}
 use Rattle.ids.specs.Chains.{Unmarked}
-use Rattle.ids.proofs.Marking.{unmarked-none, unmarked-more}
 use Rattle.ids.proofs.plain.unchain.Given as goal
 
 abbrev pub invariant-loop-j : goal.invariant-loop-j

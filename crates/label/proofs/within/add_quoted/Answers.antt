@@ -4,15 +4,14 @@ use Rattle.model.specs.Drawing.{Source}
 use Rattle.tree.specs.Lent.{tree_of}
 use Rattle.label.specs.Walk.{quote_of}
 use Rattle.label.proofs.Holders.{appends, quote-node, found-texts, found-quotes, found_nothing}
-use borrow.Author.Rules.{rules}
 use Rattle.label.proofs.within.add_quoted.Goals as goal
 
 pub append_quoted-requires : goal.append_quoted-requires
 append_quoted-requires c =
     record {
       quotable = found-quotes _ _ _ _ c.quoted.ensures.same _
-      c.in-At.is c.quoted.ensures.fit
-      c.requires.lies;
+          c.in-At.is c.quoted.ensures.fit
+          c.requires.lies;
       appendable = appends _ _ _ _ _ _ c.requires.holding;
     }
 

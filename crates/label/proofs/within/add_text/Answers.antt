@@ -1,5 +1,4 @@
 use Rattle.label.proofs.Holders.{appends, text-node}
-use borrow.Author.Rules.{rules}
 use Rattle.label.proofs.within.add_text.Goals as goal
 
 pub append_text-requires : goal.append_text-requires

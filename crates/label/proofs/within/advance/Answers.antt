@@ -5,7 +5,6 @@ use Rattle.pieces.proofs.Words.{above-told}
 use Rattle.label.proofs.Telling.{opening, append-done, append-none}
 use Rattle.label.proofs.Walking.{holds, space-read, text-lies, text-refused, goes-text, text-recalled, goes_other}
 use Rattle.label.proofs.Walking.{ends_close, goes-up, goes-known, ends-none}
-use borrow.Author.Rules.{rules}
 use Rattle.label.proofs.within.advance.Goals as goal
 
 pub begin-requires : goal.begin-requires

@@ -9,7 +9,6 @@ use Rattle.pieces.proofs.Contents.{content-is}
 use Rattle.label.proofs.Telling.{element-done, element-none, element-behind, append-done, append-none}
 use Rattle.label.proofs.Walking.{ready, in-values, goes-past, new-space, element-refused, goes_in, in-recalled}
 use Rattle.label.proofs.Walking.{tref-holds, tref-refused, goes-tref, tref-recalled}
-use borrow.Author.Rules.{rules}
 use Rattle.label.proofs.within.begin.Goals as goal
 
 pub returns-then-not-is_text_content : goal.returns-then-not-is_text_content
@@ -95,7 +94,7 @@ add_quoted-requires c =
     c.args.text.now) _ _ c.in-Done.is in record {
       holding = tref-holds _ _ _ _ _ _ _ within _ opens is _ named _ _ _ _ _ nodes told;
       space_value = new-space _ _ _ _ _ _ _ within _ opens is _ named _ _ _ _ _ nodes told
-            c.get_xmlspace-space.result c.get_xmlspace-space.ensures;
+          c.get_xmlspace-space.result c.get_xmlspace-space.ensures;
       standing = opens.standing;
       lies = within.all;
       memo = c.requires.memo;

@@ -1,17 +1,13 @@
 use borrow.Author.Rules.{rules}
-use mathlib.Core.Path.{◌≡◌, refl, ◌∙◌}
+use mathlib.Core.Path.{refl, ◌∙◌}
 use native.Mathlib.Omega.{arith}
-use Prim.Native.Nat.{ℕ, ◌-◌}
-use lib.ListN.{length, length-replicate}
-use Rattle.tree.specs.Lent.{tree_of}
-use Rattle.pieces.specs.Levels.{Recalled}
-use Rattle.label.specs.Walk.{Goes}
+use Prim.Native.Nat.{ℕ}
+use lib.ListN.{length-replicate}
 use Rattle.label.proofs.Walking.{goes_none, goes_on, ends_on, turn-told}
 use Rattle.label.proofs.within.inside.Goals as goal
 
 pub loop-n-init : goal.loop-n-init
-loop-n-init c =
-    (
+loop-n-init c = (
   goes_none _ _ _ _ _ _ _ c.requires.within,
   c.nothing-levels.ensures _ (length-replicate {A = ℕ} 32 0) _,
   refl,

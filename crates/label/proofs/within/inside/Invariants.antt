@@ -1,17 +1,16 @@
-use borrow.Author.Rules.{rules}
-use mathlib.Core.Path.{◌≡◌, refl, ◌∙◌}
-use native.Mathlib.Omega.{arith}
-use Prim.Native.Nat.{ℕ, ◌-◌}
-use lib.ListN.{length, length-replicate}
+use mathlib.Core.Path.{◌≡◌}
+use Prim.Native.Nat.{◌-◌}
+use lib.ListN.{length}
 use Rattle.tree.specs.Lent.{tree_of}
 use Rattle.pieces.specs.Levels.{Recalled}
 use Rattle.label.specs.Walk.{Goes}
-use Rattle.label.proofs.Walking.{goes_none, goes_on, ends_on, turn-told}
 use Rattle.label.proofs.within.inside.Given as goal
 
 abbrev pub invariant-loop-n : goal.invariant-loop-n
-invariant-loop-n l = Goes l.script l.characters l.e l.initial.nodes l.initial.attributes l.initial.text l.initial.s l.nodes l.attributes l.text l.s
-    × Recalled l.characters (tree_of l.nodes l.attributes l.text l.s.counts) l.words l.s.p l.levels × (length l.nodes ≡ length l.initial.nodes)
+invariant-loop-n l = Goes l.script l.characters l.e l.initial.nodes l.initial.attributes l.initial.text l.initial.s l.nodes l.attributes
+    l.text l.s
+    × Recalled l.characters (tree_of l.nodes l.attributes l.text l.s.counts) l.words l.s.p l.levels × (length l.nodes ≡ length
+    l.initial.nodes)
     × (length l.attributes ≡ length l.initial.attributes) × (length l.text ≡ length l.initial.text)
 
 abbrev pub decreases-loop-n : goal.decreases-loop-n

@@ -1,7 +1,6 @@
 use Rattle.label.proofs.Holders.{above-asks}
 use native.Mathlib.Omega.{arith}
 use Rattle.label.proofs.Handing.{parent-space}
-use borrow.Author.Rules.{rules}
 use Rattle.label.proofs.within.space_above.Goals as goal
 
 pub attribute_id-requires : goal.attribute_id-requires

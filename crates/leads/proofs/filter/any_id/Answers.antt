@@ -1,13 +1,6 @@
-use borrow.Author.Rules.{rules}
 use native.Mathlib.Omega.{arith}
 use mathlib.Core.Path.{◌∙◌}
-use Prim.Native.Nat.{◌-◌}
-use lib.ListN.{length}
-use Rattle.model.specs.Repair.{any_reading}
-use Rattle.tree.specs.Lent.{entries_of}
-use Rattle.walk.specs.Values.{readings_in}
-use Rattle.walk.proofs.Finding.{Reading, reading-first}
-use Rattle.leads.specs.Links.{id_at}
+use Rattle.walk.proofs.Finding.{reading-first}
 use Rattle.leads.proofs.Looking.{looked}
 use Rattle.leads.proofs.filter.any_id.Goals as goal
 

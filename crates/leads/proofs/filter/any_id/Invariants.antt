@@ -1,18 +1,15 @@
-use borrow.Author.Rules.{rules}
-use native.Mathlib.Omega.{arith}
-use mathlib.Core.Path.{◌∙◌}
 use Prim.Native.Nat.{◌-◌}
 use lib.ListN.{length}
 use Rattle.model.specs.Repair.{any_reading}
 use Rattle.tree.specs.Lent.{entries_of}
 use Rattle.walk.specs.Values.{readings_in}
-use Rattle.walk.proofs.Finding.{Reading, reading-first}
+use Rattle.walk.proofs.Finding.{Reading}
 use Rattle.leads.specs.Links.{id_at}
-use Rattle.leads.proofs.Looking.{looked}
 use Rattle.leads.proofs.filter.any_id.Given as goal
 
 abbrev pub invariant-loop-next : goal.invariant-loop-next
-invariant-loop-next l = Reading (λ s a c. any_reading 4 (id_at l.characters (entries_of l.attributes) l.j) (readings_in s l.characters a c)) l.script l.start l.initial.c l.c
+invariant-loop-next l = Reading (λ s a c. any_reading 4 (id_at l.characters (entries_of l.attributes) l.j) (readings_in s l.characters a
+    c)) l.script l.start l.initial.c l.c
 
 abbrev pub decreases-loop-next : goal.decreases-loop-next
 decreases-loop-next l = length l.script - l.c.at

@@ -3,7 +3,6 @@ use Rattle.model.specs.Repair.{any_reading}
 use Rattle.script.proofs.Commands.{goes}
 use Rattle.walk.proofs.Finding.{fit-chars}
 use Rattle.places.proofs.Seeking.{reads, none_any}
-use borrow.Author.Rules.{rules}
 use Rattle.leads.proofs.filter.any_id_at.Goals as goal
 
 pub any_id-requires : goal.any_id-requires

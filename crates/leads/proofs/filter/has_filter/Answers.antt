@@ -1,7 +1,6 @@
 use Rattle.tree.proofs.Alike.{held-value}
 use Rattle.model.specs.AId
 use Rattle.leads.proofs.Linking.{any-absent, any-fixed, any-there}
-use borrow.Author.Rules.{rules}
 use Rattle.leads.proofs.filter.has_filter.Goals as goal
 
 pub returns-then-e-eq0 : goal.returns-then-e-eq0
@@ -28,8 +27,8 @@ pub returns : goal.returns
 returns c =
     record {
       same = any-there _ _ _ AId.Filter _ 4 _ c.attribute_of-e.ensures.found
-      c.requires.drawn.checked
-      c.if-e-eq0.false _ c.entry_word-command.ensures _
-      c.if-command-eq0.false _ c.seek_near-c.ensures.same _ c.any_id_at-back.ensures;
+          c.requires.drawn.checked
+          c.if-e-eq0.false _ c.entry_word-command.ensures _
+          c.if-command-eq0.false _ c.seek_near-c.ensures.same _ c.any_id_at-back.ensures;
       fit = c.seek_near-c.ensures.fit;
     }

@@ -1,6 +1,5 @@
 use Rattle.walk.proofs.Walks.{reading-told}
 use Rattle.leads.proofs.Looking.{looked-past, looked-back, looked-on, looked-out}
-use borrow.Author.Rules.{rules}
 use Rattle.leads.proofs.filter.look_at.Goals as goal
 
 pub returns-then-k-ne4 : goal.returns-then-k-ne4

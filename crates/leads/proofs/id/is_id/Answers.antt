@@ -3,7 +3,6 @@ use mathlib.Core.List.{[]}
 use borrow.Author.Tests.{eq-eqb, ne_eqb}
 use Rattle.names.proofs.Compared.{same-empty}
 use Rattle.ids.proofs.Values.{same-swap}
-use borrow.Author.Rules.{rules}
 use Rattle.leads.proofs.id.is_id.Goals as goal
 
 pub returns-then-j-eq0 : goal.returns-then-j-eq0

@@ -5,7 +5,6 @@ use Rattle.model.specs.Tables.{entry_at, value_of, value_at_entry, has_id_bytes}
 use Rattle.tree.specs.Lent.{read_of, entries_of}
 use Rattle.tree.proofs.Entries.{some-there, none-there}
 use Rattle.leads.proofs.Lasting.{known-entry}
-use borrow.Author.Rules.{rules}
 use Rattle.leads.proofs.last.has_same_id.Goals as goal
 
 pub returns-then-k-eq0 : goal.returns-then-k-eq0

@@ -1,7 +1,6 @@
 use native.Mathlib.Omega.{arith}
 use Rattle.model.specs.Tables.{entry_at}
 use Rattle.leads.proofs.Lasting.{known-entry, known-readable, last-part, last_entry, last_none}
-use borrow.Author.Rules.{rules}
 use Rattle.leads.proofs.last.last_of.Goals as goal
 
 pub attribute_id-j-requires : goal.attribute_id-j-requires
@@ -18,7 +17,7 @@ pub returns-then-j-eq0 : goal.returns-then-j-eq0
 returns-then-j-eq0 c =
     record {
       same = last_none _ _ _ _ _ c.attribute_id-j.ensures.found c.if-j-eq0.true _
-      c.part_at-none.ensures _ c.find_id.ensures.found;
+          c.part_at-none.ensures _ c.find_id.ensures.found;
       low = c.find_id.ensures.within;
     }
 
@@ -43,7 +42,7 @@ unfolding entry_at
 returns-then-entry_word-eq0 c =
     record {
       same = last_entry _ _ _ _ _ c.attribute_id-j.ensures.found c.if-j-eq0.false _
-      c.last_same.ensures.same;
+          c.last_same.ensures.same;
       low = c.last_same.ensures.low;
     }
 
@@ -72,9 +71,9 @@ pub returns : goal.returns
 returns c =
     record {
       same = last-part _ _ _ _ _ c.attribute_id-j.ensures.found
-      c.if-j-eq0.false _
-      c.entry_word.ensures c.if-entry_word-eq0.false _
-      c.entry_word-start.ensures _ c.entry_word-size.ensures _ c.part_at-id.ensures
-      _ c.find_id-2.ensures.found;
+          c.if-j-eq0.false _
+          c.entry_word.ensures c.if-entry_word-eq0.false _
+          c.entry_word-start.ensures _ c.entry_word-size.ensures _ c.part_at-id.ensures
+          _ c.find_id-2.ensures.found;
       low = c.find_id-2.ensures.within;
     }

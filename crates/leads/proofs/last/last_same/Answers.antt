@@ -1,8 +1,5 @@
 use native.Mathlib.Omega.{arith}
-use mathlib.Core.Path.{◌≡◌, refl, sym, ◌∙◌}
-use Prim.Native.Nat.{◌≤◌}
-use Rattle.model.specs.Tables.{entry_at, value_of, last_with_id}
-use Rattle.tree.specs.Lent.{read_of, entries_of}
+use mathlib.Core.Path.{refl, sym, ◌∙◌}
 use Rattle.tree.proofs.Alike.{last_end}
 use Rattle.leads.proofs.Lasting.{seek_found, seek-on}
 use Rattle.leads.proofs.last.last_same.Goals as goal
@@ -24,7 +21,7 @@ pub returns-then-has_same_id : goal.returns-then-has_same_id
 returns-then-has_same_id c =
     record {
       same = seek_found _ _ _ _ _ c.loop-n.invariant.1 (omega arith)
-      (sym c.has_same_id.ensures ∙ c.if-has_same_id.true);
+          (sym c.has_same_id.ensures ∙ c.if-has_same_id.true);
       low = c.loop-n.invariant.0;
     }
 
@@ -35,8 +32,7 @@ pub loop-n-smaller : goal.loop-n-smaller
 loop-n-smaller c = omega arith
 
 pub loop-n-preserved : goal.loop-n-preserved
-loop-n-preserved c =
-    (
+loop-n-preserved c = (
   omega (arith, c.loop-n.invariant.0),
   seek-on _ _ _ _ _ c.loop-n.invariant.1 (omega arith)
       (sym c.has_same_id.ensures ∙ c.if-has_same_id.false),

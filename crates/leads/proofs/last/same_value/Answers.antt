@@ -8,7 +8,6 @@ use Rattle.tree.specs.Lent.{entries_of}
 use Rattle.ids.proofs.Values.{same-swap}
 use Rattle.ids.proofs.Values.{read-fixed, read-part}
 use Rattle.leads.proofs.Lasting.{both-fixed}
-use borrow.Author.Rules.{rules}
 use Rattle.leads.proofs.last.same_value.Goals as goal
 
 pub returns-then-entry_word-ne0 : goal.returns-then-entry_word-ne0

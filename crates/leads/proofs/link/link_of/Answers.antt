@@ -2,7 +2,6 @@ use mathlib.Core.Path.{sym, ap, subst, ◌∙◌}
 use Rattle.walk.specs.Values.{part_of, PartFit}
 use Rattle.tree.proofs.Alike.{held-value}
 use Rattle.leads.proofs.Linking.{link-absent, link-fixed, link-there}
-use borrow.Author.Rules.{rules}
 use Rattle.leads.proofs.link.link_of.Goals as goal
 
 pub returns-then-j-eq0 : goal.returns-then-j-eq0

@@ -1,5 +1,4 @@
 use Rattle.links.proofs.Linking.{readable, href-first, href-second}
-use borrow.Author.Rules.{rules}
 use Rattle.links.proofs.link.href_of.Goals as goal
 
 pub iri_of-requires : goal.iri_of-requires
@@ -16,7 +15,7 @@ pub returns-in-At : goal.returns-in-At
 returns-in-At c =
     record {
       same = href-first _ _ _ c.iri_of.result _ _
-      c.attribute_in-value.ensures.same _ c.in-At.is c.iri_of.ensures.same;
+          c.attribute_in-value.ensures.same _ c.in-At.is c.iri_of.ensures.same;
       fit = c.iri_of.ensures.fit;
     }
 
@@ -24,8 +23,8 @@ pub returns-in-Nothing : goal.returns-in-Nothing
 returns-in-Nothing c =
     record {
       same = href-second _ _ _ c.iri_of-in-Nothing.result _ _
-      c.attribute_in-value.ensures.same _ c.in-Nothing.is
-      c.attribute_in-other.result
-      c.attribute_in-other.ensures.same c.iri_of-in-Nothing.ensures.same;
+          c.attribute_in-value.ensures.same _ c.in-Nothing.is
+          c.attribute_in-other.result
+          c.attribute_in-other.ensures.same c.iri_of-in-Nothing.ensures.same;
       fit = c.iri_of-in-Nothing.ensures.fit;
     }

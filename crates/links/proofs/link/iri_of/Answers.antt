@@ -1,6 +1,5 @@
 use Rattle.walk.proofs.Finding.{fit-chars}
 use Rattle.links.proofs.Linking.{read-fit, iri-value}
-use borrow.Author.Rules.{rules}
 use Rattle.links.proofs.link.iri_of.Goals as goal
 
 pub reading_of-requires : goal.reading_of-requires
@@ -14,6 +13,6 @@ pub returns-in-At : goal.returns-in-At
 returns-in-At c =
     record {
       same = iri-value c.args.script.now _ _ _ c.in-At.is
-      c.reading_of.result c.reading_of.ensures.same;
+          c.reading_of.result c.reading_of.ensures.same;
       fit = c.reading_of.ensures.fit;
     }

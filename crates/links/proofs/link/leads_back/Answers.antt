@@ -1,5 +1,4 @@
 use Rattle.links.proofs.Linking.{back_none}
-use borrow.Author.Rules.{rules}
 use Rattle.links.proofs.link.leads_back.Goals as goal
 
 pub returns-in-End : goal.returns-in-End

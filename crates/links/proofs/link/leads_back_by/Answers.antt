@@ -1,12 +1,8 @@
-use borrow.Author.Rules.{rules}
 use native.Mathlib.Omega.{arith}
-use Prim.Native.Nat.{◌-◌}
-use lib.ListN.{length}
 use mathlib.Core.Path.{◌∙◌}
-use Rattle.model.specs.Drawing.{uses_in}
-use Rattle.walk.specs.Values.{events_at, part_of}
-use Rattle.walk.proofs.Along.{Along, along-none}
-use Rattle.links.proofs.Linking.{use-told, led_by, leading_by, back-first, back-second, back-neither, back_end, led-back}
+use Rattle.walk.specs.Values.{part_of}
+use Rattle.walk.proofs.Along.{along-none}
+use Rattle.links.proofs.Linking.{use-told, leading_by, back-first, back-second, back-neither, back_end, led-back}
 use Rattle.links.proofs.link.leads_back_by.Goals as goal
 
 pub leading_id-id-requires : goal.leading_id-id-requires

@@ -1,17 +1,15 @@
-use borrow.Author.Rules.{rules}
-use native.Mathlib.Omega.{arith}
 use Prim.Native.Nat.{◌-◌}
 use lib.ListN.{length}
-use mathlib.Core.Path.{◌∙◌}
 use Rattle.model.specs.Drawing.{uses_in}
 use Rattle.walk.specs.Values.{events_at, part_of}
-use Rattle.walk.proofs.Along.{Along, along-none}
-use Rattle.links.proofs.Linking.{use-told, led_by, leading_by, back-first, back-second, back-neither, back_end, led-back}
+use Rattle.walk.proofs.Along.{Along}
+use Rattle.links.proofs.Linking.{led_by, leading_by}
 use Rattle.links.proofs.link.leads_back_by.Given as goal
 
 abbrev pub invariant-loop-u : goal.invariant-loop-u
 invariant-loop-u l = Along (leading_by (part_of l.characters l.id) (part_of l.characters l.link))
-    (led_by (part_of l.characters l.id) (part_of l.characters l.link) (uses_in 0 (events_at l.script l.characters l.initial.c))) l.script l.characters l.initial.c l.c
+    (led_by (part_of l.characters l.id) (part_of l.characters l.link) (uses_in 0 (events_at l.script l.characters l.initial.c))) l.script
+    l.characters l.initial.c l.c
     l.level
 
 abbrev pub decreases-loop-u : goal.decreases-loop-u

@@ -1,5 +1,4 @@
 use Rattle.links.proofs.Linking.{part-fit, linked-at}
-use borrow.Author.Rules.{rules}
 use Rattle.links.proofs.link.linked.Goals as goal
 
 pub part_at-requires : goal.part_at-requires
@@ -9,6 +8,6 @@ pub returns-in-At : goal.returns-in-At
 returns-in-At c =
     record {
       same = linked-at _ _ _ _ _ c.in-At.is _ c.part_at.ensures _
-      c.find.ensures.same;
+          c.find.ensures.same;
       fit = c.find.ensures.fit;
     }

@@ -1,5 +1,4 @@
 use Rattle.links.proofs.Linking.{part-fit, parts_same}
-use borrow.Author.Rules.{rules}
 use Rattle.links.proofs.link.same_parts.Goals as goal
 
 pub part_at-p-requires : goal.part_at-p-requires

@@ -1,5 +1,4 @@
 use Rattle.links.proofs.Linking.{tref-link}
-use borrow.Author.Rules.{rules}
 use Rattle.links.proofs.link.tref_href.Goals as goal
 
 pub returns : goal.returns

@@ -1,16 +1,15 @@
 use native.Mathlib.Omega.{arith}
 use borrow.Author.Tests.{not-true, not-false}
 use Rattle.links.proofs.Linking.{node-stands, node-led, copies-nothing, no-tag, itself, its-origin, leads-itself, copies}
-use borrow.Author.Rules.{rules}
 use Rattle.links.proofs.link.use_target.Goals as goal
 
 pub returns-then-not-has_tag_name : goal.returns-then-not-has_tag_name
 returns-then-not-has_tag_name c =
     record {
       same = no-tag _ _ c.args.e _ _
-      c.use_href-link.ensures.same _
-      c.linked-node.ensures.same _ c.in-At.is _
-      c.has_tag_name.ensures (not-true _ c.if-not-has_tag_name.true-raw);
+          c.use_href-link.ensures.same _
+          c.linked-node.ensures.same _ c.in-At.is _
+          c.has_tag_name.ensures (not-true _ c.if-not-has_tag_name.true-raw);
       fit = tt;
     }
 
@@ -33,10 +32,10 @@ pub returns-then-number-e : goal.returns-then-number-e
 returns-then-number-e c =
     record {
       same = itself _ _ c.args.e _ _
-      c.use_href-link.ensures.same _
-      c.linked-node.ensures.same _
-      c.in-At.is _
-      c.has_tag_name.ensures (not-false _ c.if-not-has_tag_name.false-raw) c.if-number-e.true;
+          c.use_href-link.ensures.same _
+          c.linked-node.ensures.same _
+          c.in-At.is _
+          c.has_tag_name.ensures (not-false _ c.if-not-has_tag_name.false-raw) c.if-number-e.true;
       fit = tt;
     }
 
@@ -44,12 +43,12 @@ pub returns-then-number-origin : goal.returns-then-number-origin
 returns-then-number-origin c =
     record {
       same = its-origin _ _
-      c.args.e _ _
-      c.use_href-link.ensures.same _
-      c.linked-node.ensures.same _
-      c.in-At.is _
-      c.has_tag_name.ensures (not-false _ c.if-not-has_tag_name.false-raw)
-      c.if-number-e.false c.if-number-origin.true;
+          c.args.e _ _
+          c.use_href-link.ensures.same _
+          c.linked-node.ensures.same _
+          c.in-At.is _
+          c.has_tag_name.ensures (not-false _ c.if-not-has_tag_name.false-raw)
+          c.if-number-e.false c.if-number-origin.true;
       fit = tt;
     }
 
@@ -61,7 +60,7 @@ leads_back-requires c =
       standing_2 = stands;
       part_fit = c.use_href-link.ensures.fit;
       l_value = node-led _ _ _ _ _ c.in-At.is
-                c.linked-node.ensures.same;
+          c.linked-node.ensures.same;
       memo = c.requires.memo;
     }
 
@@ -69,12 +68,12 @@ pub returns-then-leads_back : goal.returns-then-leads_back
 returns-then-leads_back c =
     record {
       same = leads-itself _ _ c.args.e _ _
-      c.use_href-link.ensures.same _
-      c.linked-node.ensures.same _
-      c.in-At.is _
-      c.has_tag_name.ensures
-      (not-false _ c.if-not-has_tag_name.false-raw) c.if-number-e.false
-      c.if-number-origin.false _ c.leads_back.ensures c.if-leads_back.true;
+          c.use_href-link.ensures.same _
+          c.linked-node.ensures.same _
+          c.in-At.is _
+          c.has_tag_name.ensures
+          (not-false _ c.if-not-has_tag_name.false-raw) c.if-number-e.false
+          c.if-number-origin.false _ c.leads_back.ensures c.if-leads_back.true;
       fit = tt;
     }
 
@@ -96,6 +95,6 @@ pub returns-in-Nothing : goal.returns-in-Nothing
 returns-in-Nothing c =
     record {
       same = copies-nothing _ _ c.args.e _ _
-      c.use_href-link.ensures.same _ c.linked-node.ensures.same c.in-Nothing.is;
+          c.use_href-link.ensures.same _ c.linked-node.ensures.same c.in-Nothing.is;
       fit = tt;
     }

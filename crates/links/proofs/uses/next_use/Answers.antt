@@ -1,12 +1,7 @@
 use native.Mathlib.Omega.{arith}
-use borrow.Author.Rules.{rules}
-use Prim.Native.Nat.{◌-◌}
-use lib.ListN.{length}
 use mathlib.Core.Path.{sym, ◌∙◌}
 use Rattle.walk.proofs.Walks.{item-told}
-use Rattle.model.specs.Drawing.{uses_in}
-use Rattle.walk.specs.Values.{events_at}
-use Rattle.walk.proofs.Along.{Along, along-none, at_item, over, over-others, others-further}
+use Rattle.walk.proofs.Along.{along-none, at_item, over, over-others, others-further}
 use Rattle.links.proofs.Using.{uses-hit, uses-miss, uses-text, uses-other, uses-close, uses-out, uses-end}
 use Rattle.links.proofs.uses.next_use.Goals as goal
 
@@ -85,7 +80,7 @@ pub returns-then-level-eq0 : goal.returns-then-level-eq0
 returns-then-level-eq0 c =
     record {
       same = sym (uses-out _ _ c.if-level-eq0.true) ∙ at_item _ _ _ _ _ _ _ c.loop-e.invariant _ _
-      c.in-Close.is (c.next_item.ensures.same, c.next_item.ensures.fit);
+          c.in-Close.is (c.next_item.ensures.same, c.next_item.ensures.fit);
       fit = tt;
     }
 
@@ -104,6 +99,6 @@ pub returns-in-End : goal.returns-in-End
 returns-in-End c =
     record {
       same = sym (uses-end _) ∙ at_item _ _ _ _ _ _ _ c.loop-e.invariant _ _ c.in-End.is
-      (c.next_item.ensures.same, c.next_item.ensures.fit);
+          (c.next_item.ensures.same, c.next_item.ensures.fit);
       fit = tt;
     }

@@ -2,7 +2,6 @@ use native.Mathlib.Omega.{arith}
 use Rattle.walk.proofs.Finding.{fit-chars}
 use Rattle.memo.proofs.Ids.{value-fit}
 use Rattle.memo.proofs.Entering.{entered-id, entered-none}
-use borrow.Author.Rules.{rules}
 use Rattle.memo.proofs.fill.enter.Goals as goal
 
 pub part_at-requires : goal.part_at-requires

@@ -1,9 +1,7 @@
 use mathlib.Core.Path.{sym, ◌∙◌}
-use native.Mathlib.Omega.{arith}
 use borrow.Author.Tests.{not-true, not-false}
 use Rattle.memo.proofs.Knowing.{open-long}
 use Rattle.memo.proofs.Entering.{id-shut, id-full, id-put}
-use borrow.Author.Rules.{rules}
 use Rattle.memo.proofs.fill.enter_id.Goals as goal
 
 pub returns-then-not-is_open : goal.returns-then-not-is_open

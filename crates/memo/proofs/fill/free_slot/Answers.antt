@@ -1,10 +1,6 @@
-use borrow.Author.Rules.{rules}
-use mathlib.Core.Path.{◌≡◌, refl, sym, ◌∙◌}
-use Prim.Native.Nat.{◌<◌, ◌≤◌}
+use mathlib.Core.Path.{sym, ◌∙◌}
 use native.Mathlib.Omega.{arith}
 use borrow.Author.Tests.{eq-eqb, ne_eqb}
-use Rattle.memo.specs.Words.{unit, slot_count, slot_in, next_slot}
-use Rattle.memo.specs.Table.{first_free, free_for}
 use Rattle.memo.proofs.Parts.{unit-low}
 use Rattle.memo.proofs.Probing.{free-first, free-here, free-next, free-none}
 use Rattle.memo.proofs.fill.free_slot.Goals as goal
@@ -34,7 +30,7 @@ pub returns-then-slot_at-eq0 : goal.returns-then-slot_at-eq0
 returns-then-slot_at-eq0 c =
     record {
       same = free-here _ _ _ _ _ c.loop-left.invariant.0 c.loop-left-test.true
-      (eq-eqb _ _ (sym c.slot_at.ensures.0 ∙ c.if-slot_at-eq0.true));
+          (eq-eqb _ _ (sym c.slot_at.ensures.0 ∙ c.if-slot_at-eq0.true));
       low = omega (arith, c.loop-left.invariant.1);
     }
 
@@ -52,8 +48,7 @@ pub loop-left-smaller : goal.loop-left-smaller
 loop-left-smaller c = omega (arith, c.loop-left-test.true)
 
 pub loop-left-preserved : goal.loop-left-preserved
-loop-left-preserved c =
-    (
+loop-left-preserved c = (
   free-next _ _ _ _ _ c.loop-left.invariant.0 c.loop-left-test.true
       (ne_eqb _ _ (λ e. c.if-slot_at-eq0.false (c.slot_at.ensures.0 ∙ e))) _ c.next_slot-i.ensures.same,
   c.next_slot-i.ensures.low,

@@ -1,8 +1,5 @@
-use mathlib.Core.Path.{refl, sym, subst, ◌∙◌}
-use Rattle.memo.specs.Table.{Filling}
-use Rattle.memo.proofs.Ids.{has-none}
+use mathlib.Core.Path.{refl}
 use Rattle.memo.proofs.Filling.{passed-bare, bare-nodes, at_less}
-use borrow.Author.Rules.{rules}
 use Rattle.memo.proofs.fill.pass.Goals as goal
 
 pub returns-in-Nothing : goal.returns-in-Nothing

@@ -1,21 +1,13 @@
-use borrow.Author.Rules.{rules}
 use native.Mathlib.Omega.{arith}
-use Prim.Native.Nat.{◌-◌}
-use lib.ListN.{length}
-use mathlib.Core.Path.{◌≡◌, refl, ◌∙◌}
-use Rattle.script.specs.Step.{Fit}
-use Rattle.script.proofs.Commands.{placed_first}
-use Rattle.walk.specs.Values.{events_at}
+use mathlib.Core.Path.{refl, ◌∙◌}
 use Rattle.walk.proofs.Walks.{item-told}
-use Rattle.memo.specs.Table.{Filling}
 use Rattle.memo.proofs.Ids.{id-text, id_other, id-close}
 use Rattle.memo.proofs.Within.{within_text, within-other, within-close}
 use Rattle.memo.proofs.Filling.{filling-first, filling-at, filling-past, start-fit}
 use Rattle.memo.proofs.fill.pass_all.Goals as goal
 
 pub loop-e-init : goal.loop-e-init
-loop-e-init c =
-    (
+loop-e-init c = (
   start-fit _ _ c.requires.script_len_bound c.start-c.ensures,
   (filling-first _ _ _ _ c.requires.blank c.start-c.ensures, refl),
 )
@@ -42,8 +34,7 @@ loop-e-smaller-in-Begin c =
     )
 
 pub loop-e-preserved-in-Begin : goal.loop-e-preserved-in-Begin
-loop-e-preserved-in-Begin c =
-    (
+loop-e-preserved-in-Begin c = (
   c.pass-p.ensures.nodes.fit,
   (
     c.pass-p.ensures.filling,

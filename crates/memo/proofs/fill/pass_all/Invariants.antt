@@ -1,20 +1,14 @@
-use borrow.Author.Rules.{rules}
-use native.Mathlib.Omega.{arith}
 use Prim.Native.Nat.{◌-◌}
 use lib.ListN.{length}
-use mathlib.Core.Path.{◌≡◌, refl, ◌∙◌}
+use mathlib.Core.Path.{◌≡◌}
 use Rattle.script.specs.Step.{Fit}
-use Rattle.script.proofs.Commands.{placed_first}
 use Rattle.walk.specs.Values.{events_at}
-use Rattle.walk.proofs.Walks.{item-told}
 use Rattle.memo.specs.Table.{Filling}
-use Rattle.memo.proofs.Ids.{id-text, id_other, id-close}
-use Rattle.memo.proofs.Within.{within_text, within-other, within-close}
-use Rattle.memo.proofs.Filling.{filling-first, filling-at, filling-past, start-fit}
 use Rattle.memo.proofs.fill.pass_all.Given as goal
 
 abbrev pub invariant-loop-e : goal.invariant-loop-e
-invariant-loop-e l = Fit l.script l.c × (Filling l.script l.characters l.slots l.next l.left (events_at l.script l.characters l.c) × (length l.slots ≡ length l.initial.slots))
+invariant-loop-e l = Fit l.script l.c × (Filling l.script l.characters l.slots l.next l.left (events_at l.script l.characters l.c) ×
+    (length l.slots ≡ length l.initial.slots))
 
 abbrev pub decreases-loop-e : goal.decreases-loop-e
 decreases-loop-e l = length l.script - l.c.at

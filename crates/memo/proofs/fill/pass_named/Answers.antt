@@ -1,8 +1,8 @@
 use native.Mathlib.Omega.{arith}
-use mathlib.Core.Path.{sym, refl, ap, ◌∙◌}
-use borrow.Author.Tests.{not-true, not-false}
-use Rattle.memo.proofs.Filling.{ready-near, passed-near, passed-closed, filling-closed, ready-new, passed-new, nodes-inside, at_left, spaced-still, set_long}
-use borrow.Author.Rules.{rules}
+use mathlib.Core.Path.{sym, refl, ◌∙◌}
+use borrow.Author.Tests.{not-false}
+use Rattle.memo.proofs.Filling.{ready-near, passed-near, passed-closed, filling-closed, ready-new, passed-new, nodes-inside, at_left}
+use Rattle.memo.proofs.Filling.{spaced-still, set_long}
 use Rattle.memo.proofs.fill.pass_named.Goals as goal
 
 pub returns-then-spacing-eq0 : goal.returns-then-spacing-eq0
@@ -61,7 +61,7 @@ enter-place-requires-2 c =
     record {
       standing = c.requires.standing;
       m_bound = (c.has_room.ensures
-      (not-false _ c.if-not-has_room.false-raw)).few;
+          (not-false _ c.if-not-has_room.false-raw)).few;
     }
 
 pub overflow_sub-result-2 : goal.overflow_sub-result-2

@@ -1,7 +1,6 @@
 use native.Mathlib.Omega.{arith}
 use Prim.Native.Nat.{◌/◌, ◌-◌}
 use Rattle.memo.proofs.Parts.{over-low}
-use borrow.Author.Rules.{rules}
 use Rattle.memo.proofs.fill.spaced.Goals as goal
 
 pub overflow_add-n : goal.overflow_add-n

@@ -1,8 +1,6 @@
-use native.Mathlib.Omega.{arith}
 use Rattle.walk.proofs.Finding.{fit-chars}
 use Rattle.memo.proofs.Ids.{value-fit}
 use Rattle.memo.proofs.Entering.{part-told}
-use borrow.Author.Rules.{rules}
 use Rattle.memo.proofs.fill.want_link.Goals as goal
 
 pub reading_of-requires : goal.reading_of-requires

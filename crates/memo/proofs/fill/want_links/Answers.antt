@@ -1,18 +1,11 @@
-use borrow.Author.Rules.{rules}
 use native.Mathlib.Omega.{arith}
-use Prim.Native.Nat.{◌-◌, ◌≤◌}
-use lib.ListN.{length}
-use mathlib.Core.Path.{◌≡◌, sym, ◌∙◌, ap}
-use Rattle.script.specs.Step.{Fit}
 use Rattle.walk.proofs.Walks.{item-told}
-use Rattle.memo.specs.Words.{unit, Apart}
 use Rattle.memo.proofs.Parts.{apart_none}
 use Rattle.memo.proofs.Filling.{start-fit, wanted-on}
 use Rattle.memo.proofs.fill.want_links.Goals as goal
 
 pub loop-e-init : goal.loop-e-init
-loop-e-init c =
-    (
+loop-e-init c = (
   start-fit _ _ c.requires.script_len_bound c.start-c.ensures,
   (apart_none _ _ _, (omega arith, omega arith)),
 )
@@ -182,10 +175,10 @@ returns-in-End c =
     record {
       kept = c.loop-e.invariant.1.0;
       few = omega (
-    arith,
-    c.loop-e.invariant.1.1.0,
-    c.loop-e.invariant.1.1.1,
-    c.loop-e.invariant.0.at,
-    c.loop-e.invariant.0.size,
-  );
+        arith,
+        c.loop-e.invariant.1.1.0,
+        c.loop-e.invariant.1.1.1,
+        c.loop-e.invariant.0.at,
+        c.loop-e.invariant.0.size,
+      );
     }

@@ -1,13 +1,7 @@
-use borrow.Author.Rules.{rules}
-use native.Mathlib.Omega.{arith}
 use Prim.Native.Nat.{◌-◌, ◌≤◌}
 use lib.ListN.{length}
-use mathlib.Core.Path.{◌≡◌, sym, ◌∙◌, ap}
 use Rattle.script.specs.Step.{Fit}
-use Rattle.walk.proofs.Walks.{item-told}
 use Rattle.memo.specs.Words.{unit, Apart}
-use Rattle.memo.proofs.Parts.{apart_none}
-use Rattle.memo.proofs.Filling.{start-fit, wanted-on}
 use Rattle.memo.proofs.fill.want_links.Given as goal
 
 abbrev pub invariant-loop-e : goal.invariant-loop-e

@@ -1,7 +1,6 @@
 use native.Mathlib.Omega.{arith}
 use Rattle.walk.proofs.Finding.{fit-chars}
 use Rattle.memo.proofs.Ids.{value-fit}
-use borrow.Author.Rules.{rules}
 use Rattle.memo.proofs.fill.want_own.Goals as goal
 
 pub part_at-requires : goal.part_at-requires

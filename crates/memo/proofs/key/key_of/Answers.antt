@@ -1,10 +1,5 @@
-use borrow.Author.Rules.{rules}
 use Rattle.memo.proofs.Parts.{mixed-turn, mixed-all}
-use Rattle.memo.specs.Words.{mixed}
-use Rattle.model.specs.Base.{folded}
-use mathlib.Core.Path.{◌≡◌, refl, ◌∙◌}
-use Prim.Native.Nat.{◌-◌, ◌≤◌, ◌<◌}
-use lib.ListN.{length, drop}
+use mathlib.Core.Path.{refl, ◌∙◌}
 use native.Mathlib.Omega.{arith}
 use native.Mathlib.Nat.{mod-lt}
 use Rattle.memo.proofs.key.key_of.Goals as goal
@@ -25,8 +20,7 @@ pub loop-i-smaller : goal.loop-i-smaller
 loop-i-smaller c = omega (arith, c.loop-i-test.true)
 
 pub loop-i-preserved : goal.loop-i-preserved
-loop-i-preserved c =
-    (
+loop-i-preserved c = (
   mixed-turn _ _ _ _ c.loop-i-test.true c.wide.ensures.0 ∙ c.loop-i.invariant.0,
   (omega (arith, c.loop-i-test.true), mod-lt _ (omega arith)),
 )
@@ -38,6 +32,6 @@ pub returns : goal.returns
 returns c =
     record {
       same = mixed-all c.args.id.now c.loop-i.h c.loop-i.i
-      (omega (arith, c.loop-i-test.false)) c.loop-i.invariant.0;
+          (omega (arith, c.loop-i-test.false)) c.loop-i.invariant.0;
       low = mod-lt _ (omega arith);
     }

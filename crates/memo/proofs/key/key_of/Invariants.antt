@@ -1,12 +1,8 @@
-use borrow.Author.Rules.{rules}
-use Rattle.memo.proofs.Parts.{mixed-turn, mixed-all}
 use Rattle.memo.specs.Words.{mixed}
 use Rattle.model.specs.Base.{folded}
-use mathlib.Core.Path.{◌≡◌, refl, ◌∙◌}
+use mathlib.Core.Path.{◌≡◌}
 use Prim.Native.Nat.{◌-◌, ◌≤◌, ◌<◌}
 use lib.ListN.{length, drop}
-use native.Mathlib.Omega.{arith}
-use native.Mathlib.Nat.{mod-lt}
 use Rattle.memo.proofs.key.key_of.Given as goal
 
 abbrev pub invariant-loop-i : goal.invariant-loop-i

@@ -1,6 +1,5 @@
 use Rattle.memo.proofs.Linking.{opens-none, opens_by}
 use mathlib.Core.Path.{sym, ◌∙◌}
-use borrow.Author.Rules.{rules}
 use Rattle.memo.proofs.link.opens_link.Goals as goal
 
 pub returns-then-a-ne1 : goal.returns-then-a-ne1

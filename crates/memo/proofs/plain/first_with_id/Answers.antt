@@ -1,11 +1,7 @@
 use native.Mathlib.Omega.{arith}
-use borrow.Author.Rules.{rules}
-use Prim.Native.Nat.{◌-◌}
-use lib.ListN.{length}
 use mathlib.Core.Path.{sym, ◌∙◌}
 use Rattle.walk.proofs.Walks.{item-told}
-use Rattle.model.specs.Drawing.{events, first_with_id}
-use Rattle.walk.proofs.Along.{Along, along-start, at_item, over}
+use Rattle.walk.proofs.Along.{along-start, at_item, over}
 use Rattle.memo.proofs.Ids.{first_id, tested, found-id, over-without, further-without, id-text, id_other, id-close, id-none}
 use Rattle.memo.proofs.plain.first_with_id.Goals as goal
 
@@ -84,6 +80,6 @@ pub returns-in-End : goal.returns-in-End
 returns-in-End c =
     record {
       same = sym (id-none _) ∙ at_item _ _ _ _ _ _ _ c.loop-e.invariant _ _ c.in-End.is
-      (c.next_item.ensures.same, c.next_item.ensures.fit);
+          (c.next_item.ensures.same, c.next_item.ensures.fit);
       fit = tt;
     }

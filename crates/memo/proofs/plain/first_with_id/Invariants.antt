@@ -1,12 +1,8 @@
-use native.Mathlib.Omega.{arith}
-use borrow.Author.Rules.{rules}
 use Prim.Native.Nat.{◌-◌}
 use lib.ListN.{length}
-use mathlib.Core.Path.{sym, ◌∙◌}
-use Rattle.walk.proofs.Walks.{item-told}
 use Rattle.model.specs.Drawing.{events, first_with_id}
-use Rattle.walk.proofs.Along.{Along, along-start, at_item, over}
-use Rattle.memo.proofs.Ids.{first_id, tested, found-id, over-without, further-without, id-text, id_other, id-close, id-none}
+use Rattle.walk.proofs.Along.{Along}
+use Rattle.memo.proofs.Ids.{first_id}
 use Rattle.memo.proofs.plain.first_with_id.Given as goal
 
 abbrev pub invariant-loop-e : goal.invariant-loop-e

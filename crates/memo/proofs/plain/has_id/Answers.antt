@@ -2,7 +2,6 @@ use native.Mathlib.Omega.{arith}
 use Rattle.walk.proofs.Finding.{fit-chars}
 use Rattle.memo.proofs.Ids.{value-fit}
 use Rattle.memo.proofs.Ids.{has, has-not, has-none}
-use borrow.Author.Rules.{rules}
 use Rattle.memo.proofs.plain.has_id.Goals as goal
 
 pub attribute_in-requires : goal.attribute_in-requires

@@ -2,7 +2,6 @@ use mathlib.Core.Path.{refl, sym, ◌∙◌}
 use borrow.Author.Tests.{not-false}
 use Rattle.memo.proofs.Ids.{id-none}
 use Rattle.memo.proofs.Knowing.{known-held, probe-told, memo-found, memo-free}
-use borrow.Author.Rules.{rules}
 use Rattle.memo.proofs.table.find.Goals as goal
 
 pub look_for-requires : goal.look_for-requires
@@ -17,7 +16,7 @@ pub returns-in-Found : goal.returns-in-Found
 returns-in-Found c =
     record {
       same = memo-found _ _ _ _ c.requires.memo _
-      (probe-told _ _ _ _ _ c.in-Found.is (c.look_for.ensures.same, c.look_for.ensures.fit)).0 _ refl;
+          (probe-told _ _ _ _ _ c.in-Found.is (c.look_for.ensures.same, c.look_for.ensures.fit)).0 _ refl;
       fit = (probe-told _ _ _ _ _ c.in-Found.is (c.look_for.ensures.same, c.look_for.ensures.fit)).1;
     }
 
@@ -25,7 +24,7 @@ pub returns-in-Free : goal.returns-in-Free
 returns-in-Free c =
     record {
       same = sym (id-none _) ∙ memo-free _ _ _ _
-      c.requires.memo _
-      (probe-told _ _ _ _ _ c.in-Free.is (c.look_for.ensures.same, c.look_for.ensures.fit)).0 refl;
+          c.requires.memo _
+          (probe-told _ _ _ _ _ c.in-Free.is (c.look_for.ensures.same, c.look_for.ensures.fit)).0 refl;
       fit = tt;
     }

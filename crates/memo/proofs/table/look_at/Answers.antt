@@ -1,16 +1,14 @@
-use mathlib.Core.Path.{sym, ◌∙◌}
+use mathlib.Core.Path.{sym}
 use Rattle.script.specs.Step.{Fit}
 use mathlib.Core.Path.{subst}
-use native.Mathlib.Omega.{arith}
 use Rattle.memo.proofs.Knowing.{found-told, look-empty, look-print, look-nodes, look-placed}
-use borrow.Author.Rules.{rules}
 use Rattle.memo.proofs.table.look_at.Goals as goal
 
 pub returns-then-v-eq0 : goal.returns-then-v-eq0
 returns-then-v-eq0 c =
     record {
       same = look-empty _ _ c.args.slots.now _ _ _ _ c.slot_at-v.ensures.0
-      c.requires.key_value c.if-v-eq0.true;
+          c.requires.key_value c.if-v-eq0.true;
       fit = tt;
     }
 
@@ -18,8 +16,8 @@ pub returns-then-v-key : goal.returns-then-v-key
 returns-then-v-key c =
     record {
       same = look-print _ _ c.args.slots.now _ _ _ _
-      c.slot_at-v.ensures.0 c.requires.key_value
-      c.if-v-eq0.false c.if-v-key.true;
+          c.slot_at-v.ensures.0 c.requires.key_value
+          c.if-v-eq0.false c.if-v-key.true;
       fit = tt;
     }
 
@@ -47,13 +45,13 @@ pub returns-in-At : goal.returns-in-At
 returns-in-At c =
     record {
       same = look-nodes _ _
-      c.args.slots.now
-      _ _ _ _ c.slot_at-v.ensures.0
-      c.requires.key_value
-      c.if-v-eq0.false
-      c.if-v-key.false _ c.mark_at-mark.ensures
-      _ c.spacing.ensures _
-      (found-told _ _ _ _ _ c.in-At.is (c.within.ensures.same, c.within.ensures.fit)).0;
+          c.args.slots.now
+          _ _ _ _ c.slot_at-v.ensures.0
+          c.requires.key_value
+          c.if-v-eq0.false
+          c.if-v-key.false _ c.mark_at-mark.ensures
+          _ c.spacing.ensures _
+          (found-told _ _ _ _ _ c.in-At.is (c.within.ensures.same, c.within.ensures.fit)).0;
       fit = (found-told _ _ _ _ _ c.in-At.is (c.within.ensures.same, c.within.ensures.fit)).1;
     }
 
@@ -61,11 +59,11 @@ pub returns-in-Nothing : goal.returns-in-Nothing
 returns-in-Nothing c =
     record {
       same = look-nodes _ _
-      c.args.slots.now _ _ _ _
-      c.slot_at-v.ensures.0
-      c.requires.key_value
-      c.if-v-eq0.false c.if-v-key.false _
-      c.mark_at-mark.ensures _ c.spacing.ensures _
-      (found-told _ _ _ _ _ c.in-Nothing.is (c.within.ensures.same, c.within.ensures.fit)).0;
+          c.args.slots.now _ _ _ _
+          c.slot_at-v.ensures.0
+          c.requires.key_value
+          c.if-v-eq0.false c.if-v-key.false _
+          c.mark_at-mark.ensures _ c.spacing.ensures _
+          (found-told _ _ _ _ _ c.in-Nothing.is (c.within.ensures.same, c.within.ensures.fit)).0;
       fit = tt;
     }

@@ -1,9 +1,4 @@
-use borrow.Author.Rules.{rules}
-use mathlib.Core.Path.{◌≡◌}
-use Prim.Native.Nat.{◌<◌}
 use native.Mathlib.Omega.{arith}
-use Rattle.memo.specs.Words.{unit, slot_count, next_slot}
-use Rattle.memo.specs.Table.{sees, probing, probed}
 use Rattle.memo.proofs.Probing.{at-look, at-another, at-over}
 use Rattle.memo.proofs.Knowing.{open-long, look-told, probe-first}
 use Rattle.memo.proofs.table.look_for.Goals as goal
@@ -17,8 +12,7 @@ start_of-i-requires c =
     c.requires.key_value_2
 
 pub loop-left-init : goal.loop-left-init
-loop-left-init c =
-    (
+loop-left-init c = (
   probe-first _ _ c.args.slots.now _ _ _ _
       c.requires.key_value c.requires.key_value_2
       c.step_of-step.ensures.same c.start_of-i.ensures.same,
@@ -30,7 +24,7 @@ look_at-requires c =
     record {
       held = c.requires.held;
       in_bounds = open-long c.args.slots.now _
-        c.requires.key_value_2;
+          c.requires.key_value_2;
       i_bound = c.loop-left.invariant.1;
       key_value = c.requires.key_value;
     }
@@ -39,8 +33,8 @@ pub returns-in-This : goal.returns-in-This
 returns-in-This c =
     record {
       same = at-look _ _ _ _ _ c.loop-left.invariant.0
-      c.loop-left-test.true _
-      (look-told _ _ _ _ _ c.in-This.is (c.look_at.ensures.same, c.look_at.ensures.fit)).0;
+          c.loop-left-test.true _
+          (look-told _ _ _ _ _ c.in-This.is (c.look_at.ensures.same, c.look_at.ensures.fit)).0;
       fit = (look-told _ _ _ _ _ c.in-This.is (c.look_at.ensures.same, c.look_at.ensures.fit)).1;
     }
 
@@ -58,8 +52,7 @@ pub loop-left-smaller : goal.loop-left-smaller
 loop-left-smaller c = omega (arith, c.loop-left-test.true)
 
 pub loop-left-preserved : goal.loop-left-preserved
-loop-left-preserved c =
-    (
+loop-left-preserved c = (
   at-another _ _ _ _ _ c.loop-left.invariant.0 c.loop-left-test.true
       (look-told _ _ _ _ _ c.in-Another.is (c.look_at.ensures.same, c.look_at.ensures.fit)).0 _ c.next_slot-i.ensures.same,
   c.next_slot-i.ensures.low,
@@ -69,7 +62,7 @@ pub returns-in-Empty : goal.returns-in-Empty
 returns-in-Empty c =
     record {
       same = at-look _ _ _ _ _ c.loop-left.invariant.0 c.loop-left-test.true _
-      (look-told _ _ _ _ _ c.in-Empty.is (c.look_at.ensures.same, c.look_at.ensures.fit)).0;
+          (look-told _ _ _ _ _ c.in-Empty.is (c.look_at.ensures.same, c.look_at.ensures.fit)).0;
       fit = tt;
     }
 

@@ -1,15 +1,12 @@
-use borrow.Author.Rules.{rules}
 use mathlib.Core.Path.{◌≡◌}
 use Prim.Native.Nat.{◌<◌}
-use native.Mathlib.Omega.{arith}
 use Rattle.memo.specs.Words.{unit, slot_count, next_slot}
 use Rattle.memo.specs.Table.{sees, probing, probed}
-use Rattle.memo.proofs.Probing.{at-look, at-another, at-over}
-use Rattle.memo.proofs.Knowing.{open-long, look-told, probe-first}
 use Rattle.memo.proofs.table.look_for.Given as goal
 
 abbrev pub invariant-loop-left : goal.invariant-loop-left
-invariant-loop-left l = (probing (sees l.script l.characters l.slots l.id) (next_slot (unit l.slots) l.step) l.i l.left ≡ probed l.script l.characters l.slots l.id)
+invariant-loop-left l = (probing (sees l.script l.characters l.slots l.id) (next_slot (unit l.slots) l.step) l.i l.left ≡ probed l.script
+    l.characters l.slots l.id)
     × (l.i < slot_count l.slots)
 
 abbrev pub decreases-loop-left : goal.decreases-loop-left

@@ -1,13 +1,8 @@
-use borrow.Author.Rules.{rules}
 use native.Mathlib.Omega.{arith}
-use Prim.Native.Nat.{◌-◌}
-use lib.ListN.{length}
-use mathlib.Core.Path.{refl, sym, ◌∙◌}
-use Rattle.walk.specs.Values.{events_at}
+use mathlib.Core.Path.{refl, ◌∙◌}
 use Rattle.walk.proofs.Walks.{item-told}
-use Rattle.memo.specs.Table.{within}
 use Rattle.memo.proofs.Ids.{tested}
-use Rattle.memo.proofs.Within.{Seeking, seek-at, seek-past, seek_hit, seek-miss, within_text, within-other, within-close, within-zero, within_end}
+use Rattle.memo.proofs.Within.{seek-at, seek-past, seek_hit, seek-miss, within_text, within-other, within-close, within-zero, within_end}
 use Rattle.memo.proofs.table.within.Goals as goal
 
 pub loop-left-init : goal.loop-left-init
@@ -87,7 +82,7 @@ pub returns-in-End : goal.returns-in-End
 returns-in-End c =
     record {
       same = within_end _ _ ∙ seek-at _ _ _ _ _ _ c.loop-left.invariant _ _ c.in-End.is
-      (c.next_item.ensures.same, c.next_item.ensures.fit);
+          (c.next_item.ensures.same, c.next_item.ensures.fit);
       fit = tt;
     }
 

@@ -1,8 +1,7 @@
-use Prim.Native.Nat.{◌+◌, ◌*◌, ◌/◌, ◌%◌}
+use Prim.Native.Nat.{◌*◌, ◌/◌, ◌%◌}
 use native.Mathlib.Omega.{arith}
 use mathlib.Core.Path.{ap}
 use Rattle.memo.proofs.Parts.{part_low, unit-some}
-use borrow.Author.Rules.{rules}
 use Rattle.memo.proofs.words.bit_of.Goals as goal
 
 pub returns : goal.returns

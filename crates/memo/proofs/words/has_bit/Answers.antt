@@ -1,6 +1,5 @@
 use borrow.Author.Tests.{eq-eqb, ne_eqb}
 use mathlib.Core.Path.{refl}
-use borrow.Author.Rules.{rules}
 use Rattle.memo.proofs.words.has_bit.Goals as goal
 
 pub returns-then-p-eq0 : goal.returns-then-p-eq0

@@ -1,7 +1,6 @@
 use native.Mathlib.Omega.{arith}
 use mathlib.Core.Bool.{false≢true}
 use borrow.Author.Tests.{ltb-true}
-use borrow.Author.Rules.{rules}
 use Rattle.memo.proofs.words.has_room.Goals as goal
 
 pub returns-then-m-gt2046 : goal.returns-then-m-gt2046

@@ -1,7 +1,6 @@
 use Rattle.memo.proofs.Parts.{open-short, open_none, open-bit}
 use native.Mathlib.Omega.{arith}
 use mathlib.Core.Path.{sym, ◌∙◌}
-use borrow.Author.Rules.{rules}
 use Rattle.memo.proofs.words.is_open.Goals as goal
 
 pub returns-then-slots-lt16 : goal.returns-then-slots-lt16

@@ -1,5 +1,4 @@
 use mathlib.Core.Path.{refl}
-use borrow.Author.Rules.{rules}
 use Rattle.memo.proofs.words.mark_at.Goals as goal
 
 pub returns : goal.returns

@@ -1,5 +1,4 @@
 use Rattle.memo.proofs.Parts.{next-first, next-again}
-use borrow.Author.Rules.{rules}
 use Rattle.memo.proofs.words.next_slot.Goals as goal
 
 pub returns-then-i-step : goal.returns-then-i-step

@@ -1,7 +1,6 @@
 use Prim.Native.Nat.{◌+◌, ◌*◌}
 use mathlib.Core.Path.{ap}
 use Rattle.memo.proofs.Parts.{mark-put}
-use borrow.Author.Rules.{rules}
 use Rattle.memo.proofs.words.put_mark.Goals as goal
 
 pub returns : goal.returns

@@ -1,8 +1,6 @@
 use Prim.Native.Nat.{◌+◌, ◌*◌}
-use native.Mathlib.Omega.{arith}
-use mathlib.Core.Path.{ap, refl, ◌∙◌, sym}
+use mathlib.Core.Path.{ap}
 use Rattle.memo.proofs.Parts.{slot-put}
-use borrow.Author.Rules.{rules}
 use Rattle.memo.proofs.words.put_slot.Goals as goal
 
 pub returns : goal.returns

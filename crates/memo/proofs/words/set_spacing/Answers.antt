@@ -1,6 +1,5 @@
-use mathlib.Core.Path.{ap, refl, ◌∙◌, sym}
+use mathlib.Core.Path.{ap, ◌∙◌}
 use lib.ListN.{set}
-use borrow.Author.Rules.{rules}
 use Rattle.memo.proofs.words.set_spacing.Goals as goal
 
 pub returns : goal.returns

@@ -1,6 +1,5 @@
-use mathlib.Core.Path.{ap, refl, ◌∙◌, sym}
+use mathlib.Core.Path.{ap, ◌∙◌}
 use lib.ListN.{get_or}
-use borrow.Author.Rules.{rules}
 use Rattle.memo.proofs.words.spacing.Goals as goal
 
 pub returns : goal.returns

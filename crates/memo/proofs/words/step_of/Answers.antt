@@ -2,7 +2,6 @@ use Prim.Native.Nat.{◌+◌, ◌*◌, ◌/◌, ◌%◌}
 use native.Mathlib.Omega.{arith}
 use mathlib.Core.Path.{ap}
 use Rattle.memo.proofs.Parts.{part_low, unit-some, unit-low}
-use borrow.Author.Rules.{rules}
 use Rattle.memo.proofs.words.step_of.Goals as goal
 
 pub overflow_mul-result-2 : goal.overflow_mul-result-2
@@ -30,8 +29,8 @@ returns c =
     record {
       same = ap (λ u. 2 * (c.args.key / 4096 % (6 * u)) + 1) c.unit.ensures.same;
       low = omega (
-    arith,
-    part_low c.args.slots.now 6 _ (c.args.key / 4096) c.unit.ensures.same
-        (omega (arith, unit-some c.args.slots.now c.requires)),
-  );
+        arith,
+        part_low c.args.slots.now 6 _ (c.args.key / 4096) c.unit.ensures.same
+            (omega (arith, unit-some c.args.slots.now c.requires)),
+      );
     }

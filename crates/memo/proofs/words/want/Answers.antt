@@ -1,6 +1,5 @@
 use native.Mathlib.Omega.{arith}
 use Rattle.memo.proofs.Parts.{want-apart}
-use borrow.Author.Rules.{rules}
 use Rattle.memo.proofs.words.want.Goals as goal
 
 pub returns : goal.returns

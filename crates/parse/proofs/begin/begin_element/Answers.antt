@@ -3,7 +3,6 @@ use borrow.Author.Tests.{eq-eqb, ne_eqb}
 use Rattle.label.proofs.Trimming.{label-ready, label-values}
 use Rattle.parse.specs.Cycle.{tag_named}
 use Rattle.parse.proofs.Begins.{other-refused, other-use, other-children}
-use borrow.Author.Rules.{rules}
 use Rattle.parse.proofs.begin.begin_element.Goals as goal
 
 pub parse_svg_element-requires : goal.parse_svg_element-requires

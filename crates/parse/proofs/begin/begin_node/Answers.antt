@@ -3,7 +3,6 @@ use native.Mathlib.Omega.{arith}
 use borrow.Author.Tests.{eq-eqb, ne_eqb}
 use Rattle.tree.proofs.Bools.{fails, passes}
 use Rattle.parse.proofs.Begins.{begun-deep, begun-skipped}
-use borrow.Author.Rules.{rules}
 use Rattle.parse.proofs.begin.begin_node.Goals as goal
 
 pub returns-then-left-eq0 : goal.returns-then-left-eq0
@@ -20,10 +19,10 @@ begin_text-requires c =
     record {
       beginning = c.requires.beginning;
       text = (
-          omega (arith, c.if-left-eq0.false),
-          passes c.is_parsed.ensures c.if-not-is_parsed.false-raw,
-          eq-eqb _ _ (sym c.code_of.ensures ∙ c.if-code_of-eq-TEXT.true),
-        );
+        omega (arith, c.if-left-eq0.false),
+        passes c.is_parsed.ensures c.if-not-is_parsed.false-raw,
+        eq-eqb _ _ (sym c.code_of.ensures ∙ c.if-code_of-eq-TEXT.true),
+      );
       memo = c.requires.memo;
     }
 

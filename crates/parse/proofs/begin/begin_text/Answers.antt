@@ -1,5 +1,4 @@
 use Rattle.parse.proofs.Begins.{text-refused, text-done}
-use borrow.Author.Rules.{rules}
 use Rattle.parse.proofs.begin.begin_text.Goals as goal
 
 pub returns-in-Refused : goal.returns-in-Refused

@@ -1,5 +1,4 @@
 use Rattle.parse.proofs.Meeting.{begins-as, met-refused, met-passed, met-children, use-fit, met-use}
-use borrow.Author.Rules.{rules}
 use Rattle.parse.proofs.met.begin_at.Goals as goal
 
 pub begin_node-requires : goal.begin_node-requires
@@ -32,8 +31,8 @@ begin_copy-requires c =
     let a = c.args in record {
       standing = c.requires.standing;
       fit = use-fit _ _ a.left a.parent a.e _ _ _ a.place.now a.taken.now _ _
-            c.is_copied-ignored.ensures c.counted-before.ensures _ _ _ _
-            c.begin_node.ensures _ _ c.in-Use.is;
+          c.is_copied-ignored.ensures c.counted-before.ensures _ _ _ _
+          c.begin_node.ensures _ _ c.in-Use.is;
       place_len = c.requires.place_len.0;
       memo = c.requires.memo;
     }

@@ -1,5 +1,4 @@
 use Rattle.parse.proofs.Meeting.{copy-found, copy-none}
-use borrow.Author.Rules.{rules}
 use Rattle.parse.proofs.met.begin_copy.Goals as goal
 
 pub returns-in-At : goal.returns-in-At

@@ -1,7 +1,6 @@
 use mathlib.Core.Path.{sym, subst}
 use Rattle.script.specs.Step.{Fit}
 use Rattle.parse.proofs.Finding.{first-begins, first-stands, first-met, text-met, other-met, close-met, end-met}
-use borrow.Author.Rules.{rules}
 use Rattle.parse.proofs.met.meet.Goals as goal
 
 pub next_item-requires : goal.next_item-requires
@@ -14,8 +13,8 @@ begin_at-requires c =
           c.requires.underway _ c.standing-from.ensures _ c.next_item.ensures.same
           c.next_item.ensures.fit _ e;
       standing = first-stands _ _ c.args.left _ _ _ _ c.args.place.now c.args.taken.now c.requires.place_len.1
-            c.requires.underway _ c.standing-from.ensures _ c.next_item.ensures.same
-            c.next_item.ensures.fit _ e;
+          c.requires.underway _ c.standing-from.ensures _ c.next_item.ensures.same
+          c.next_item.ensures.fit _ e;
       place_len = c.requires.place_len;
       memo = c.requires.memo;
     }

@@ -1,6 +1,5 @@
 use mathlib.Core.Path.{refl}
 use Rattle.tree.proofs.Bools.{fails, passes}
-use borrow.Author.Rules.{rules}
 use Rattle.parse.proofs.name.is_parsed.Goals as goal
 
 pub returns-then-not-has_tag_name : goal.returns-then-not-has_tag_name

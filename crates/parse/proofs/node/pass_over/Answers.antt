@@ -1,5 +1,4 @@
 use Rattle.parse.proofs.Cycling.{past-stood}
-use borrow.Author.Rules.{rules}
 use Rattle.parse.proofs.node.pass_over.Goals as goal
 
 pub returns : goal.returns

@@ -1,5 +1,4 @@
 use Rattle.parse.proofs.Words.{stored-origin}
-use borrow.Author.Rules.{rules}
 use Rattle.parse.proofs.state.copy_by.Goals as goal
 
 pub returns : goal.returns

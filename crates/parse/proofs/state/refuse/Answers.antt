@@ -1,5 +1,4 @@
 use Rattle.parse.proofs.Words.{stored-number}
-use borrow.Author.Rules.{rules}
 use Rattle.parse.proofs.state.refuse.Goals as goal
 
 pub returns : goal.returns

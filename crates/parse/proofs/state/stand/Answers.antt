@@ -1,5 +1,4 @@
 use Rattle.parse.proofs.Words.{stored-place}
-use borrow.Author.Rules.{rules}
 use Rattle.parse.proofs.state.stand.Goals as goal
 
 pub returns : goal.returns

@@ -1,5 +1,4 @@
 use Rattle.parse.proofs.Words.{stored-aside}
-use borrow.Author.Rules.{rules}
 use Rattle.parse.proofs.state.stand_aside.Goals as goal
 
 pub returns : goal.returns

@@ -1,5 +1,4 @@
 use Rattle.parse.proofs.Words.{stored-counts}
-use borrow.Author.Rules.{rules}
 use Rattle.parse.proofs.state.take.Goals as goal
 
 pub returns : goal.returns

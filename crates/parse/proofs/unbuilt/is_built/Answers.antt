@@ -1,6 +1,5 @@
 use mathlib.Core.Path.{◌∙◌}
 use Rattle.parse.proofs.Skipping.{built-outside, built-inside}
-use borrow.Author.Rules.{rules}
 use Rattle.parse.proofs.unbuilt.is_built.Goals as goal
 
 pub returns-then-level-eq0 : goal.returns-then-level-eq0

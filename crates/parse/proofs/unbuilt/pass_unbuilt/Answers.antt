@@ -1,7 +1,6 @@
 use mathlib.Core.Path.{subst, sym}
 use Rattle.script.specs.Step.{Fit}
 use Rattle.parse.proofs.Skipping.{skipped-past}
-use borrow.Author.Rules.{rules}
 use Rattle.parse.proofs.unbuilt.pass_unbuilt.Goals as goal
 
 pub past_unbuilt-past-requires : goal.past_unbuilt-past-requires

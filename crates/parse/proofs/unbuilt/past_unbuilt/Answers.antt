@@ -1,12 +1,7 @@
 use native.Mathlib.Omega.{arith}
-use borrow.Author.Rules.{rules}
-use Prim.Native.Nat.{◌-◌}
-use lib.ListN.{length}
 use mathlib.Core.Path.{sym, ◌∙◌}
-use Rattle.walk.specs.Values.{events_at}
 use Rattle.walk.proofs.Walks.{item-told}
-use Rattle.walk.proofs.Along.{Along, along-none, at_item, over, over-others, others-further}
-use Rattle.parse.specs.Unbuilt.{past_unbuilt}
+use Rattle.walk.proofs.Along.{along-none, at_item, over, over-others, others-further}
 use Rattle.parse.proofs.Skipping.{built-here, unbuilt-begin, unbuilt-text, unbuilt-other, unbuilt-close, unbuilt-out, unbuilt-end}
 use Rattle.parse.proofs.unbuilt.past_unbuilt.Goals as goal
 

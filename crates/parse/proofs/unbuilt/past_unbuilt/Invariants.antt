@@ -1,17 +1,13 @@
-use native.Mathlib.Omega.{arith}
-use borrow.Author.Rules.{rules}
 use Prim.Native.Nat.{◌-◌}
 use lib.ListN.{length}
-use mathlib.Core.Path.{sym, ◌∙◌}
 use Rattle.walk.specs.Values.{events_at}
-use Rattle.walk.proofs.Walks.{item-told}
-use Rattle.walk.proofs.Along.{Along, along-none, at_item, over, over-others, others-further}
+use Rattle.walk.proofs.Along.{Along}
 use Rattle.parse.specs.Unbuilt.{past_unbuilt}
-use Rattle.parse.proofs.Skipping.{built-here, unbuilt-begin, unbuilt-text, unbuilt-other, unbuilt-close, unbuilt-out, unbuilt-end}
 use Rattle.parse.proofs.unbuilt.past_unbuilt.Given as goal
 
 abbrev pub invariant-loop-e : goal.invariant-loop-e
-invariant-loop-e l = Along past_unbuilt (past_unbuilt 0 (events_at l.script l.characters l.initial.c)) l.script l.characters l.initial.c l.c l.level
+invariant-loop-e l = Along past_unbuilt (past_unbuilt 0 (events_at l.script l.characters l.initial.c)) l.script l.characters l.initial.c
+    l.c l.level
 
 abbrev pub decreases-loop-e : goal.decreases-loop-e
 decreases-loop-e l = length l.script - l.c.at

@@ -13,7 +13,12 @@ returns-then-code-eq-TSPAN c = rw (ne_eqb _ _ c.if-code-eq-A.false, eq-eqb _ _ c
 
 pub returns-then-code-eq-TREF : goal.returns-then-code-eq-TREF
 unfolding among
-returns-then-code-eq-TREF c = rw (ne_eqb _ _ c.if-code-eq-A.false, ne_eqb _ _ c.if-code-eq-TSPAN.false, eq-eqb _ _ c.if-code-eq-TREF.true) refl
+returns-then-code-eq-TREF c = rw (
+  ne_eqb _ _ c.if-code-eq-A.false,
+  ne_eqb _ _ c.if-code-eq-TSPAN.false,
+  eq-eqb _ _
+      c.if-code-eq-TREF.true,
+) refl
 
 pub returns-then-not-direct : goal.returns-then-not-direct
 unfolding among

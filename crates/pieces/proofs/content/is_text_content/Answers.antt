@@ -1,7 +1,6 @@
 use mathlib.Core.Path.{refl, ap, ◌∙◌}
 use Rattle.tree.proofs.Bools.{fails, passes}
 use Rattle.pieces.specs.Content.{is_content_name}
-use borrow.Author.Rules.{rules}
 use Rattle.pieces.proofs.content.is_text_content.Goals as goal
 
 pub returns-then-not-has_tag_name : goal.returns-then-not-has_tag_name

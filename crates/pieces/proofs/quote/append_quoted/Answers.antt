@@ -3,7 +3,6 @@ use Rattle.model.specs.Tables.{text_room}
 use Rattle.text.specs.Spaces.{space_in}
 use Rattle.pieces.specs.Quotes.{texts_from}
 use Rattle.pieces.proofs.Quoting.{quote-none, quote-bytes, quote-fits, quote-record, record-fits, quote-added}
-use borrow.Author.Rules.{rules}
 use Rattle.pieces.proofs.quote.append_quoted.Goals as goal
 
 pub returns-then-total-eq0 : goal.returns-then-total-eq0
@@ -60,13 +59,13 @@ put_place-end-requires c =
       quotable = c.requires.quotable;
       size_value = c.quoted_size-total.ensures;
       size_bound = quote-fits c.args.nodes.now c.args.text.now
-        c.args.characters.now c.args.counts (space_in c.args.space)
-        c.args.p (texts_from c.args.script.now
-        c.args.characters.now c.args.from) _
-        c.quoted_size-total.ensures
-        c.requires.appendable c.if-total-eq0.false _
-        c.text_room.ensures
-        c.if-left-total.false;
+          c.args.characters.now c.args.counts (space_in c.args.space)
+          c.args.p (texts_from c.args.script.now
+          c.args.characters.now c.args.from) _
+          c.quoted_size-total.ensures
+          c.requires.appendable c.if-total-eq0.false _
+          c.text_room.ensures
+          c.if-left-total.false;
     }
 
 pub append-requires : goal.append-requires

@@ -4,7 +4,6 @@ use native.Mathlib.Omega.{arith}
 use Rattle.text.specs.Spaces.{space_in}
 use Rattle.pieces.specs.Quotes.{texts_from}
 use Rattle.pieces.proofs.Putting.{quoted-most, place-back}
-use borrow.Author.Rules.{rules}
 use Rattle.pieces.proofs.quote.put_place.Goals as goal
 
 pub overflow_cast-n : goal.overflow_cast-n
@@ -39,15 +38,15 @@ pub returns : goal.returns
 returns c =
     record {
       end = ap (λ k. c.args.first + k)
-      c.put_quoted-bytes.ensures.size;
+          c.put_quoted-bytes.ensures.size;
       text = place-back (space_in c.args.space)
-      c.args.characters.now
-      (texts_from c.args.script.now
-      c.args.characters.now
-      c.args.from)
-      c.args.first
-      c.args.size
-      c.requires.size_value
-      c.args.text.now _
-      c.requires.size_bound.1 c.put_quoted-bytes.ensures.place;
+          c.args.characters.now
+          (texts_from c.args.script.now
+          c.args.characters.now
+          c.args.from)
+          c.args.first
+          c.args.size
+          c.requires.size_value
+          c.args.text.now _
+          c.requires.size_bound.1 c.put_quoted-bytes.ensures.place;
     }

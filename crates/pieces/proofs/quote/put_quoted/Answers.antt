@@ -1,10 +1,6 @@
-use borrow.Author.Rules.{rules}
 use native.Mathlib.Omega.{arith}
-use Prim.Native.Nat.{◌-◌}
-use lib.ListN.{length}
-use Rattle.text.specs.Spaces.{space_in}
 use Rattle.pieces.proofs.Summing.{text-told}
-use Rattle.pieces.proofs.Putting.{Putting, putting-none, text-inside, putting-more, putting-all}
+use Rattle.pieces.proofs.Putting.{putting-none, text-inside, putting-more, putting-all}
 use Rattle.pieces.proofs.quote.put_quoted.Goals as goal
 
 pub loop-own-init : goal.loop-own-init
@@ -19,7 +15,8 @@ next_text-requires c =
 
 pub put_more-done-requires : goal.put_more-done-requires
 put_more-done-requires c =
-    let told = text-told _ _ _ _ _ _ c.in-At.is (c.next_text.ensures.same, c.next_text.ensures.fit) in let whole = text-inside _ _ _ _ _ _ _ _ _ c.loop-own.invariant _ _ _ _ told in
+    let told = text-told _ _ _ _ _ _ c.in-At.is (c.next_text.ensures.same, c.next_text.ensures.fit) in let whole = text-inside _ _ _ _ _
+    _ _ _ _ c.loop-own.invariant _ _ _ _ told in
     record { size_in_bounds = whole.0; size_in_bounds_2 = whole.1 }
 
 pub loop-own-smaller : goal.loop-own-smaller
@@ -40,5 +37,6 @@ shape_of-place-in-End c = c.loop-own.invariant.long
 
 pub returns-in-End : goal.returns-in-End
 returns-in-End c =
-    let ended = text-told _ _ _ _ _ _ c.in-End.is (c.next_text.ensures.same, c.next_text.ensures.fit) in let whole = putting-all _ _ _ _ _ _ _ _ _ c.loop-own.invariant ended in
+    let ended = text-told _ _ _ _ _ _ c.in-End.is (c.next_text.ensures.same, c.next_text.ensures.fit) in let whole = putting-all _ _ _ _
+    _ _ _ _ _ c.loop-own.invariant ended in
     record { size = whole.0; place = whole.1 }

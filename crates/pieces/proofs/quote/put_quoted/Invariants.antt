@@ -1,10 +1,7 @@
-use borrow.Author.Rules.{rules}
-use native.Mathlib.Omega.{arith}
 use Prim.Native.Nat.{◌-◌}
 use lib.ListN.{length}
 use Rattle.text.specs.Spaces.{space_in}
-use Rattle.pieces.proofs.Summing.{text-told}
-use Rattle.pieces.proofs.Putting.{Putting, putting-none, text-inside, putting-more, putting-all}
+use Rattle.pieces.proofs.Putting.{Putting}
 use Rattle.pieces.proofs.quote.put_quoted.Given as goal
 
 abbrev pub invariant-loop-own : goal.invariant-loop-own

@@ -1,8 +1,6 @@
-use borrow.Author.Rules.{rules}
-use native.Mathlib.Omega.{arith}
 use Prim.Native.Nat.{◌-◌}
 use lib.ListN.{length}
-use Rattle.pieces.proofs.Summing.{Summed, summed-none, summed-more, summed-all, text-told}
+use Rattle.pieces.proofs.Summing.{Summed}
 use Rattle.pieces.proofs.quote.quoted_size.Given as goal
 
 abbrev pub invariant-loop-len : goal.invariant-loop-len

@@ -1,7 +1,6 @@
 use Prim.Native.Nat.{◌-◌}
 use native.Mathlib.Omega.{arith}
 use Rattle.pieces.proofs.Words.{pop-top, pop-word}
-use borrow.Author.Rules.{rules}
 use Rattle.pieces.proofs.remember.pop.Goals as goal
 
 pub returns-then-top-ge2 : goal.returns-then-top-ge2

@@ -1,7 +1,6 @@
 use native.Mathlib.Omega.{arith}
 use Rattle.text.specs.Spaces.{space_in}
 use Rattle.pieces.proofs.Words.{bit-most, push-bit, push-word, push-alone}
-use borrow.Author.Rules.{rules}
 use Rattle.pieces.proofs.remember.push.Goals as goal
 
 pub overflow_add-result : goal.overflow_add-result

@@ -1,6 +1,5 @@
 use mathlib.Core.Path.{sym, subst}
 use Rattle.script.specs.Step.{Fit}
-use borrow.Author.Rules.{rules}
 use Rattle.places.proofs.marks.near.Goals as goal
 
 pub returns-else-mark-hint : goal.returns-else-mark-hint

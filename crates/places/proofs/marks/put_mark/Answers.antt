@@ -1,5 +1,4 @@
 use Prim.Native.Nat.{◌*◌}
-use borrow.Author.Rules.{rules}
 use Rattle.places.proofs.Marking.{stored}
 use Rattle.places.proofs.marks.put_mark.Goals as goal
 

@@ -1,8 +1,6 @@
-use borrow.Author.Rules.{rules}
 use native.Mathlib.Omega.{arith}
-use Prim.Native.Nat.{◌-◌}
 use Rattle.script.proofs.Commands.{placed_first}
-use Rattle.places.proofs.Marking.{Marking, marked-stride, marking-more}
+use Rattle.places.proofs.Marking.{marked-stride, marking-more}
 use Rattle.places.proofs.marks.set_marks.Goals as goal
 
 pub stride_of-stride-requires : goal.stride_of-stride-requires

@@ -1,8 +1,5 @@
-use borrow.Author.Rules.{rules}
-use native.Mathlib.Omega.{arith}
 use Prim.Native.Nat.{◌-◌}
-use Rattle.script.proofs.Commands.{placed_first}
-use Rattle.places.proofs.Marking.{Marking, marked-stride, marking-more}
+use Rattle.places.proofs.Marking.{Marking}
 use Rattle.places.proofs.marks.set_marks.Given as goal
 
 abbrev pub invariant-loop-k : goal.invariant-loop-k

@@ -1,6 +1,4 @@
-use native.Mathlib.Omega.{arith}
 use Rattle.script.proofs.Commands.{placed_first}
-use borrow.Author.Rules.{rules}
 use Rattle.places.proofs.marks.stride_of.Goals as goal
 
 pub seek-last-requires : goal.seek-last-requires

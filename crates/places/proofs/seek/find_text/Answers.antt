@@ -1,14 +1,11 @@
-use Prim.Native.Nat.{◌-◌}
 use mathlib.Core.Path.{sym, ap, subst, ◌∙◌}
 use mathlib.Core.Bool.{Bool}
 use mathlib.Core.Option.{Option}
-use lib.ListN.{length}
 use native.Mathlib.Omega.{arith}
-use borrow.Author.Rules.{rules}
-use Rattle.model.specs.Drawing.{Source, events}
+use Rattle.model.specs.Drawing.{Source}
 use Rattle.walk.proofs.Walks.{item-told}
-use Rattle.walk.proofs.Along.{Along, along-start, at_item, over}
-use Rattle.places.proofs.Search.{Rising, rising, sought, sought-begin, sought-miss, sought-hit, sought-other, sought-close}
+use Rattle.walk.proofs.Along.{along-start, at_item, over}
+use Rattle.places.proofs.Search.{Rising, rising, sought-begin, sought-miss, sought-hit, sought-other, sought-close}
 use Rattle.places.proofs.Search.{sought-none, style-low}
 use Rattle.places.proofs.seek.find_text.Goals as goal
 

@@ -1,5 +1,4 @@
 use borrow.Author.Tests.{le-leb, lt-leb}
-use borrow.Author.Rules.{rules}
 use Rattle.places.proofs.seek.nearest.Goals as goal
 
 pub returns-then-hint-number : goal.returns-then-hint-number

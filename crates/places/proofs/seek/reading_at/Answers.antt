@@ -3,7 +3,6 @@ use Rattle.model.specs.Drawing.{reading_of}
 use Rattle.script.proofs.Commands.{goes}
 use Rattle.walk.proofs.Finding.{fit-chars}
 use Rattle.places.proofs.Seeking.{reads, none_read}
-use borrow.Author.Rules.{rules}
 use Rattle.places.proofs.seek.reading_at.Goals as goal
 
 pub reading_of-requires : goal.reading_of-requires
@@ -24,8 +23,8 @@ pub returns-in-Attribute : goal.returns-in-Attribute
 returns-in-Attribute c =
     record {
       same = c.reading_of.ensures.same ∙ ap (reading_of c.args.kind)
-      (reads _ c.args.characters.now _ _ _
-      c.in-Attribute.is c.next.ensures.step);
+          (reads _ c.args.characters.now _ _ _
+          c.in-Attribute.is c.next.ensures.step);
       fit = c.reading_of.ensures.fit;
     }
 
@@ -33,8 +32,8 @@ pub returns-in-Declaration : goal.returns-in-Declaration
 returns-in-Declaration c =
     record {
       same = c.reading_of-in-Declaration.ensures.same ∙ ap (reading_of c.args.kind)
-      (reads _ c.args.characters.now _ _ _
-      c.in-Declaration.is c.next.ensures.step);
+          (reads _ c.args.characters.now _ _ _
+          c.in-Declaration.is c.next.ensures.step);
       fit = c.reading_of-in-Declaration.ensures.fit;
     }
 
@@ -42,7 +41,7 @@ pub returns-in-Open : goal.returns-in-Open
 returns-in-Open c =
     record {
       same = none_read _ _ (reads _ c.args.characters.now _ _ _ c.in-Open.is
-      c.next.ensures.step);
+          c.next.ensures.step);
       fit = tt;
     }
 
@@ -50,7 +49,7 @@ pub returns-in-Reading : goal.returns-in-Reading
 returns-in-Reading c =
     record {
       same = none_read _ _ (reads _ c.args.characters.now _ _ _ c.in-Reading.is
-      c.next.ensures.step);
+          c.next.ensures.step);
       fit = tt;
     }
 
@@ -58,7 +57,7 @@ pub returns-in-Text : goal.returns-in-Text
 returns-in-Text c =
     record {
       same = none_read _ _ (reads _ c.args.characters.now _ _ _ c.in-Text.is
-      c.next.ensures.step);
+          c.next.ensures.step);
       fit = tt;
     }
 
@@ -66,7 +65,7 @@ pub returns-in-Other : goal.returns-in-Other
 returns-in-Other c =
     record {
       same = none_read _ _ (reads _ c.args.characters.now _ _ _ c.in-Other.is
-      c.next.ensures.step);
+          c.next.ensures.step);
       fit = tt;
     }
 
@@ -74,7 +73,7 @@ pub returns-in-Close : goal.returns-in-Close
 returns-in-Close c =
     record {
       same = none_read _ _ (reads _ c.args.characters.now _ _ _ c.in-Close.is
-      c.next.ensures.step);
+          c.next.ensures.step);
       fit = tt;
     }
 
@@ -82,7 +81,7 @@ pub returns-in-Broken : goal.returns-in-Broken
 returns-in-Broken c =
     record {
       same = none_read _ _ (reads _ c.args.characters.now _ _ _ c.in-Broken.is
-      c.next.ensures.step);
+          c.next.ensures.step);
       fit = tt;
     }
 
@@ -90,6 +89,6 @@ pub returns-in-End : goal.returns-in-End
 returns-in-End c =
     record {
       same = none_read _ _ (reads _ c.args.characters.now _ _ _ c.in-End.is
-      c.next.ensures.step);
+          c.next.ensures.step);
       fit = tt;
     }

@@ -1,9 +1,6 @@
 use native.Mathlib.Omega.{arith}
-use borrow.Author.Rules.{rules}
-use Prim.Native.Nat.{◌-◌}
-use lib.ListN.{length}
 use Rattle.script.proofs.Commands.{told, goes}
-use Rattle.places.proofs.Seeking.{Sought, sought-first, sought-here, sought-on, sought-end, sought-broken}
+use Rattle.places.proofs.Seeking.{sought-first, sought-here, sought-on, sought-end, sought-broken}
 use Rattle.places.proofs.seek.seek.Goals as goal
 
 pub loop-c-init : goal.loop-c-init
@@ -114,7 +111,7 @@ pub returns-in-Broken : goal.returns-in-Broken
 returns-in-Broken c =
     record {
       same = sought-broken _ _ _ c.loop-c.invariant _
-      (told _ _ _ _ c.in-Broken.is c.next.ensures.step);
+          (told _ _ _ _ c.in-Broken.is c.next.ensures.step);
       fit = c.loop-c.invariant.fit;
     }
 
@@ -122,6 +119,6 @@ pub returns-in-End : goal.returns-in-End
 returns-in-End c =
     record {
       same = sought-end _ _ _ c.loop-c.invariant
-      (told _ _ _ _ c.in-End.is c.next.ensures.step);
+          (told _ _ _ _ c.in-End.is c.next.ensures.step);
       fit = c.loop-c.invariant.fit;
     }

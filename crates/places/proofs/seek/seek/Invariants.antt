@@ -1,9 +1,6 @@
-use native.Mathlib.Omega.{arith}
-use borrow.Author.Rules.{rules}
 use Prim.Native.Nat.{◌-◌}
 use lib.ListN.{length}
-use Rattle.script.proofs.Commands.{told, goes}
-use Rattle.places.proofs.Seeking.{Sought, sought-first, sought-here, sought-on, sought-end, sought-broken}
+use Rattle.places.proofs.Seeking.{Sought}
 use Rattle.places.proofs.seek.seek.Given as goal
 
 abbrev pub invariant-loop-c : goal.invariant-loop-c

@@ -1,5 +1,4 @@
 use borrow.Author.Tests.{eq-eqb, ne_eqb}
-use borrow.Author.Rules.{rules}
 use Rattle.places.proofs.seek.style_level.Goals as goal
 
 pub returns-then-level-ne0 : goal.returns-then-level-ne0

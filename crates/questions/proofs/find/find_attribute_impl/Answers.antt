@@ -1,6 +1,5 @@
 use mathlib.Core.Path.{sym}
 use Rattle.model.specs.Questions.{find_attribute_impl}
-use borrow.Author.Rules.{rules}
 use Rattle.questions.proofs.find.find_attribute_impl.Goals as goal
 
 pub returns-then-is_inheritable : goal.returns-then-is_inheritable

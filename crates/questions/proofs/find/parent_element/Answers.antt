@@ -1,10 +1,9 @@
-use mathlib.Core.Path.{◌≡◌, sym, ◌∙◌, ap}
-use Prim.Native.Nat.{ℕ, ◌≤◌, ◌-◌}
+use mathlib.Core.Path.{sym, ◌∙◌, ap}
+use Prim.Native.Nat.{ℕ, ◌-◌}
 use native.Mathlib.Omega.{arith}
 use lib.Dec.{eqb}
 use borrow.Author.Tests.{eq-eqb, ne_eqb}
 use Rattle.model.specs.Tables.{kind_of, parent_of}
-use Rattle.model.specs.Questions.{element_from}
 use Rattle.tree.specs.Lent.{nodes_read}
 use Rattle.tree.proofs.Climbs.{climb, climb-step, climb-end}
 use Rattle.questions.proofs.Above.{element-start}
@@ -14,8 +13,7 @@ pub node_word-w-requires : goal.node_word-w-requires
 node_word-w-requires c = omega (arith, (c.requires c.args.i (omega arith)).inside)
 
 pub loop-w-init : goal.loop-w-init
-loop-w-init c =
-    (
+loop-w-init c = (
   omega (arith, (c.requires c.args.i (omega arith)).falls, c.node_word-w.ensures),
   ap (λ (n : ℕ). climb (λ k. eqb (kind_of (nodes_read c.args.nodes.now) k) 2)
       (parent_of (nodes_read c.args.nodes.now)) n n) c.node_word-w.ensures
@@ -32,8 +30,8 @@ pub returns-then-node_word-eq-ELEMENT : goal.returns-then-node_word-eq-ELEMENT
 returns-then-node_word-eq-ELEMENT c =
     record {
       found = sym (climb-step _ _ _ c.loop-w-test.true
-      (λ k l. (c.requires k (omega arith)).falls)
-      ∙ rw (sym c.node_word.ensures, eq-eqb _ _ c.if-node_word-eq-ELEMENT.true)) ∙ c.loop-w.invariant.1;
+          (λ k l. (c.requires k (omega arith)).falls)
+          ∙ rw (sym c.node_word.ensures, eq-eqb _ _ c.if-node_word-eq-ELEMENT.true)) ∙ c.loop-w.invariant.1;
       within = omega arith;
     }
 

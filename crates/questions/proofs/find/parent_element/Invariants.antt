@@ -1,13 +1,10 @@
-use mathlib.Core.Path.{◌≡◌, sym, ◌∙◌, ap}
-use Prim.Native.Nat.{ℕ, ◌≤◌, ◌-◌}
-use native.Mathlib.Omega.{arith}
+use mathlib.Core.Path.{◌≡◌}
+use Prim.Native.Nat.{◌≤◌}
 use lib.Dec.{eqb}
-use borrow.Author.Tests.{eq-eqb, ne_eqb}
 use Rattle.model.specs.Tables.{kind_of, parent_of}
 use Rattle.model.specs.Questions.{element_from}
 use Rattle.tree.specs.Lent.{nodes_read}
-use Rattle.tree.proofs.Climbs.{climb, climb-step, climb-end}
-use Rattle.questions.proofs.Above.{element-start}
+use Rattle.tree.proofs.Climbs.{climb}
 use Rattle.questions.proofs.find.parent_element.Given as goal
 
 abbrev pub invariant-loop-w : goal.invariant-loop-w

@@ -4,7 +4,6 @@ use borrow.Author.Tests.{eq-eqb, ne_eqb}
 use Rattle.tree.specs.Lent.{read_of}
 use Rattle.tree.proofs.Entries.{has, has-not}
 use Rattle.questions.proofs.Above.{element-same}
-use borrow.Author.Rules.{rules}
 use Rattle.questions.proofs.find.self_or_parent.Goals as goal
 
 pub attribute_id-requires : goal.attribute_id-requires
@@ -21,12 +20,12 @@ pub returns-then-parent-eq0 : goal.returns-then-parent-eq0
 returns-then-parent-eq0 c =
     record {
       found = rw (
-    has-not c.attribute_id.ensures.found c.if-attribute_id-ne0.false,
-    sym (c.parent_element-parent.ensures.found ∙ element-same (read_of
-        c.args.nodes.now
-        c.args.attributes.now) _ _),
-    eq-eqb _ _ c.if-parent-eq0.true,
-  );
+        has-not c.attribute_id.ensures.found c.if-attribute_id-ne0.false,
+        sym (c.parent_element-parent.ensures.found ∙ element-same (read_of
+            c.args.nodes.now
+            c.args.attributes.now) _ _),
+        eq-eqb _ _ c.if-parent-eq0.true,
+      );
       within = omega arith;
     }
 

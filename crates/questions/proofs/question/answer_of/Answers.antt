@@ -1,5 +1,4 @@
 use borrow.Author.Tests.{eq-eqb, ne_eqb}
-use borrow.Author.Rules.{rules}
 use Rattle.questions.proofs.question.answer_of.Goals as goal
 
 pub returns-then-w-eq0 : goal.returns-then-w-eq0

@@ -6,7 +6,6 @@ use Rattle.questions.specs.Answers.{answered}
 use Rattle.tree.proofs.Facts.{readable-in}
 use Rattle.questions.proofs.Facts.{no-fault}
 use Rattle.tree.proofs.Alike.{attribute-same}
-use borrow.Author.Rules.{rules}
 use Rattle.questions.proofs.question.attribute.Goals as goal
 
 pub returns-then-fault-ne0 : goal.returns-then-fault-ne0

@@ -8,7 +8,6 @@ use Rattle.tree.proofs.Bools.{fails, passes}
 use Rattle.model.proofs.Theorems.Sound.{sound-kept}
 use Rattle.tree.proofs.Facts.{readable-in}
 use Rattle.tree.proofs.Alike.{last-same}
-use borrow.Author.Rules.{rules}
 use Rattle.questions.proofs.question.element_by_id.Goals as goal
 
 pub returns-then-not-is_sound : goal.returns-then-not-is_sound

@@ -9,7 +9,6 @@ use Rattle.tree.proofs.Facts.{readable-in, climbable}
 use Rattle.questions.proofs.Facts.{no-fault}
 use Rattle.tree.proofs.Alike.{attribute-same}
 use Rattle.questions.proofs.Above.{impl-same}
-use borrow.Author.Rules.{rules}
 use Rattle.questions.proofs.question.find_attribute.Goals as goal
 
 pub returns-then-fault-ne0 : goal.returns-then-fault-ne0

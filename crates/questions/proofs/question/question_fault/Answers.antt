@@ -2,7 +2,6 @@ use borrow.Author.Tests.{le-leb, lt-leb}
 use Rattle.model.specs.Check.{first_of}
 use Rattle.model.specs.Questions.{question_fault}
 use Rattle.tree.proofs.Bools.{fails, passes}
-use borrow.Author.Rules.{rules}
 use Rattle.questions.proofs.question.question_fault.Goals as goal
 
 pub returns-then-not-is_sound : goal.returns-then-not-is_sound

@@ -6,7 +6,6 @@ use Rattle.tree.specs.Lent.{tree_of}
 use Rattle.questions.specs.declared.Part.{Part}
 use Rattle.questions.proofs.Facts.{part-within}
 use Rattle.tree.proofs.Entries.{part_of}
-use borrow.Author.Rules.{rules}
 use Rattle.questions.proofs.question.text.Goals as goal
 
 pub slice_bounds-result-end : goal.slice_bounds-result-end

@@ -1,6 +1,5 @@
 use borrow.Author.Tests.{eq-eqb, ne_eqb}
 use mathlib.Core.Path.{sym, ◌∙◌}
-use borrow.Author.Rules.{rules}
 use Rattle.questions.proofs.question.text_at.Goals as goal
 
 pub returns-then-node_word-ne-ELEMENT : goal.returns-then-node_word-ne-ELEMENT

@@ -1,7 +1,6 @@
 use borrow.Author.Tests.{eq-eqb, ne_eqb}
 use mathlib.Core.Path.{sym, ◌∙◌}
 use native.Mathlib.Omega.{arith}
-use borrow.Author.Rules.{rules}
 use Rattle.questions.proofs.question.text_of_node.Goals as goal
 
 pub returns-then-node_word-ne-TEXT : goal.returns-then-node_word-ne-TEXT

@@ -4,7 +4,6 @@ use Rattle.model.specs.Questions.{text_question}
 use Rattle.tree.proofs.Bools.{fails, passes}
 use Rattle.model.proofs.Theorems.Sound.{sound-kept}
 use Rattle.questions.proofs.Facts.{text-readable}
-use borrow.Author.Rules.{rules}
 use Rattle.questions.proofs.question.text_part.Goals as goal
 
 pub returns-then-not-is_sound : goal.returns-then-not-is_sound

@@ -1,9 +1,5 @@
-use mathlib.Core.Path.{◌≡◌, refl, sym, ◌∙◌}
-use Prim.Native.Nat.{◌≤◌}
+use mathlib.Core.Path.{refl, sym, ◌∙◌}
 use native.Mathlib.Omega.{arith}
-use Rattle.model.specs.Questions.{is_entry, all_below}
-use Rattle.model.specs.Tables.{entry_at}
-use Rattle.tree.specs.Lent.{entries_of}
 use Rattle.tree.proofs.Bools.{fails, passes, below_step, below_none}
 use Rattle.questions.proofs.sound.are_entries.Goals as goal
 
@@ -25,8 +21,7 @@ pub loop-n-smaller : goal.loop-n-smaller
 loop-n-smaller c = omega arith
 
 pub loop-n-preserved : goal.loop-n-preserved
-loop-n-preserved c =
-    (
+loop-n-preserved c = (
   omega arith,
   sym (below_step _ _ (omega arith) ∙ rw (passes c.is_entry.ensures c.if-not-is_entry.false-raw))
       ∙ c.loop-n.invariant.1,

@@ -1,10 +1,8 @@
-use mathlib.Core.Path.{◌≡◌, refl, sym, ◌∙◌}
+use mathlib.Core.Path.{◌≡◌}
 use Prim.Native.Nat.{◌≤◌}
-use native.Mathlib.Omega.{arith}
 use Rattle.model.specs.Questions.{is_entry, all_below}
 use Rattle.model.specs.Tables.{entry_at}
 use Rattle.tree.specs.Lent.{entries_of}
-use Rattle.tree.proofs.Bools.{fails, passes, below_step, below_none}
 use Rattle.questions.proofs.sound.are_entries.Given as goal
 
 abbrev pub invariant-loop-n : goal.invariant-loop-n

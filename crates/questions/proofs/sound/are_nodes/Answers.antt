@@ -1,8 +1,5 @@
-use mathlib.Core.Path.{◌≡◌, refl, sym, ◌∙◌}
-use Prim.Native.Nat.{◌≤◌}
+use mathlib.Core.Path.{refl, sym, ◌∙◌}
 use native.Mathlib.Omega.{arith}
-use Rattle.model.specs.Questions.{is_node, all_below}
-use Rattle.tree.specs.Lent.{nodes_of}
 use Rattle.tree.proofs.Bools.{fails, passes, below_step, below_none}
 use Rattle.questions.proofs.sound.are_nodes.Goals as goal
 
@@ -24,8 +21,7 @@ pub loop-n-smaller : goal.loop-n-smaller
 loop-n-smaller c = omega arith
 
 pub loop-n-preserved : goal.loop-n-preserved
-loop-n-preserved c =
-    (
+loop-n-preserved c = (
   omega arith,
   sym (below_step _ _ (omega arith) ∙ rw (passes c.is_node.ensures c.if-not-is_node.false-raw))
       ∙ c.loop-n.invariant.1,

@@ -1,13 +1,12 @@
-use mathlib.Core.Path.{◌≡◌, refl, sym, ◌∙◌}
+use mathlib.Core.Path.{◌≡◌}
 use Prim.Native.Nat.{◌≤◌}
-use native.Mathlib.Omega.{arith}
 use Rattle.model.specs.Questions.{is_node, all_below}
 use Rattle.tree.specs.Lent.{nodes_of}
-use Rattle.tree.proofs.Bools.{fails, passes, below_step, below_none}
 use Rattle.questions.proofs.sound.are_nodes.Given as goal
 
 abbrev pub invariant-loop-n : goal.invariant-loop-n
-invariant-loop-n l = (l.n ≤ l.counts.nodes) × (all_below (is_node (nodes_of l.nodes l.counts)) l.n ≡ all_below (is_node (nodes_of l.nodes l.counts)) l.counts.nodes)
+invariant-loop-n l = (l.n ≤ l.counts.nodes) × (all_below (is_node (nodes_of l.nodes l.counts)) l.n ≡ all_below (is_node (nodes_of l.nodes
+    l.counts)) l.counts.nodes)
 
 abbrev pub decreases-loop-n : goal.decreases-loop-n
 decreases-loop-n l = l.n

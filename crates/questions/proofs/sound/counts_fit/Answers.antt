@@ -1,5 +1,4 @@
 use borrow.Author.Tests.{lt-leb, le-leb}
-use borrow.Author.Rules.{rules}
 use Rattle.questions.proofs.sound.counts_fit.Goals as goal
 
 pub returns-then-counts-lt1 : goal.returns-then-counts-lt1

@@ -2,7 +2,6 @@ use Rattle.tree.proofs.Bools.{fails, passes}
 use borrow.Author.Tests.{eq-eqb, ne_eqb, le-leb, lt-leb}
 use mathlib.Core.Path.{sym}
 use Rattle.model.specs.Tables.{entry_at}
-use borrow.Author.Rules.{rules}
 use Rattle.questions.proofs.sound.is_entry.Goals as goal
 
 pub returns-then-not-is_attribute : goal.returns-then-not-is_attribute

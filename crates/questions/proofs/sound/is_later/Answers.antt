@@ -1,7 +1,6 @@
 use borrow.Author.Tests.{lt-leb, le-leb, eq-eqb, ne_eqb}
 use native.Mathlib.Omega.{arith}
 use Prim.Native.Nat.{◌+◌}
-use borrow.Author.Rules.{rules}
 use Rattle.questions.proofs.sound.is_later.Goals as goal
 
 pub returns-then-w-eq0 : goal.returns-then-w-eq0

@@ -1,7 +1,6 @@
 use Rattle.tree.proofs.Bools.{fails, passes}
 use borrow.Author.Tests.{eq-eqb, ne_eqb}
 use mathlib.Core.Path.{sym}
-use borrow.Author.Rules.{rules}
 use Rattle.questions.proofs.sound.is_linked.Goals as goal
 
 pub returns-then-not-is_later : goal.returns-then-not-is_later

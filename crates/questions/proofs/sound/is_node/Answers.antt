@@ -1,5 +1,4 @@
 use Rattle.tree.proofs.Bools.{fails, passes}
-use borrow.Author.Rules.{rules}
 use Rattle.questions.proofs.sound.is_node.Goals as goal
 
 pub returns-then-not-is_placed : goal.returns-then-not-is_placed

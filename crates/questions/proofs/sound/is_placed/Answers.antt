@@ -1,6 +1,5 @@
 use borrow.Author.Tests.{eq-eqb, ne_eqb}
 use mathlib.Core.Path.{sym}
-use borrow.Author.Rules.{rules}
 use Rattle.questions.proofs.sound.is_placed.Goals as goal
 
 pub returns-then-i-ne0 : goal.returns-then-i-ne0

@@ -1,6 +1,5 @@
 use borrow.Author.Tests.{le-leb, lt-leb}
 use mathlib.Core.Path.{sym}
-use borrow.Author.Rules.{rules}
 use Rattle.questions.proofs.sound.is_range.Goals as goal
 
 pub returns-then-to-from : goal.returns-then-to-from

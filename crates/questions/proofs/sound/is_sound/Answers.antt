@@ -3,7 +3,6 @@ use Rattle.model.specs.Tables.{entry_at}
 use Rattle.model.specs.Questions.{is_sound}
 use Rattle.tree.proofs.Bools.{fails, passes}
 use Rattle.model.proofs.Theorems.Sound.{fitting}
-use borrow.Author.Rules.{rules}
 use Rattle.questions.proofs.sound.is_sound.Goals as goal
 
 pub returns-then-not-counts_fit : goal.returns-then-not-counts_fit

@@ -8,7 +8,6 @@ use Rattle.tree.proofs.Facts.{readable, readable-in}
 use Rattle.leads.proofs.Linking.{link-told}
 use Rattle.cuts.proofs.Turning.{id-stands}
 use Rattle.repair.proofs.Imaging.{href-nowhere, href-on, image-nowhere, image-back, image-not}
-use borrow.Author.Rules.{rules}
 use Rattle.repair.proofs.image.image_of.Goals as goal
 
 pub link_of-requires : goal.link_of-requires
@@ -63,7 +62,7 @@ has_filter-f-requires c =
     c.link_of.ensures.same c.link_of.ensures.fit in record {
       drawn = record { checked = pre.drawn.checked; marked = pre.drawn.marked; fit = told.1.1 };
       readable_in = readable-in _ _ pre.tidy.kept _
-            (omega (arith, c.find_id-w.ensures.within, c.if-w-eq0.false));
+          (omega (arith, c.find_id-w.ensures.within, c.if-w-eq0.false));
       stands = id-stands _ _ pre.tidy _ _ (c.attribute_id-id.ensures.found ∙ id_same _ _ AId.Id);
     }
 

@@ -1,10 +1,7 @@
 use native.Mathlib.Omega.{arith}
 use mathlib.Core.Path.{ap, ◌∙◌}
-use Prim.Native.Nat.{◌-◌}
 use Rattle.model.specs.Repair.{applied}
-use Rattle.leads.specs.Links.{values_of}
-use Rattle.repair.specs.Passes.{image_cuts}
-use Rattle.repair.proofs.Passing.{images-each, images-all, Pass, pass-start, pass-turn, pass-done}
+use Rattle.repair.proofs.Passing.{images-each, images-all, pass-start, pass-turn, pass-done}
 use Rattle.repair.proofs.images.cut_images.Goals as goal
 
 pub loop-i-init : goal.loop-i-init
@@ -36,6 +33,6 @@ pub returns : goal.returns
 returns c =
     record {
       tables = pass-done _ _ _ _ _ _ _ (images-each _ _) _ _ _ _ c.loop-i.invariant c.loop-i-test.false
-      ∙ ap (applied _) (images-all _ _ _);
+          ∙ ap (applied _) (images-all _ _ _);
       fit = c.loop-i.invariant.mendable.drawn.fit;
     }

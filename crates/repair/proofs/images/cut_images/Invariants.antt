@@ -1,14 +1,12 @@
-use native.Mathlib.Omega.{arith}
-use mathlib.Core.Path.{ap, ◌∙◌}
 use Prim.Native.Nat.{◌-◌}
-use Rattle.model.specs.Repair.{applied}
 use Rattle.leads.specs.Links.{values_of}
 use Rattle.repair.specs.Passes.{image_cuts}
-use Rattle.repair.proofs.Passing.{images-each, images-all, Pass, pass-start, pass-turn, pass-done}
+use Rattle.repair.proofs.Passing.{Pass}
 use Rattle.repair.proofs.images.cut_images.Given as goal
 
 abbrev pub invariant-loop-i : goal.invariant-loop-i
-invariant-loop-i l = Pass l.script l.characters l.marks l.heads l.nodes l.counts (image_cuts l.characters (values_of l.script l.characters)) l.initial.attributes l.attributes l.i l.c
+invariant-loop-i l = Pass l.script l.characters l.marks l.heads l.nodes l.counts (image_cuts l.characters (values_of l.script
+    l.characters)) l.initial.attributes l.attributes l.i l.c
 
 abbrev pub decreases-loop-i : goal.decreases-loop-i
 decreases-loop-i l = l.counts.nodes - l.i

@@ -1,10 +1,7 @@
 use native.Mathlib.Omega.{arith}
-use borrow.Author.Rules.{rules}
 use mathlib.Core.Path.{sym, ◌∙◌}
 use mathlib.Core.Bool.{true≢false}
-use Prim.Native.Nat.{◌-◌}
-use Rattle.tree.specs.Lent.{nodes_read}
-use Rattle.repair.proofs.Mending.{Unlinked, unlinked-more}
+use Rattle.repair.proofs.Mending.{unlinked-more}
 use Rattle.repair.proofs.linked.any_linked.Goals as goal
 
 pub loop-i-init : goal.loop-i-init

@@ -1,10 +1,6 @@
-use native.Mathlib.Omega.{arith}
-use borrow.Author.Rules.{rules}
-use mathlib.Core.Path.{sym, ◌∙◌}
-use mathlib.Core.Bool.{true≢false}
 use Prim.Native.Nat.{◌-◌}
 use Rattle.tree.specs.Lent.{nodes_read}
-use Rattle.repair.proofs.Mending.{Unlinked, unlinked-more}
+use Rattle.repair.proofs.Mending.{Unlinked}
 use Rattle.repair.proofs.linked.any_linked.Given as goal
 
 abbrev pub invariant-loop-i : goal.invariant-loop-i

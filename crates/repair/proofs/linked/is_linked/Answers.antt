@@ -1,5 +1,4 @@
 use Rattle.repair.proofs.Mending.{or-here, or-behind}
-use borrow.Author.Rules.{rules}
 use Rattle.repair.proofs.linked.is_linked.Goals as goal
 
 pub returns-then-is_named : goal.returns-then-is_named

@@ -3,7 +3,6 @@ use mathlib.Core.Path.{◌∙◌}
 use Rattle.tree.proofs.Bools.{fails, passes}
 use Rattle.tree.proofs.Facts.{readable}
 use Rattle.repair.proofs.Passing.{named_here, unnamed_here, linkless-here}
-use borrow.Author.Rules.{rules}
 use Rattle.repair.proofs.pass.cut_named.Goals as goal
 
 pub returns-then-not-is_named : goal.returns-then-not-is_named

@@ -1,16 +1,8 @@
-use Prim.Native.Nat.{◌-◌}
 use native.Mathlib.Omega.{arith}
-use borrow.Author.Rules.{rules}
-use mathlib.Core.Path.{◌≡◌, refl, ap, ◌∙◌}
-use lib.ListN.{get_or}
+use mathlib.Core.Path.{refl, ap, ◌∙◌}
 use Rattle.model.specs.Repair.{applied}
-use Rattle.script.specs.Step.{at_start}
-use Rattle.leads.specs.Links.{values_of}
-use Rattle.targets.specs.Targets.{seen_of}
-use Rattle.cuts.specs.Seen.{Known}
 use Rattle.cuts.proofs.Pairing.{known-none}
-use Rattle.repair.specs.Passes.{link_cuts, Sought}
-use Rattle.repair.proofs.Passing.{links-each, links-all, Pass, pass-start, pass-turn, pass-done, sought-on}
+use Rattle.repair.proofs.Passing.{links-each, links-all, pass-start, pass-turn, pass-done, sought-on}
 use Rattle.repair.proofs.pass.cut_pass.Goals as goal
 
 pub element_code-code-requires : goal.element_code-code-requires

@@ -1,21 +1,19 @@
 use Prim.Native.Nat.{◌-◌}
-use native.Mathlib.Omega.{arith}
-use borrow.Author.Rules.{rules}
-use mathlib.Core.Path.{◌≡◌, refl, ap, ◌∙◌}
+use mathlib.Core.Path.{◌≡◌}
 use lib.ListN.{get_or}
-use Rattle.model.specs.Repair.{applied}
 use Rattle.script.specs.Step.{at_start}
 use Rattle.leads.specs.Links.{values_of}
 use Rattle.targets.specs.Targets.{seen_of}
 use Rattle.cuts.specs.Seen.{Known}
-use Rattle.cuts.proofs.Pairing.{known-none}
 use Rattle.repair.specs.Passes.{link_cuts, Sought}
-use Rattle.repair.proofs.Passing.{links-each, links-all, Pass, pass-start, pass-turn, pass-done, sought-on}
+use Rattle.repair.proofs.Passing.{Pass}
 use Rattle.repair.proofs.pass.cut_pass.Given as goal
 
 abbrev pub invariant-loop-i : goal.invariant-loop-i
-invariant-loop-i l = Pass l.script l.characters l.marks l.heads l.nodes l.counts (link_cuts l.characters (values_of l.script l.characters) l.pass l.code) l.initial.attributes l.attributes l.i
-    at_start × ((get_or l.heads 2048 0 ≡ 0 → ⊥) → Sought l.characters (values_of l.script l.characters) (seen_of l.nodes l.attributes l.counts) l.pass)
+invariant-loop-i l = Pass l.script l.characters l.marks l.heads l.nodes l.counts (link_cuts l.characters (values_of l.script
+    l.characters) l.pass l.code) l.initial.attributes l.attributes l.i
+    at_start × ((get_or l.heads 2048 0 ≡ 0 → ⊥) → Sought l.characters (values_of l.script l.characters) (seen_of l.nodes l.attributes
+    l.counts) l.pass)
     × Known l.characters (values_of l.script l.characters) l.pass (seen_of l.nodes l.attributes l.counts) l.known l.quiet
 
 abbrev pub decreases-loop-i : goal.decreases-loop-i

@@ -2,7 +2,6 @@ use mathlib.Core.Path.{refl, sym, ap, ◌∙◌}
 use Prim.Native.Nat.{ℕ}
 use borrow.Author.Tests.{eq-eqb, ne_eqb}
 use lib.Dec.{eqb}
-use borrow.Author.Rules.{rules}
 use Rattle.repair.proofs.pass.is_named.Goals as goal
 
 pub returns-then-node_word-ne-ELEMENT : goal.returns-then-node_word-ne-ELEMENT

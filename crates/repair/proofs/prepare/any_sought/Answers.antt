@@ -1,9 +1,7 @@
 use native.Mathlib.Omega.{arith}
 use mathlib.Core.Path.{sym, ◌∙◌}
 use mathlib.Core.Bool.{true≢false}
-use Prim.Native.Nat.{◌-◌, ◌≤◌}
-use Rattle.targets.specs.Targets.{seen_of}
-use Rattle.repair.proofs.Preparing.{Unsought, unsought-more}
+use Rattle.repair.proofs.Preparing.{unsought-more}
 use Rattle.repair.proofs.prepare.any_sought.Goals as goal
 
 pub loop-i-init : goal.loop-i-init
@@ -26,8 +24,7 @@ pub loop-i-smaller : goal.loop-i-smaller
 loop-i-smaller c = omega arith
 
 pub loop-i-preserved : goal.loop-i-preserved
-loop-i-preserved c =
-    (
+loop-i-preserved c = (
   omega arith,
   unsought-more _ _ _ _ c.loop-i.invariant.1 (sym c.is_sought.ensures ∙ c.if-is_sought.false),
 )

@@ -1,9 +1,6 @@
-use native.Mathlib.Omega.{arith}
-use mathlib.Core.Path.{sym, ◌∙◌}
-use mathlib.Core.Bool.{true≢false}
 use Prim.Native.Nat.{◌-◌, ◌≤◌}
 use Rattle.targets.specs.Targets.{seen_of}
-use Rattle.repair.proofs.Preparing.{Unsought, unsought-more}
+use Rattle.repair.proofs.Preparing.{Unsought}
 use Rattle.repair.proofs.prepare.any_sought.Given as goal
 
 abbrev pub invariant-loop-i : goal.invariant-loop-i

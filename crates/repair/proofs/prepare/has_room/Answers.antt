@@ -1,6 +1,5 @@
 use native.Mathlib.Omega.{arith}
 use mathlib.Core.Bool.{false≢true}
-use borrow.Author.Rules.{rules}
 use Rattle.repair.proofs.prepare.has_room.Goals as goal
 
 pub returns-then-counts-ge1073741824 : goal.returns-then-counts-ge1073741824

@@ -1,6 +1,5 @@
 use Rattle.targets.specs.Targets.{seen_of}
 use Rattle.repair.proofs.Preparing.{sought-unnamed, sought-named}
-use borrow.Author.Rules.{rules}
 use Rattle.repair.proofs.prepare.is_sought.Goals as goal
 
 pub returns-then-not-is_named : goal.returns-then-not-is_named

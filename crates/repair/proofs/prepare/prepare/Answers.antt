@@ -1,6 +1,5 @@
 use Rattle.ids.proofs.Likeness.{like-tidy}
 use Rattle.repair.proofs.Preparing.{like-on}
-use borrow.Author.Rules.{rules}
 use Rattle.repair.proofs.prepare.prepare.Goals as goal
 
 pub returns-then-heads-eq0 : goal.returns-then-heads-eq0
@@ -26,7 +25,7 @@ pub returns : goal.returns
 returns c =
     record {
       like = like-on _ _ _ _ c.chain.ensures.like
-      c.resolve_all.ensures.like;
+          c.resolve_all.ensures.like;
       indexed = c.resolve_all.ensures.indexed;
       resolved = λ z. c.resolve_all.ensures.resolved;
     }

@@ -1,7 +1,6 @@
 use native.Mathlib.Omega.{arith}
-use Prim.Native.Nat.{◌-◌}
 use Rattle.ids.proofs.Likeness.{like-tidy}
-use Rattle.repair.proofs.Preparing.{Resolving, resolving-first, resolving-more, resolving-done}
+use Rattle.repair.proofs.Preparing.{resolving-first, resolving-more, resolving-done}
 use Rattle.repair.proofs.prepare.resolve_all.Goals as goal
 
 pub loop-pass-init : goal.loop-pass-init

@@ -1,7 +1,5 @@
-use native.Mathlib.Omega.{arith}
 use Prim.Native.Nat.{◌-◌}
-use Rattle.ids.proofs.Likeness.{like-tidy}
-use Rattle.repair.proofs.Preparing.{Resolving, resolving-first, resolving-more, resolving-done}
+use Rattle.repair.proofs.Preparing.{Resolving}
 use Rattle.repair.proofs.prepare.resolve_all.Given as goal
 
 abbrev pub invariant-loop-pass : goal.invariant-loop-pass

@@ -2,7 +2,6 @@ use native.Mathlib.Omega.{arith}
 use Rattle.ids.proofs.Likeness.{like-itself}
 use Rattle.tree.proofs.Facts.{readable}
 use Rattle.repair.proofs.Preparing.{resolved-none, resolved-more}
-use borrow.Author.Rules.{rules}
 use Rattle.repair.proofs.prepare.resolve_named.Goals as goal
 
 pub any_sought-requires : goal.any_sought-requires
@@ -29,11 +28,11 @@ returns-then-any_sought c =
       like = c.resolve.ensures.like;
       indexed = c.resolve.ensures.indexed;
       resolved = resolved-more _ _ _ _
-            c.args.counts _ r
-            _ _ c.element_code-code.ensures
-            c.cut_name-name.ensures
-            c.requires.le_pass.1 _ c.resolve.ensures.like c.resolve.ensures.targeted
-            c.resolve.ensures.others;
+          c.args.counts _ r
+          _ _ c.element_code-code.ensures
+          c.cut_name-name.ensures
+          c.requires.le_pass.1 _ c.resolve.ensures.like c.resolve.ensures.targeted
+          c.resolve.ensures.others;
     }
 
 pub returns-else-any_sought : goal.returns-else-any_sought
@@ -42,6 +41,6 @@ returns-else-any_sought c =
       like = like-itself _ _;
       indexed = c.requires.indexed_2;
       resolved = resolved-none _ _ _ _ c.args.counts _ r _ _
-            c.element_code-code.ensures c.cut_name-name.ensures
-            (c.any_sought.ensures c.if-any_sought.false);
+          c.element_code-code.ensures c.cut_name-name.ensures
+          (c.any_sought.ensures c.if-any_sought.false);
     }

@@ -1,20 +1,12 @@
 use native.Mathlib.Omega.{arith}
-use mathlib.Core.Path.{◌≡◌, sym, subst}
-use Prim.Native.Nat.{◌-◌, ◌≤◌}
-use lib.ListN.{get_or}
-use Rattle.model.specs.Repair.{up_from}
-use Rattle.script.specs.Step.{at_start}
-use Rattle.leads.specs.Links.{values_of}
-use Rattle.targets.specs.Targets.{seen_of}
+use mathlib.Core.Path.{sym, subst}
 use Rattle.cuts.specs.Seen.{Mendable}
-use Rattle.repair.specs.Passes.{Resolved}
 use Rattle.repair.proofs.Passing.{resolved-on}
-use Rattle.repair.proofs.Mending.{Before, before-first, before-turn, before_last, before-none}
+use Rattle.repair.proofs.Mending.{before-first, before-turn, before_last, before-none}
 use Rattle.repair.proofs.whole.mend.Goals as goal
 
 pub loop-pass-init : goal.loop-pass-init
-loop-pass-init c =
-    (
+loop-pass-init c = (
   omega arith,
   (
     omega arith,

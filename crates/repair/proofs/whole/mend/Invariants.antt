@@ -1,20 +1,19 @@
-use native.Mathlib.Omega.{arith}
-use mathlib.Core.Path.{◌≡◌, sym, subst}
+use mathlib.Core.Path.{◌≡◌}
 use Prim.Native.Nat.{◌-◌, ◌≤◌}
 use lib.ListN.{get_or}
 use Rattle.model.specs.Repair.{up_from}
 use Rattle.script.specs.Step.{at_start}
 use Rattle.leads.specs.Links.{values_of}
 use Rattle.targets.specs.Targets.{seen_of}
-use Rattle.cuts.specs.Seen.{Mendable}
 use Rattle.repair.specs.Passes.{Resolved}
-use Rattle.repair.proofs.Passing.{resolved-on}
-use Rattle.repair.proofs.Mending.{Before, before-first, before-turn, before_last, before-none}
+use Rattle.repair.proofs.Mending.{Before}
 use Rattle.repair.proofs.whole.mend.Given as goal
 
 abbrev pub invariant-loop-pass : goal.invariant-loop-pass
-invariant-loop-pass l = (1 ≤ l.pass) × ((l.pass ≤ 6) × (Before l.script l.characters l.marks l.heads l.nodes l.counts (up_from l.pass (7 - l.pass)) l.initial.attributes l.attributes at_start
-    × ((get_or l.heads 2048 0 ≡ 0 → ⊥) → Resolved l.characters (values_of l.script l.characters) (seen_of l.nodes l.attributes l.counts) 6)))
+invariant-loop-pass l = (1 ≤ l.pass) × ((l.pass ≤ 6) × (Before l.script l.characters l.marks l.heads l.nodes l.counts (up_from l.pass (7
+    - l.pass)) l.initial.attributes l.attributes at_start
+    × ((get_or l.heads 2048 0 ≡ 0 → ⊥) → Resolved l.characters (values_of l.script l.characters) (seen_of l.nodes l.attributes l.counts)
+    6)))
 
 abbrev pub decreases-loop-pass : goal.decreases-loop-pass
 decreases-loop-pass l = 6 - l.pass

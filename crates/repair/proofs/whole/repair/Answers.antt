@@ -8,7 +8,6 @@ use Rattle.targets.proofs.Finding.{small}
 use Rattle.cuts.proofs.Writing.{long-on}
 use Rattle.repair.proofs.Mending.{mended, unlinked, heads-none, indexed-none}
 use Rattle.repair.proofs.Twins.{unchained}
-use borrow.Author.Rules.{rules}
 use Rattle.repair.proofs.whole.repair.Goals as goal
 
 pub returns-then-not-any_linked : goal.returns-then-not-any_linked

@@ -1,11 +1,8 @@
-use native.Mathlib.Omega.{arith}
-use mathlib.Core.Path.{◌≡◌, sym, ◌∙◌}
 use mathlib.Core.List.{[]}
 use Rattle.model.specs.Drawing.{other, closing}
 use Rattle.script.specs.declared.cursor.Step.TheVariants.{End}
 use Rattle.script.proofs.Commands.{told, goes}
 use Rattle.script.proofs.Judging.{turning, stops, ends}
-use borrow.Author.Rules.{rules}
 use Rattle.script.proofs.check.advance.Goals as goal
 
 pub returns-in-Open : goal.returns-in-Open

@@ -1,11 +1,7 @@
 use native.Mathlib.Omega.{arith}
-use borrow.Author.Rules.{rules}
-use mathlib.Core.Path.{◌≡◌, sym, ◌∙◌, subst}
-use Prim.Native.Nat.{◌-◌}
-use lib.ListN.{length}
-use Rattle.script.specs.declared.check.Turn.TheVariants.{On, Stop}
+use mathlib.Core.Path.{◌∙◌, subst}
 use Rattle.script.specs.Known.{Turned}
-use Rattle.script.proofs.Judging.{Checking, checking, checking-on, too_long, too_many}
+use Rattle.script.proofs.Judging.{checking, checking-on, too_long, too_many}
 use Rattle.script.proofs.check.check.Goals as goal
 
 pub returns-then-script-gt1048576 : goal.returns-then-script-gt1048576

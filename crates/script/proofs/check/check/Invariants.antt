@@ -1,11 +1,6 @@
-use native.Mathlib.Omega.{arith}
-use borrow.Author.Rules.{rules}
-use mathlib.Core.Path.{◌≡◌, sym, ◌∙◌, subst}
 use Prim.Native.Nat.{◌-◌}
 use lib.ListN.{length}
-use Rattle.script.specs.declared.check.Turn.TheVariants.{On, Stop}
-use Rattle.script.specs.Known.{Turned}
-use Rattle.script.proofs.Judging.{Checking, checking, checking-on, too_long, too_many}
+use Rattle.script.proofs.Judging.{Checking}
 use Rattle.script.proofs.check.check.Given as goal
 
 abbrev pub invariant-loop-next : goal.invariant-loop-next

@@ -1,7 +1,6 @@
-use mathlib.Core.Path.{◌≡◌, sym, ◌∙◌}
+use mathlib.Core.Path.{sym, ◌∙◌}
 use borrow.Author.Tests.{lt-leb, le-leb, lt-ltb, le-ltb}
 use Rattle.script.proofs.Mask.{half_at, half-nothing}
-use borrow.Author.Rules.{rules}
 use Rattle.script.proofs.check.is_half_font.Goals as goal
 
 pub returns-then-kinds-lt32 : goal.returns-then-kinds-lt32

@@ -1,6 +1,4 @@
 use borrow.Author.Tests.{eq-eqb, ne_eqb}
-use mathlib.Core.Path.{◌∙◌}
-use borrow.Author.Rules.{rules}
 use Rattle.script.proofs.check.is_repeated.Goals as goal
 
 pub returns-then-kind-eq4 : goal.returns-then-kind-eq4

@@ -1,12 +1,10 @@
-use mathlib.Core.Path.{◌≡◌, sym, ◌∙◌}
+use mathlib.Core.Path.{sym, ◌∙◌}
 use native.Mathlib.Omega.{arith}
-use borrow.Author.Tests.{lt-ltb, le-ltb, le-leb, lt-leb, eq-eqb, ne_eqb}
-use Rattle.model.specs.Check.{tests_of, tests_at_end, first_of}
-use Rattle.script.proofs.Parts.{hit, over, passed}
+use Rattle.model.specs.Check.{tests_of}
+use Rattle.script.proofs.Parts.{hit, over}
 use mathlib.Core.Bool.{not}
 use mathlib.Core.Path.{ap}
 use Rattle.script.proofs.Judging.{attribute-passes, string-inside}
-use borrow.Author.Rules.{rules}
 use Rattle.script.proofs.check.judge_attribute.Goals as goal
 
 pub returns-then-is_half_font : goal.returns-then-is_half_font

@@ -1,10 +1,9 @@
-use mathlib.Core.Path.{◌≡◌, sym, ◌∙◌}
+use mathlib.Core.Path.{sym, ◌∙◌}
 use native.Mathlib.Omega.{arith}
-use borrow.Author.Tests.{lt-ltb, le-ltb, le-leb, lt-leb, eq-eqb, ne_eqb}
-use Rattle.model.specs.Check.{tests_of, tests_at_end, first_of}
-use Rattle.script.proofs.Parts.{hit, over, passed}
+use borrow.Author.Tests.{eq-eqb, ne_eqb}
+use Rattle.model.specs.Check.{tests_of}
+use Rattle.script.proofs.Parts.{hit, over}
 use mathlib.Core.Path.{refl}
-use borrow.Author.Rules.{rules}
 use Rattle.script.proofs.check.judge_broken.Goals as goal
 
 pub returns-then-b-eq4 : goal.returns-then-b-eq4

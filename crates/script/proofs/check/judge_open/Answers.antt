@@ -1,10 +1,9 @@
-use mathlib.Core.Path.{◌≡◌, sym, ◌∙◌}
+use mathlib.Core.Path.{sym, ◌∙◌}
 use native.Mathlib.Omega.{arith}
-use borrow.Author.Tests.{lt-ltb, le-ltb, le-leb, lt-leb, eq-eqb, ne_eqb}
-use Rattle.model.specs.Check.{tests_of, tests_at_end, first_of}
+use borrow.Author.Tests.{le-leb, lt-leb}
+use Rattle.model.specs.Check.{tests_of}
 use Rattle.script.proofs.Parts.{hit, over, passed}
 use Rattle.script.proofs.Judging.{open-passes}
-use borrow.Author.Rules.{rules}
 use Rattle.script.proofs.check.judge_open.Goals as goal
 
 pub returns-then-is_half_font : goal.returns-then-is_half_font

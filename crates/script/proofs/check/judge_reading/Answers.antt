@@ -1,9 +1,7 @@
-use mathlib.Core.Path.{◌≡◌, sym, ◌∙◌}
+use mathlib.Core.Path.{sym, ◌∙◌}
 use native.Mathlib.Omega.{arith}
-use borrow.Author.Tests.{lt-ltb, le-ltb, le-leb, lt-leb, eq-eqb, ne_eqb}
-use Rattle.model.specs.Check.{tests_of, tests_at_end, first_of}
-use Rattle.script.proofs.Parts.{hit, over, passed}
-use mathlib.Core.Path.{subst, ap}
+use borrow.Author.Tests.{lt-leb}
+use mathlib.Core.Path.{subst}
 use Rattle.script.specs.Known.{Inside, Held}
 use Rattle.script.proofs.Parts.{and_none}
 use Rattle.script.proofs.Judging.{reading-kind, reading-nowhere, reading-test, reading-passes}
@@ -21,8 +19,7 @@ returns-then-kind-gt10 c =
     )
 
 pub test_part-t-requires : goal.test_part-t-requires
-test_part-t-requires c =
-    (
+test_part-t-requires c = (
   search rules,
   subst (λ v. Inside c.args.characters.now v)
       c.in-Value.is c.requires,

@@ -1,6 +1,5 @@
 use mathlib.Core.Path.{sym, ap}
 use Rattle.script.specs.Known.{onward_of}
-use borrow.Author.Rules.{rules}
 use Rattle.script.proofs.check.onward.Goals as goal
 
 pub returns-in-Passed : goal.returns-in-Passed

@@ -1,9 +1,8 @@
 use native.Mathlib.Omega.{arith}
-use mathlib.Core.Path.{◌≡◌, sym, ◌∙◌}
+use mathlib.Core.Path.{sym, ◌∙◌}
 use borrow.Author.Tests.{lt-ltb, le-ltb}
 use Prim.Native.Nat.{◌+◌}
 use Rattle.script.proofs.Parts.{utf8-part, hit, over, passed}
-use borrow.Author.Rules.{rules}
 use Rattle.script.proofs.check.test_part.Goals as goal
 
 pub returns-then-size-end : goal.returns-then-size-end

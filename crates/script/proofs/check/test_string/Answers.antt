@@ -1,7 +1,6 @@
 use native.Mathlib.Omega.{arith}
 use borrow.Author.Tests.{lt-ltb, le-ltb}
 use Rattle.script.proofs.Parts.{utf8-part, hit, over, passed}
-use borrow.Author.Rules.{rules}
 use Rattle.script.proofs.check.test_string.Goals as goal
 
 pub returns-then-characters-end : goal.returns-then-characters-end

@@ -1,5 +1,4 @@
 use Rattle.script.proofs.Mask.{one_more}
-use borrow.Author.Rules.{rules}
 use Rattle.script.proofs.check.with.Goals as goal
 
 pub returns : goal.returns

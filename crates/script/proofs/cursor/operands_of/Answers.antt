@@ -24,5 +24,6 @@ returns-in-5 c = simp c.in-5.is
 
 pub returns-in_default : goal.returns-in_default
 returns-in_default c =
-    no-operands _ c.in_default.in_default-own.rest.0.0.0.0.1 c.in_default.in_default-own.rest.0.0.0.1 c.in_default.in_default-own.rest.0.0.1 c.in_default.in_default-own.rest.0.1
+    no-operands _ c.in_default.in_default-own.rest.0.0.0.0.1 c.in_default.in_default-own.rest.0.0.0.1
+    c.in_default.in_default-own.rest.0.0.1 c.in_default.in_default-own.rest.0.1
     c.in_default.in_default-own.rest.1

@@ -1,7 +1,5 @@
 use native.Mathlib.Omega.{arith}
-use Prim.Native.Nat.{◌+◌}
 use Rattle.model.specs.Drawing.{word_at}
-use borrow.Author.Rules.{rules}
 use Rattle.script.proofs.cursor.word.Goals as goal
 
 pub returns : goal.returns

@@ -3,7 +3,6 @@ use Rattle.tree.proofs.Facts.{readable-in}
 use Rattle.leads.proofs.Linking.{link-told}
 use Rattle.targets.proofs.Finding.{mark-there, mark-nowhere}
 use native.Mathlib.Omega.{arith}
-use borrow.Author.Rules.{rules}
 use Rattle.targets.proofs.mark.find_mark.Goals as goal
 
 pub link_of-requires : goal.link_of-requires

@@ -1,7 +1,6 @@
 use native.Mathlib.Omega.{arith}
 use Rattle.tree.proofs.Facts.{readable-in}
 use Rattle.targets.proofs.Finding.{found_some, found-empty, found_none}
-use borrow.Author.Rules.{rules}
 use Rattle.targets.proofs.mark.mark_for.Goals as goal
 
 pub find_id-w-requires : goal.find_id-w-requires
@@ -22,7 +21,7 @@ pub returns-then-id-eq0 : goal.returns-then-id-eq0
 returns-then-id-eq0 c =
     record {
       same = found-empty _ _ _ c.args.counts _ _
-      c.find_id-w.ensures.found c.if-w-gt0.false c.if-id-eq0.true;
+          c.find_id-w.ensures.found c.if-w-gt0.false c.if-id-eq0.true;
       within = omega arith;
     }
 
@@ -30,6 +29,6 @@ pub returns : goal.returns
 returns c =
     record {
       same = found_none _ _ _ c.args.counts _ _
-      c.find_id-w.ensures.found c.if-w-gt0.false c.if-id-eq0.false;
+          c.find_id-w.ensures.found c.if-w-gt0.false c.if-id-eq0.false;
       within = omega arith;
     }

@@ -1,12 +1,16 @@
 use Rattle.tree.proofs.Facts.{readable}
 use Rattle.targets.proofs.Finding.{start-fit, stored-mark}
-use borrow.Author.Rules.{rules}
 use Rattle.targets.proofs.mark.mark_of.Goals as goal
 
 pub find_mark-found-requires : goal.find_mark-found-requires
 find_mark-found-requires c =
     record {
-      drawn = record { checked = c.requires.characters_value; marked = c.requires.marked; fit = start-fit _ _ c.requires.characters_value _ c.start.ensures };
+      drawn = record {
+        checked = c.requires.characters_value;
+        marked = c.requires.marked;
+        fit = start-fit _ _ c.requires.characters_value
+            _ c.start.ensures;
+      };
       kept = c.requires.kept;
       indexed = c.requires.indexed;
       le_pass = c.requires.le_pass;

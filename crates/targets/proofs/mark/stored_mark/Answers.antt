@@ -1,6 +1,5 @@
 use native.Mathlib.Omega.{arith}
 use Rattle.targets.proofs.Finding.{held-inside, stored-absent, stored-fixed, stored_there}
-use borrow.Author.Rules.{rules}
 use Rattle.targets.proofs.mark.stored_mark.Goals as goal
 
 pub returns-then-j-eq0 : goal.returns-then-j-eq0

@@ -1,6 +1,5 @@
 use Prim.Native.Nat.{◌+◌}
 use Rattle.targets.proofs.Recalling.{slot-set}
-use borrow.Author.Rules.{rules}
 use Rattle.targets.proofs.recent.keep_recent.Goals as goal
 
 pub returns : goal.returns

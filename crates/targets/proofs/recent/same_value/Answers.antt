@@ -1,5 +1,4 @@
 use Rattle.targets.proofs.Recalling.{values_same, not_same}
-use borrow.Author.Rules.{rules}
 use Rattle.targets.proofs.recent.same_value.Goals as goal
 
 pub returns-then-entry_word : goal.returns-then-entry_word

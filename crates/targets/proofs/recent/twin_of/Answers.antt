@@ -1,8 +1,7 @@
-use mathlib.Core.Path.{refl, sym, ◌∙◌}
+use mathlib.Core.Path.{refl}
 use native.Mathlib.Omega.{arith}
 use Rattle.targets.proofs.Finding.{held-inside}
 use Rattle.targets.proofs.Recalling.{twin-found}
-use borrow.Author.Rules.{rules}
 use Rattle.targets.proofs.recent.twin_of.Goals as goal
 
 pub returns-then-number-eq0 : goal.returns-then-number-eq0
@@ -26,8 +25,8 @@ pub same_value-requires : goal.same_value-requires
 same_value-requires c =
     record {
       j_in_bounds = held-inside _ _ _ (c.requires.by_index _
-      (omega (arith, c.if-q-eq0.false, c.if-m-q.false))) c.attribute_id-l.ensures.held
-      c.if-l-eq0.false;
+          (omega (arith, c.if-q-eq0.false, c.if-m-q.false))) c.attribute_id-l.ensures.held
+          c.if-l-eq0.false;
       l_in_bounds = c.requires.j_in_bounds;
     }
 

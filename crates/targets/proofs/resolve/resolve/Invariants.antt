@@ -1,7 +1,5 @@
-use borrow.Author.Rules.{rules}
 use Prim.Native.Nat.{◌-◌}
-use Rattle.targets.proofs.Finding.{start-fit}
-use Rattle.targets.proofs.Resolving.{Resolving, resolving-first, resolving-tidy, resolving-next, resolving-done}
+use Rattle.targets.proofs.Resolving.{Resolving}
 use Rattle.targets.proofs.resolve.resolve.Given as goal
 
 abbrev pub invariant-loop-m : goal.invariant-loop-m

@@ -86,8 +86,8 @@ pub returns : goal.returns
 returns c =
     record {
       stored = turn-some _ _ _ _ _ _ _ c.cut_name-name.ensures
-      c.attribute_id-j.ensures.found
-      c.if-j-eq0.false _ c.find_mark-found.ensures.same _
-      c.set_next-2.ensures;
+          c.attribute_id-j.ensures.found
+          c.if-j-eq0.false _ c.find_mark-found.ensures.same _
+          c.set_next-2.ensures;
       fit = c.find_mark-found.ensures.fit.0;
     }

@@ -3,7 +3,6 @@ use Rattle.model.specs.Tables.{text_room}
 use Rattle.text.specs.Spaces.{space_in}
 use Rattle.text.specs.Append.{source_of}
 use Rattle.text.proofs.Appending.{no_bytes, place-fits, no_record, record-fits, text-added}
-use borrow.Author.Rules.{rules}
 use Rattle.text.proofs.append.append_text.Goals as goal
 
 pub overflow_sub-text_room : goal.overflow_sub-text_room
@@ -40,18 +39,18 @@ pub put_text-end-requires : goal.put_text-end-requires
 put_text-end-requires c =
     record {
       size_bound = place-fits
-      c.args.nodes.now
-      c.args.text.now
-      c.args.characters.now
-      c.args.counts
-      (space_in
-      c.args.space)
-      c.args.p
-      (source_of
-      c.args.source)
-      c.requires.appendable _
-      c.text_room.ensures
-      c.if-text_room-counts.false;
+          c.args.nodes.now
+          c.args.text.now
+          c.args.characters.now
+          c.args.counts
+          (space_in
+          c.args.space)
+          c.args.p
+          (source_of
+          c.args.source)
+          c.requires.appendable _
+          c.text_room.ensures
+          c.if-text_room-counts.false;
       size_in_bounds = c.requires.size_in_bounds;
     }
 

@@ -3,7 +3,6 @@ use Rattle.model.specs.Tables.{entry_at}
 use Rattle.model.specs.Text.{get_xmlspace}
 use Rattle.tree.proofs.Entries.{some-there, none-there}
 use Rattle.tree.proofs.Alike.{held-value}
-use borrow.Author.Rules.{rules}
 use Rattle.text.proofs.space.get_xmlspace.Goals as goal
 
 pub returns-then-j-eq0 : goal.returns-then-j-eq0

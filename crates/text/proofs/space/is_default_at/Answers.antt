@@ -1,6 +1,5 @@
 use mathlib.Core.Path.{refl, ap, ◌∙◌}
 use Rattle.model.specs.Text.{is_default}
-use borrow.Author.Rules.{rules}
 use Rattle.text.proofs.space.is_default_at.Goals as goal
 
 pub get_xmlspace-requires : goal.get_xmlspace-requires

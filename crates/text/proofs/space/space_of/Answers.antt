@@ -2,7 +2,6 @@ use mathlib.Core.Path.{refl, sym}
 use native.Mathlib.Omega.{arith}
 use Rattle.model.specs.Text.{space_of}
 use Rattle.tree.proofs.Entries.{some-there, none-there}
-use borrow.Author.Rules.{rules}
 use Rattle.text.proofs.space.space_of.Goals as goal
 
 pub returns-then-w-eq0 : goal.returns-then-w-eq0

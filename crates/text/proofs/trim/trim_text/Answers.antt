@@ -1,11 +1,7 @@
-use mathlib.Core.Logic.{⊎_elim}
-use Prim.Native.Nat.{◌-◌}
 use native.Mathlib.Omega.{arith}
-use borrow.Author.Rules.{rules}
 use borrow.Author.Tests.{not-true, not-false}
 use mathlib.Core.Path.{sym, ◌∙◌}
-use lib.ListN.{length}
-use Rattle.text.proofs.Collapse.{Trims, trims-none, trims-dropped, trims-kept, trims-all}
+use Rattle.text.proofs.Collapse.{trims-none, trims-dropped, trims-kept, trims-all}
 use Rattle.text.proofs.trim.trim_text.Goals as goal
 use Rattle.text.proofs.trim.trim_text.Goals.{then-not-is_dropped, else-not-is_dropped}
 
@@ -30,13 +26,14 @@ loop-i-smaller c = omega arith
 
 pub loop-i-preserved : goal.loop-i-preserved
 loop-i-preserved c =
-    elim c.if-not-is_dropped.branch
-    [ then-not-is_dropped w ↦ rw (w.n-is, w.place-is) (trims-kept _ _ _ _ _ _ _ _ _ c.loop-i.invariant
-    c.loop-i-test.true _ c.converted-c.ensures
-    (sym c.is_dropped.ensures ∙ not-true _ w.if-not-is_dropped.true-raw))
-    | else-not-is_dropped w ↦ rw (w.n-is, w.place-is) (trims-dropped _ _ _ _ _ _ _ _ _ c.loop-i.invariant
-    c.loop-i-test.true _ c.converted-c.ensures
-    (sym c.is_dropped.ensures ∙ not-false _ w.if-not-is_dropped.false-raw)) ]
+    elim c.if-not-is_dropped.branch [
+      | then-not-is_dropped w ↦ rw (w.n-is, w.place-is) (trims-kept _ _ _ _ _ _ _ _ _ c.loop-i.invariant
+          c.loop-i-test.true _ c.converted-c.ensures
+          (sym c.is_dropped.ensures ∙ not-true _ w.if-not-is_dropped.true-raw))
+      | else-not-is_dropped w ↦ rw (w.n-is, w.place-is) (trims-dropped _ _ _ _ _ _ _ _ _ c.loop-i.invariant
+          c.loop-i-test.true _ c.converted-c.ensures
+          (sym c.is_dropped.ensures ∙ not-false _ w.if-not-is_dropped.false-raw))
+    ]
 
 pub shape_of-place : goal.shape_of-place
 shape_of-place c = c.loop-i.invariant.size

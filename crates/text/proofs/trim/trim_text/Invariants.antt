@@ -1,11 +1,6 @@
-use mathlib.Core.Logic.{⊎_elim}
 use Prim.Native.Nat.{◌-◌}
-use native.Mathlib.Omega.{arith}
-use borrow.Author.Rules.{rules}
-use borrow.Author.Tests.{not-true, not-false}
-use mathlib.Core.Path.{sym, ◌∙◌}
 use lib.ListN.{length}
-use Rattle.text.proofs.Collapse.{Trims, trims-none, trims-dropped, trims-kept, trims-all}
+use Rattle.text.proofs.Collapse.{Trims}
 use Rattle.text.proofs.trim.trim_text.Given as goal
 
 abbrev pub invariant-loop-i : goal.invariant-loop-i

@@ -4,7 +4,6 @@ use native.Mathlib.Omega.{arith}
 use borrow.Author.Tests.{eq-eqb, ne_eqb}
 use Rattle.model.specs.Tables.{attribute_id}
 use Rattle.tree.proofs.Alike.{find-same}
-use borrow.Author.Rules.{rules}
 use Rattle.tree.proofs.read.attribute_id.Goals as goal
 
 pub returns-then-node_word-ne-ELEMENT : goal.returns-then-node_word-ne-ELEMENT
@@ -28,14 +27,14 @@ unfolding attribute_id
 returns c =
     record {
       found = rw (
-    sym c.node_word.ensures,
-    sym c.node_word-from.ensures,
-    sym c.node_word-to.ensures,
-    eq-eqb _ _ c.if-node_word-ne-ELEMENT.false,
-  )
-      (c.find_entry.ensures.found ∙ find-same _ _ _ _);
+        sym c.node_word.ensures,
+        sym c.node_word-from.ensures,
+        sym c.node_word-to.ensures,
+        eq-eqb _ _ c.if-node_word-ne-ELEMENT.false,
+      )
+          (c.find_entry.ensures.found ∙ find-same _ _ _ _);
       held = record {
-    element = λ h. sym c.node_word.ensures ∙ c.if-node_word-ne-ELEMENT.false;
-    last = omega (arith, c.find_entry.ensures.within);
-  };
+        element = λ h. sym c.node_word.ensures ∙ c.if-node_word-ne-ELEMENT.false;
+        last = omega (arith, c.find_entry.ensures.within);
+      };
     }

@@ -5,7 +5,6 @@ use Rattle.model.specs.Tables.{entry_at, attribute_of}
 use Rattle.tree.proofs.Bools.{fails, passes}
 use Rattle.tree.proofs.Entries.{some-there, none-there}
 use Rattle.tree.proofs.Alike.{held-value}
-use borrow.Author.Rules.{rules}
 use Rattle.tree.proofs.read.attribute_of.Goals as goal
 
 pub returns-then-j-eq0 : goal.returns-then-j-eq0

@@ -1,5 +1,4 @@
 use Rattle.model.specs.Tables.{entry_at}
-use borrow.Author.Rules.{rules}
 use Rattle.tree.proofs.read.entry_at.Goals as goal
 
 pub returns : goal.returns

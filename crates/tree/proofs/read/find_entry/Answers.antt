@@ -1,9 +1,6 @@
-use mathlib.Core.Path.{◌≡◌, refl, sym, ◌∙◌}
-use Prim.Native.Nat.{◌-◌}
+use mathlib.Core.Path.{refl, sym, ◌∙◌}
 use native.Mathlib.Omega.{arith}
 use borrow.Author.Tests.{eq-eqb, ne_eqb}
-use Rattle.model.specs.Tables.{find_entry}
-use Rattle.tree.specs.Lent.{entries_of}
 use Rattle.tree.proofs.Entries.{find-step, find-end}
 use Rattle.tree.proofs.read.find_entry.Goals as goal
 
@@ -20,7 +17,7 @@ pub returns-then-entry_word-a : goal.returns-then-entry_word-a
 returns-then-entry_word-a c =
     record {
       found = sym (find-step _ _ _ _ c.loop-j-test.true
-      ∙ rw (sym c.entry_word.ensures, eq-eqb _ _ c.if-entry_word-a.true)) ∙ c.loop-j.invariant;
+          ∙ rw (sym c.entry_word.ensures, eq-eqb _ _ c.if-entry_word-a.true)) ∙ c.loop-j.invariant;
       within = omega arith;
     }
 

@@ -1,14 +1,12 @@
-use mathlib.Core.Path.{◌≡◌, refl, sym, ◌∙◌}
+use mathlib.Core.Path.{◌≡◌}
 use Prim.Native.Nat.{◌-◌}
-use native.Mathlib.Omega.{arith}
-use borrow.Author.Tests.{eq-eqb, ne_eqb}
 use Rattle.model.specs.Tables.{find_entry}
 use Rattle.tree.specs.Lent.{entries_of}
-use Rattle.tree.proofs.Entries.{find-step, find-end}
 use Rattle.tree.proofs.read.find_entry.Given as goal
 
 abbrev pub invariant-loop-j : goal.invariant-loop-j
-invariant-loop-j l = find_entry (entries_of l.attributes) l.a l.j (l.to - l.j) ≡ find_entry (entries_of l.attributes) l.a l.from (l.to - l.from)
+invariant-loop-j l = find_entry (entries_of l.attributes) l.a l.j (l.to - l.j) ≡ find_entry (entries_of l.attributes) l.a l.from (l.to -
+    l.from)
 
 abbrev pub decreases-loop-j : goal.decreases-loop-j
 decreases-loop-j l = l.to - l.j

@@ -5,7 +5,6 @@ use Rattle.model.specs.Tables.{entry_at, value_at_entry, has_id_bytes}
 use Rattle.tree.specs.Lent.{read_of}
 use Rattle.tree.proofs.Entries.{some-there, none-there}
 use Rattle.tree.proofs.Alike.{held-value}
-use borrow.Author.Rules.{rules}
 use Rattle.tree.proofs.read.has_id.Goals as goal
 
 pub returns-then-j-eq0 : goal.returns-then-j-eq0

@@ -6,7 +6,6 @@ use Prim.Native.Nat.{ℕ}
 use Rattle.model.specs.Base.{same_bytes}
 use Rattle.model.specs.Tables.{entry_at, value_of}
 use Rattle.tree.proofs.Entries.{part_of}
-use borrow.Author.Rules.{rules}
 use Rattle.tree.proofs.read.has_value.Goals as goal
 
 pub returns-then-entry_word-eq0 : goal.returns-then-entry_word-eq0

@@ -1,7 +1,7 @@
-use mathlib.Core.Path.{◌≡◌, sym, ◌∙◌, ap}
-use Prim.Native.Nat.{ℕ, ◌≤◌, ◌-◌, ◌+◌}
+use mathlib.Core.Path.{sym, ◌∙◌, ap}
+use Prim.Native.Nat.{ℕ, ◌-◌}
 use native.Mathlib.Omega.{arith}
-use Rattle.model.specs.Tables.{parent_of, has_attribute, holder_of}
+use Rattle.model.specs.Tables.{parent_of, has_attribute}
 use Rattle.tree.specs.Lent.{read_of}
 use Rattle.tree.proofs.Entries.{has, has-not}
 use Rattle.tree.proofs.Climbs.{climb, holder-climbs, climb-step, climb-end}
@@ -23,8 +23,8 @@ pub returns-then-attribute_id-ne0 : goal.returns-then-attribute_id-ne0
 returns-then-attribute_id-ne0 c =
     record {
       found = sym (climb-step _ _ _ c.loop-w-test.true
-      (λ k l. (c.requires.placed k (omega arith)).falls)
-      ∙ rw (has c.attribute_id.ensures.found c.if-attribute_id-ne0.true)) ∙ c.loop-w.invariant.1;
+          (λ k l. (c.requires.placed k (omega arith)).falls)
+          ∙ rw (has c.attribute_id.ensures.found c.if-attribute_id-ne0.true)) ∙ c.loop-w.invariant.1;
       within = omega arith;
     }
 

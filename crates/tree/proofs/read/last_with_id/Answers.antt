@@ -1,8 +1,6 @@
 use mathlib.Core.Path.{◌≡◌, refl, sym, ◌∙◌}
-use Prim.Native.Nat.{◌≤◌, ◌-◌, ◌+◌}
+use Prim.Native.Nat.{◌-◌, ◌+◌}
 use native.Mathlib.Omega.{arith}
-use Rattle.model.specs.Tables.{last_with_id}
-use Rattle.tree.specs.Lent.{read_of}
 use Rattle.tree.proofs.Alike.{last_step, last_end}
 use Rattle.tree.proofs.read.last_with_id.Goals as goal
 
@@ -19,8 +17,8 @@ pub returns-then-has_id : goal.returns-then-has_id
 returns-then-has_id c =
     record {
       found = let e : c.loop-n.n ≡ c.loop-n.n - 1 + 1 = omega arith in e
-      ∙ sym (last_step _ _ _ _ c.loop-n-test.true ∙ rw (sym c.has_id.ensures, c.if-has_id.true))
-      ∙ c.loop-n.invariant.1;
+          ∙ sym (last_step _ _ _ _ c.loop-n-test.true ∙ rw (sym c.has_id.ensures, c.if-has_id.true))
+          ∙ c.loop-n.invariant.1;
       within = omega arith;
     }
 
@@ -31,8 +29,7 @@ pub loop-n-smaller : goal.loop-n-smaller
 loop-n-smaller c = omega arith
 
 pub loop-n-preserved : goal.loop-n-preserved
-loop-n-preserved c =
-    (
+loop-n-preserved c = (
   omega arith,
   sym
       (last_step _ _ _ _ c.loop-n-test.true ∙ rw (sym c.has_id.ensures, c.if-has_id.false))

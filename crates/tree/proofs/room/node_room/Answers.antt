@@ -1,5 +1,4 @@
 use Rattle.model.specs.Tables.{node_room, attribute_room, text_room}
-use borrow.Author.Rules.{rules}
 use Rattle.tree.proofs.room.node_room.Goals as goal
 
 pub returns : goal.returns

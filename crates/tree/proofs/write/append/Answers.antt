@@ -3,7 +3,6 @@ use mathlib.Core.List.{List, [], ◌∷◌}
 use Prim.Native.Nat.{ℕ, ◌+◌}
 use Rattle.model.specs.Tables.{linked, appended}
 use Rattle.tree.proofs.Stores.{linkable}
-use borrow.Author.Rules.{rules}
 use Rattle.tree.proofs.write.append.Goals as goal
 
 pub link-requires : goal.link-requires

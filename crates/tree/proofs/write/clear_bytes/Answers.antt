@@ -1,6 +1,5 @@
 use mathlib.Core.Path.{◌∙◌}
 use Rattle.tree.proofs.Stores.{all-zero}
-use borrow.Author.Rules.{rules}
 use Rattle.tree.proofs.write.clear_bytes.Goals as goal
 
 pub returns : goal.returns

@@ -1,9 +1,9 @@
 use borrow.Author.Fill.{fill_more}
 use mathlib.Core.Path.{◌≡◌, refl, ap, ◌∙◌}
-use mathlib.Core.List.{◌++◌, append-nil}
-use Prim.Native.Nat.{◌≤◌, ◌-◌, zero-le}
+use mathlib.Core.List.{append-nil}
+use Prim.Native.Nat.{zero-le}
 use native.Mathlib.Omega.{arith}
-use lib.ListN.{length, replicate, drop, set, length-set}
+use lib.ListN.{length, set, length-set}
 use lib.Seq.{drop-length}
 use Rattle.tree.proofs.write.clear_words.Goals as goal
 
@@ -23,8 +23,7 @@ pub loop-k-smaller : goal.loop-k-smaller
 loop-k-smaller c = omega arith
 
 pub loop-k-preserved : goal.loop-k-preserved
-loop-k-preserved c =
-    (
+loop-k-preserved c = (
   omega arith,
   (
     ap (λ l. set l c.loop-k.k 0) c.loop-k.invariant.1.0

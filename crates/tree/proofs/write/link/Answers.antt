@@ -3,12 +3,10 @@ use mathlib.Core.List.{List}
 use Prim.Native.Nat.{ℕ, ◌+◌}
 use native.Mathlib.Omega.{arith}
 use Rattle.model.specs.Tables.{set_word, next_linked, first_linked, linked}
-use borrow.Author.Rules.{rules}
 use Rattle.tree.proofs.write.link.Goals as goal
 
 pub link_next-requires : goal.link_next-requires
-link_next-requires c =
-    (
+link_next-requires c = (
   λ z. omega (
     arith,
     c.requires.2 (λ y. z (c.node_word-last.ensures ∙ y)),

@@ -1,7 +1,6 @@
 use borrow.Author.Tests.{eq-eqb, ne_eqb}
 use mathlib.Core.Path.{sym}
 use Rattle.model.specs.Tables.{first_linked}
-use borrow.Author.Rules.{rules}
 use Rattle.tree.proofs.write.link_first.Goals as goal
 
 pub returns-then-node_word-ne0 : goal.returns-then-node_word-ne0

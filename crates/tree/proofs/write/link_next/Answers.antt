@@ -1,7 +1,6 @@
 use borrow.Author.Tests.{eq-eqb, ne_eqb}
 use native.Mathlib.Omega.{arith}
 use Rattle.model.specs.Tables.{next_linked}
-use borrow.Author.Rules.{rules}
 use Rattle.tree.proofs.write.link_next.Goals as goal
 
 pub returns-then-j-eq0 : goal.returns-then-j-eq0

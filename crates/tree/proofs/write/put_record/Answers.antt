@@ -2,7 +2,6 @@ use native.Mathlib.Omega.{arith}
 use lib.ListN.{length-set}
 use mathlib.Core.List.{[], ◌∷◌}
 use Rattle.tree.proofs.Stores.{run}
-use borrow.Author.Rules.{rules}
 use Rattle.tree.proofs.write.put_record.Goals as goal
 
 pub bounds-nodes-at-2 : goal.bounds-nodes-at-2

@@ -2,7 +2,6 @@ use native.Mathlib.Omega.{arith}
 use lib.ListN.{length-set}
 use mathlib.Core.List.{[], ◌∷◌}
 use Rattle.tree.proofs.Stores.{run}
-use borrow.Author.Rules.{rules}
 use Rattle.tree.proofs.write.put_value.Goals as goal
 
 pub bounds-attributes-at-2 : goal.bounds-attributes-at-2

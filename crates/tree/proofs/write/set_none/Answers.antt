@@ -1,5 +1,4 @@
 use Rattle.model.specs.Tables.{set_none}
-use borrow.Author.Rules.{rules}
 use Rattle.tree.proofs.write.set_none.Goals as goal
 
 pub returns : goal.returns

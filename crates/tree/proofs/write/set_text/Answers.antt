@@ -4,7 +4,6 @@ use Prim.Native.Nat.{ℕ, ◌-◌}
 use lib.ListN.{replicate}
 use lib.Seq.{sets}
 use Rattle.model.specs.Tables.{set_word, set_text}
-use borrow.Author.Rules.{rules}
 use Rattle.tree.proofs.write.set_text.Goals as goal
 
 pub returns : goal.returns

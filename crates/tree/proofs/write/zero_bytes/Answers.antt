@@ -1,6 +1,5 @@
-use Prim.Native.Nat.{◌-◌}
 use native.Mathlib.Omega.{arith}
-use Rattle.tree.proofs.Stores.{Zeroed, zeroed-none, zeroed-more, zeroed-all}
+use Rattle.tree.proofs.Stores.{zeroed-none, zeroed-more, zeroed-all}
 use Rattle.tree.proofs.write.zero_bytes.Goals as goal
 
 pub loop-k-init : goal.loop-k-init

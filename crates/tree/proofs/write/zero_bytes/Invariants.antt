@@ -1,6 +1,5 @@
 use Prim.Native.Nat.{◌-◌}
-use native.Mathlib.Omega.{arith}
-use Rattle.tree.proofs.Stores.{Zeroed, zeroed-none, zeroed-more, zeroed-all}
+use Rattle.tree.proofs.Stores.{Zeroed}
 use Rattle.tree.proofs.write.zero_bytes.Given as goal
 
 abbrev pub invariant-loop-k : goal.invariant-loop-k

@@ -1,6 +1,5 @@
 use native.Mathlib.Omega.{arith}
-use Prim.Native.Nat.{◌+◌}
-use Rattle.trimming.proofs.Depths.{Level, level-none, parent-inside, level-first, level-second, deeper-met}
+use Rattle.trimming.proofs.Depths.{level-none, parent-inside, level-first, level-second, deeper-met}
 use Rattle.trimming.proofs.depth.is_deeper.Goals as goal
 
 pub node_word-x-requires : goal.node_word-x-requires

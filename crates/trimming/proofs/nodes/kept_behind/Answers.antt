@@ -1,6 +1,5 @@
 use mathlib.Core.Path.{refl, sym, ◌∙◌}
 use Rattle.trimming.proofs.Collected.{kept_same}
-use borrow.Author.Rules.{rules}
 use Rattle.trimming.proofs.nodes.kept_behind.Goals as goal
 
 pub returns-then-c-kept : goal.returns-then-c-kept

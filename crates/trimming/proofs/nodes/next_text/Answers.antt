@@ -1,8 +1,6 @@
 use native.Mathlib.Omega.{arith}
-use Prim.Native.Nat.{◌≤◌, ◌-◌}
-use mathlib.Core.Path.{◌≡◌, refl, sym, ◌∙◌}
+use mathlib.Core.Path.{refl, sym, ◌∙◌}
 use borrow.Author.Tests.{eq-eqb, ne_eqb}
-use Rattle.trimming.specs.Nodes.{next_text}
 use Rattle.trimming.proofs.Collected.{next-step, next-end}
 use Rattle.trimming.proofs.nodes.next_text.Goals as goal
 
@@ -24,8 +22,7 @@ pub loop-i-smaller : goal.loop-i-smaller
 loop-i-smaller c = omega arith
 
 pub loop-i-preserved : goal.loop-i-preserved
-loop-i-preserved c =
-    (
+loop-i-preserved c = (
   omega arith,
   sym (next-step _ _ _ c.loop-i-test.true
       ∙ rw (ne_eqb _ _ (λ z. c.if-node_word-eq-TEXT.false (c.node_word.ensures ∙ z))) refl) ∙ c.loop-i.invariant.1,

@@ -1,9 +1,6 @@
-use native.Mathlib.Omega.{arith}
 use Prim.Native.Nat.{◌≤◌, ◌-◌}
-use mathlib.Core.Path.{◌≡◌, refl, sym, ◌∙◌}
-use borrow.Author.Tests.{eq-eqb, ne_eqb}
+use mathlib.Core.Path.{◌≡◌}
 use Rattle.trimming.specs.Nodes.{next_text}
-use Rattle.trimming.proofs.Collected.{next-step, next-end}
 use Rattle.trimming.proofs.nodes.next_text.Given as goal
 
 abbrev pub invariant-loop-i : goal.invariant-loop-i

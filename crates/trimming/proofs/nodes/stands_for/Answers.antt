@@ -1,6 +1,5 @@
 use mathlib.Core.Path.{refl, sym, ◌∙◌}
 use borrow.Author.Tests.{eq-eqb, ne_eqb}
-use borrow.Author.Rules.{rules}
 use Rattle.trimming.proofs.nodes.stands_for.Goals as goal
 
 pub returns-then-size_of-ne0 : goal.returns-then-size_of-ne0

@@ -1,8 +1,7 @@
 use native.Mathlib.Omega.{arith}
-use Prim.Native.Nat.{◌+◌, ◌-◌}
-use Rattle.text.specs.Spaces.{space_by}
+use Prim.Native.Nat.{◌+◌}
 use Rattle.trimming.proofs.Collected.{next-in}
-use Rattle.trimming.proofs.Pairing.{Paired, paired_none, paired-asks, paired-turn, paired-done}
+use Rattle.trimming.proofs.Pairing.{paired_none, paired-asks, paired-turn, paired-done}
 use Rattle.trimming.proofs.nodes.trim_pairs.Goals as goal
 
 pub loop-b-init : goal.loop-b-init
@@ -19,7 +18,7 @@ next_text-next-requires c = (omega arith, c.loop-b.invariant.held.fair.below.ins
 pub trim_turn-kept-requires : goal.trim_turn-kept-requires
 trim_turn-kept-requires c =
     let whole = paired-asks _ _ _ _ _ _ _ _ _ _ _ _ _ _ c.loop-b.invariant
-      c.loop-b-test.true in
+    c.loop-b-test.true in
     record { fair = c.loop-b.invariant.held.fair; text_of = whole.0; text_of_2 = whole.1.0; text_of_3 = whole.1.1 }
 
 pub loop-b-smaller : goal.loop-b-smaller

@@ -5,22 +5,21 @@ use Rattle.model.specs.Text.{is_default}
 use Rattle.trimming.proofs.Collected.{fair-ranged}
 use Rattle.trimming.proofs.Entire.{element-climbs, element-reads, all_fair, none_left, first-most, first-text}
 use Rattle.trimming.proofs.Entire.{second-behind, second-text, pairs-left, single-preserved, single-left}
-use borrow.Author.Rules.{rules}
 use Rattle.trimming.proofs.nodes.trim_text_nodes.Goals as goal
 
 pub space_of-requires : goal.space_of-requires
 space_of-requires c =
     record {
       climbable = element-climbs c.args.characters.now
-      c.args.nodes.now
-      c.args.attributes.now
-      c.args.text.now c.args.counts
-      c.args.e c.requires;
+          c.args.nodes.now
+          c.args.attributes.now
+          c.args.text.now c.args.counts
+          c.args.e c.requires;
       by_index = element-reads c.args.characters.now
-      c.args.nodes.now
-      c.args.attributes.now
-      c.args.text.now c.args.counts
-      c.args.e c.requires;
+          c.args.nodes.now
+          c.args.attributes.now
+          c.args.text.now c.args.counts
+          c.args.e c.requires;
     }
 
 pub returns-then-first-count : goal.returns-then-first-count
@@ -83,18 +82,18 @@ trim_pairs-requires c =
           c.args.attributes.now c.args.text.now
           c.args.counts c.args.e c.requires;
       text_of = first-text c.args.characters.now
-            c.args.nodes.now c.args.attributes.now c.args.text.now
-            c.args.counts c.args.e c.requires _ told _ c.next_text-first.ensures
-            c.if-first-count.false;
+          c.args.nodes.now c.args.attributes.now c.args.text.now
+          c.args.counts c.args.e c.requires _ told _ c.next_text-first.ensures
+          c.if-first-count.false;
       text_of_2 = second-text c.args.characters.now c.args.nodes.now
-              c.args.attributes.now c.args.text.now
-              c.args.counts c.args.e c.requires _ told _ c.next_text-first.ensures
-              c.if-first-count.false _ c.next_text-second.ensures
-              c.if-second-count.true;
+          c.args.attributes.now c.args.text.now
+          c.args.counts c.args.e c.requires _ told _ c.next_text-first.ensures
+          c.if-first-count.false _ c.next_text-second.ensures
+          c.if-second-count.true;
       first_lt_second = second-behind c.args.characters.now
-              c.args.nodes.now c.args.attributes.now c.args.text.now
-              c.args.counts c.args.e c.requires _ told _ c.next_text-first.ensures
-              c.if-first-count.false _ c.next_text-second.ensures;
+          c.args.nodes.now c.args.attributes.now c.args.text.now
+          c.args.counts c.args.e c.requires _ told _ c.next_text-first.ensures
+          c.if-first-count.false _ c.next_text-second.ensures;
     }
 
 pub returns-then-second-count : goal.returns-then-second-count

@@ -1,6 +1,5 @@
 use native.Mathlib.Omega.{arith}
 use Rattle.trimming.proofs.Turning.{stands-text, parent-ready, text-ranged, pair-told, turn-tables, turn-ranged, turn-kept}
-use borrow.Author.Rules.{rules}
 use Rattle.trimming.proofs.nodes.trim_turn.Goals as goal
 
 pub stands_for-c-requires : goal.stands_for-c-requires
@@ -29,66 +28,66 @@ pub trim_pair-requires : goal.trim_pair-requires
 trim_pair-requires c =
     record {
       ranged = rw c.stands_for-c.ensures
-      (text-ranged _ _ _ _ _ _
-      c.requires.fair _
-      (stands-text c.args.nodes.now c.args.nodes.now c.args.element c.args.count
-      c.args.turn.a c.args.turn.kept
-      c.requires.text_of
-      c.requires.text_of_3));
+          (text-ranged _ _ _ _ _ _
+          c.requires.fair _
+          (stands-text c.args.nodes.now c.args.nodes.now c.args.element c.args.count
+          c.args.turn.a c.args.turn.kept
+          c.requires.text_of
+          c.requires.text_of_3));
       ranged_2 = text-ranged _ _ _ _ _ _
-      c.requires.fair _
-      c.requires.text_of_2;
+          c.requires.fair _
+          c.requires.text_of_2;
     }
 
 pub kept_behind-requires : goal.kept_behind-requires
 kept_behind-requires c =
     record {
       ranged = turn-ranged c.args.nodes.now
-      c.args.text.now _ _ _
-      c.trim_pair.ensures
-      (rw c.stands_for-c.ensures (text-ranged _ _ _ _ _ _ c.requires.fair _
-      (stands-text c.args.nodes.now
-      c.args.nodes.now
-      c.args.element
-      c.args.count
-      c.args.turn.a
-      c.args.turn.kept
-      c.requires.text_of
-      c.requires.text_of_3)))
-      (text-ranged _ _ _ _ _ _ c.requires.fair _
-      c.requires.text_of_2);
+          c.args.text.now _ _ _
+          c.trim_pair.ensures
+          (rw c.stands_for-c.ensures (text-ranged _ _ _ _ _ _ c.requires.fair _
+          (stands-text c.args.nodes.now
+          c.args.nodes.now
+          c.args.element
+          c.args.count
+          c.args.turn.a
+          c.args.turn.kept
+          c.requires.text_of
+          c.requires.text_of_3)))
+          (text-ranged _ _ _ _ _ _ c.requires.fair _
+          c.requires.text_of_2);
       c_bound = omega (
-    arith,
-    c.stands_for-c.ensures,
-    (stands-text c.args.nodes.now
-        c.args.nodes.now
-        c.args.element
-        c.args.count
-        c.args.turn.a
-        c.args.turn.kept
-        c.requires.text_of
-        c.requires.text_of_3).1.0,
-    c.requires.fair.below.small,
-  );
+        arith,
+        c.stands_for-c.ensures,
+        (stands-text c.args.nodes.now
+            c.args.nodes.now
+            c.args.element
+            c.args.count
+            c.args.turn.a
+            c.args.turn.kept
+            c.requires.text_of
+            c.requires.text_of_3).1.0,
+        c.requires.fair.below.small,
+      );
     }
 
 pub returns : goal.returns
 returns c =
     record {
       tables = turn-tables c.args.characters.now
-      c.args.nodes.now
-      c.args.attributes.now _
-      c.args.element
-      c.args.turn _ _ _ _
-      c.trim_pair.ensures
-      (pair-told c.args.characters.now
-      c.args.nodes.now
-      c.args.attributes.now _
-      c.args.element
-      c.args.turn _ _ _ _
-      c.stands_for-c.ensures c.is_deeper-deeper.ensures
-      c.is_default_at-default1.ensures
-      c.is_default_at-default2.ensures);
+          c.args.nodes.now
+          c.args.attributes.now _
+          c.args.element
+          c.args.turn _ _ _ _
+          c.trim_pair.ensures
+          (pair-told c.args.characters.now
+          c.args.nodes.now
+          c.args.attributes.now _
+          c.args.element
+          c.args.turn _ _ _ _
+          c.stands_for-c.ensures c.is_deeper-deeper.ensures
+          c.is_default_at-default1.ensures
+          c.is_default_at-default2.ensures);
       kept = turn-kept _ _ _ _ c.args.turn.kept c.kept_behind.ensures
-      c.stands_for-c.ensures;
+          c.stands_for-c.ensures;
     }

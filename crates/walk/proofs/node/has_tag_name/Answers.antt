@@ -1,5 +1,4 @@
 use borrow.Author.Tests.{lt-leb, le-leb}
-use borrow.Author.Rules.{rules}
 use Rattle.walk.proofs.node.has_tag_name.Goals as goal
 
 pub returns-then-space-gt1 : goal.returns-then-space-gt1

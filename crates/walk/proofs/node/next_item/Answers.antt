@@ -1,9 +1,5 @@
 use native.Mathlib.Omega.{arith}
-use borrow.Author.Rules.{rules}
-use Prim.Native.Nat.{◌-◌}
-use lib.ListN.{length}
-use Rattle.model.specs.Drawing.{events_from}
-use Rattle.walk.proofs.Walks.{Reach, reach-none, item-at}
+use Rattle.walk.proofs.Walks.{reach-none, item-at}
 use Rattle.walk.proofs.node.next_item.Goals as goal
 
 pub loop-name-init : goal.loop-name-init

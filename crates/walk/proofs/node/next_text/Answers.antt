@@ -1,12 +1,7 @@
 use native.Mathlib.Omega.{arith}
-use borrow.Author.Rules.{rules}
-use Prim.Native.Nat.{◌-◌}
-use lib.ListN.{length}
 use mathlib.Core.Path.{sym, ◌∙◌}
 use Rattle.walk.proofs.Walks.{item-told}
-use Rattle.model.specs.Drawing.{texts_in}
-use Rattle.walk.specs.Values.{events_at}
-use Rattle.walk.proofs.Along.{Along, along-none, at_item, over, over-others, others-further}
+use Rattle.walk.proofs.Along.{along-none, at_item, over, over-others, others-further}
 use Rattle.walk.proofs.Along.{texts-begin, texts-text, texts-other, texts-close, texts-out}
 use Rattle.walk.proofs.Along.{texts-end}
 use Rattle.walk.proofs.node.next_text.Goals as goal
@@ -70,7 +65,7 @@ pub returns-then-level-eq0 : goal.returns-then-level-eq0
 returns-then-level-eq0 c =
     record {
       same = sym (texts-out _ _ c.if-level-eq0.true) ∙ at_item _ _ _ _ _ _ _ c.loop-e.invariant _ _
-      c.in-Close.is (c.next_item.ensures.same, c.next_item.ensures.fit);
+          c.in-Close.is (c.next_item.ensures.same, c.next_item.ensures.fit);
       fit = tt;
     }
 
@@ -89,6 +84,6 @@ pub returns-in-End : goal.returns-in-End
 returns-in-End c =
     record {
       same = sym (texts-end _) ∙ at_item _ _ _ _ _ _ _ c.loop-e.invariant _ _ c.in-End.is
-      (c.next_item.ensures.same, c.next_item.ensures.fit);
+          (c.next_item.ensures.same, c.next_item.ensures.fit);
       fit = tt;
     }

@@ -1,8 +1,4 @@
 use native.Mathlib.Omega.{arith}
-use borrow.Author.Rules.{rules}
-use Prim.Native.Nat.{◌-◌}
-use lib.ListN.{length}
-use Rattle.walk.specs.Nodes.{Others}
 use Rattle.walk.proofs.Walks.{reach-none, item-at}
 use Rattle.walk.proofs.Along.{others-none, others-more}
 use Rattle.walk.proofs.node.past_others.Goals as goal

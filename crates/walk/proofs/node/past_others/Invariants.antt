@@ -1,10 +1,6 @@
-use native.Mathlib.Omega.{arith}
-use borrow.Author.Rules.{rules}
 use Prim.Native.Nat.{◌-◌}
 use lib.ListN.{length}
 use Rattle.walk.specs.Nodes.{Others}
-use Rattle.walk.proofs.Walks.{reach-none, item-at}
-use Rattle.walk.proofs.Along.{others-none, others-more}
 use Rattle.walk.proofs.node.past_others.Given as goal
 
 abbrev pub invariant-loop-n : goal.invariant-loop-n

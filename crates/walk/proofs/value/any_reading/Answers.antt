@@ -1,11 +1,6 @@
 use native.Mathlib.Omega.{arith}
-use borrow.Author.Rules.{rules}
-use Prim.Native.Nat.{◌-◌}
-use lib.ListN.{length}
-use Rattle.model.specs.Repair.{any_reading}
-use Rattle.walk.specs.Values.{readings_in}
 use Rattle.walk.proofs.Walks.{reading-told}
-use Rattle.walk.proofs.Finding.{Reading, reading-first, any-kind, any-hit, any-miss, any_none}
+use Rattle.walk.proofs.Finding.{reading-first, any-kind, any-hit, any-miss, any_none}
 use Rattle.walk.proofs.value.any_reading.Goals as goal
 
 pub loop-k-init : goal.loop-k-init

@@ -1,10 +1,6 @@
 use native.Mathlib.Omega.{arith}
-use borrow.Author.Rules.{rules}
-use Prim.Native.Nat.{◌-◌}
-use lib.ListN.{length}
-use mathlib.Core.Logic.{⊎_elim}
 use Rattle.walk.proofs.Walks.{attribute-told}
-use Rattle.walk.proofs.Finding.{Looking, looking, named, other-space, other_name, unnamed}
+use Rattle.walk.proofs.Finding.{looking, named, other-space, other_name, unnamed}
 use Rattle.walk.proofs.value.attribute_in.Goals as goal
 use Rattle.walk.proofs.value.attribute_in.Goals.{then-s-space+else-a-name, else-s-space}
 
@@ -29,11 +25,12 @@ loop-a-smaller c =
 
 pub loop-a-preserved : goal.loop-a-preserved
 loop-a-preserved c =
-    elim c.if-s-space.branch
-    [ then-s-space+else-a-name w ↦ other_name _ _ _ _ _ _ c.loop-a.invariant _ _ _ _
-    c.in-At.is (c.next_attribute.ensures.same, c.next_attribute.ensures.fit) w.if-s-space.true w.if-a-name.false
-    | else-s-space w ↦ other-space _ _ _ _ _ _ c.loop-a.invariant _ _ _ _
-    c.in-At.is (c.next_attribute.ensures.same, c.next_attribute.ensures.fit) w.if-s-space.false ]
+    elim c.if-s-space.branch [
+      | then-s-space+else-a-name w ↦ other_name _ _ _ _ _ _ c.loop-a.invariant _ _ _ _
+          c.in-At.is (c.next_attribute.ensures.same, c.next_attribute.ensures.fit) w.if-s-space.true w.if-a-name.false
+      | else-s-space w ↦ other-space _ _ _ _ _ _ c.loop-a.invariant _ _ _ _
+          c.in-At.is (c.next_attribute.ensures.same, c.next_attribute.ensures.fit) w.if-s-space.false
+    ]
 
 pub returns-in-End : goal.returns-in-End
 returns-in-End c =

@@ -1,10 +1,6 @@
-use native.Mathlib.Omega.{arith}
-use borrow.Author.Rules.{rules}
 use Prim.Native.Nat.{◌-◌}
 use lib.ListN.{length}
-use mathlib.Core.Logic.{⊎_elim}
-use Rattle.walk.proofs.Walks.{attribute-told}
-use Rattle.walk.proofs.Finding.{Looking, looking, named, other-space, other_name, unnamed}
+use Rattle.walk.proofs.Finding.{Looking}
 use Rattle.walk.proofs.value.attribute_in.Given as goal
 
 abbrev pub invariant-loop-a : goal.invariant-loop-a

@@ -1,8 +1,5 @@
 use native.Mathlib.Omega.{arith}
-use borrow.Author.Rules.{rules}
-use Prim.Native.Nat.{◌-◌}
-use lib.ListN.{length}
-use Rattle.walk.proofs.Walks.{Reach, rest_from, reach-none, attribute-at}
+use Rattle.walk.proofs.Walks.{reach-none, attribute-at}
 use Rattle.walk.proofs.value.next_attribute.Goals as goal
 
 pub loop-name-init : goal.loop-name-init

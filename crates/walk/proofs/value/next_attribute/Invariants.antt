@@ -1,8 +1,6 @@
-use native.Mathlib.Omega.{arith}
-use borrow.Author.Rules.{rules}
 use Prim.Native.Nat.{◌-◌}
 use lib.ListN.{length}
-use Rattle.walk.proofs.Walks.{Reach, rest_from, reach-none, attribute-at}
+use Rattle.walk.proofs.Walks.{Reach, rest_from}
 use Rattle.walk.proofs.value.next_attribute.Given as goal
 
 abbrev pub invariant-loop-name : goal.invariant-loop-name

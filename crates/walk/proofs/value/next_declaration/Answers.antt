@@ -1,8 +1,5 @@
 use native.Mathlib.Omega.{arith}
-use borrow.Author.Rules.{rules}
-use Prim.Native.Nat.{◌-◌}
-use lib.ListN.{length}
-use Rattle.walk.proofs.Walks.{Reach, below_from, reach-none, declaration-at}
+use Rattle.walk.proofs.Walks.{reach-none, declaration-at}
 use Rattle.walk.proofs.value.next_declaration.Goals as goal
 
 pub loop-n-init : goal.loop-n-init

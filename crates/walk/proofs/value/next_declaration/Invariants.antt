@@ -1,8 +1,6 @@
-use native.Mathlib.Omega.{arith}
-use borrow.Author.Rules.{rules}
 use Prim.Native.Nat.{◌-◌}
 use lib.ListN.{length}
-use Rattle.walk.proofs.Walks.{Reach, below_from, reach-none, declaration-at}
+use Rattle.walk.proofs.Walks.{Reach, below_from}
 use Rattle.walk.proofs.value.next_declaration.Given as goal
 
 abbrev pub invariant-loop-n : goal.invariant-loop-n

@@ -1,11 +1,6 @@
 use native.Mathlib.Omega.{arith}
-use borrow.Author.Rules.{rules}
-use Prim.Native.Nat.{◌-◌}
-use lib.ListN.{length}
-use Rattle.model.specs.Drawing.{reading_of}
-use Rattle.walk.specs.Values.{readings_in}
 use Rattle.walk.proofs.Walks.{reading-told}
-use Rattle.walk.proofs.Finding.{Reading, reading-first, of-kind, other-kind, of-no-kind}
+use Rattle.walk.proofs.Finding.{reading-first, of-kind, other-kind, of-no-kind}
 use Rattle.walk.proofs.value.reading_of.Goals as goal
 
 pub loop-k-init : goal.loop-k-init
@@ -42,6 +37,6 @@ pub returns-in-End : goal.returns-in-End
 returns-in-End c =
     record {
       same = of-no-kind _ _ _ _ _ _ _ c.in-End.is (c.next_reading.ensures.same, c.next_reading.ensures.fit)
-      c.loop-k.invariant;
+          c.loop-k.invariant;
       fit = tt;
     }

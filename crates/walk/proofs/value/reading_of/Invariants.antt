@@ -1,11 +1,8 @@
-use native.Mathlib.Omega.{arith}
-use borrow.Author.Rules.{rules}
 use Prim.Native.Nat.{◌-◌}
 use lib.ListN.{length}
 use Rattle.model.specs.Drawing.{reading_of}
 use Rattle.walk.specs.Values.{readings_in}
-use Rattle.walk.proofs.Walks.{reading-told}
-use Rattle.walk.proofs.Finding.{Reading, reading-first, of-kind, other-kind, of-no-kind}
+use Rattle.walk.proofs.Finding.{Reading}
 use Rattle.walk.proofs.value.reading_of.Given as goal
 
 abbrev pub invariant-loop-k : goal.invariant-loop-k

@@ -1,6 +1,6 @@
 use native.Mathlib.Omega.{arith}
-use mathlib.Core.Path.{ap, ◌∙◌, sym, refl}
-use Rattle.model.specs.Drawing.{opening, attribute, declaration, reading, text, other, closing, operands, word_at}
+use mathlib.Core.Path.{ap, ◌∙◌, refl}
+use Rattle.model.specs.Drawing.{opening, attribute, declaration, reading, text, other, closing, operands}
 use Rattle.script.proofs.Commands.{ended, cut, nothing, open-here, attribute-here, declaration-here, reading-here, text-here}
 use Rattle.script.proofs.Commands.{other-here, close-here, passing}
 use borrow.Author.Rules.{rules}
@@ -176,7 +176,9 @@ pub returns-in_default : goal.returns-in_default
 returns-in_default c =
     record {
       step = nothing _ _ c.if-script-at.false _ refl (omega (arith, c.operands_of.ensures))
-      c.in_default.in_default-own.rest.0.0.0.0.0.0.1 c.in_default.in_default-own.rest.0.0.0.0.0.1 c.in_default.in_default-own.rest.0.0.0.0.1
-      c.in_default.in_default-own.rest.0.0.0.1 c.in_default.in_default-own.rest.0.0.1 c.in_default.in_default-own.rest.0.1 c.in_default.in_default-own.rest.1;
+          c.in_default.in_default-own.rest.0.0.0.0.0.0.1 c.in_default.in_default-own.rest.0.0.0.0.0.1
+          c.in_default.in_default-own.rest.0.0.0.0.1
+          c.in_default.in_default-own.rest.0.0.0.1 c.in_default.in_default-own.rest.0.0.1 c.in_default.in_default-own.rest.0.1
+          c.in_default.in_default-own.rest.1;
       going = tt;
     }
