@@ -1,7 +1,8 @@
 """What the tests ask of the kit beside `rt`: checks and builds of one crate over the libraries that `rt ci` has just proved.
 
-`rt ci` leaves each library as a folder crates/NAME/out/rlib/NAME.rlib that has its statements and its code, and no stamp. The other
-commands of rt build libraries of their own, from nothing where nothing is kept, so `rattle` is called here as `rt ci` calls it."""
+`rt ci` leaves each library as a folder crates/NAME/out/rlib/NAME.rlib that has its statements and its code, and no stamp, unless one stood
+there before: that is put back. The other commands of rt build libraries of their own, from nothing where nothing is kept, so `rattle` is
+called here as `rt ci` calls it."""
 import os, re, shutil, subprocess
 
 ROOT = os.path.dirname(os.path.dirname(os.path.realpath(__file__)))
