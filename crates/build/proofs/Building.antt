@@ -24,7 +24,11 @@ use Rattle.tree.specs.declared.Counts.{Counts}
 use Rattle.tree.specs.Lent.{tree_of, nodes_read}
 use Rattle.label.specs.Walk.{Lies}
 use Rattle.label.specs.Whole.{Underway}
-use Rattle.parse.specs.State.{place_in, origin_in, counts_in, number_in}
+use Rattle.std.specs.Prelude.{Result, Ok, Err, OnOk}
+use Rattle.refusal.specs.declared.Refusal.{Refusal}
+use Rattle.refusal.specs.Number.{number_of, answer_of}
+use Rattle.refusal.proofs.Number.{number_nonzero}
+use Rattle.parse.specs.declared.State.{State}
 use Rattle.parse.specs.Met.{level_built, outcome_of, Reached}
 use Rattle.parse.specs.Unbuilt.{Skipped}
 use Rattle.build.specs.Results.{result_of, nothing, root_alone, cleared_as, Tended, Rooted}
@@ -75,11 +79,6 @@ module _ (script chars ns es bs : List ℕ) (c : Counts) (h : Tended script char
 
 -- BEHIND THE ROOT
 
--- An answer that is not 0 is a refusal.
-outcome-refused : (k : List ℕ) (t : Tree) (r : ℕ) → (r ≡ 0 → ⊥) → outcome_of k t r ≡ refused (number_in k)
-outcome-refused k t zero z = absurd (z refl)
-outcome-refused k t (suc r) z = refl
-
 -- Tables of the same lengths.
 pub cleared-same : (ns es bs ns' es' bs' : List ℕ) → length ns' ≡ length ns → length es' ≡ length es → length bs' ≡ length bs →
     cleared_as ns' es' bs' ≡ cleared_as ns es bs
@@ -108,11 +107,18 @@ module _ (script chars ns es bs : List ℕ) (h : Rooted script chars (tree_of ns
       }
 
   -- Behind what stands before the first element.
-  module _ (s s' : List ℕ) (k : Skipped script chars 1025 s s') (p : place_in s ≡ from) (z : origin_in s ≡ 0) where
-    pub begins-behind : Underway script chars first 0 (place_in s')
+  module _ (s s' : State) (k : Skipped script chars 1025 s s') (p : s.cursor ≡ from) (z : s.origin ≡ 0)
+      (w : s.counts ≡ root_alone) where
+    counts-are : s'.counts ≡ root_alone
+    counts-are = ap (λ (y : State). y.counts) k.stood ∙ w
+
+    origin-is : s'.origin ≡ 0
+    origin-is = ap (λ (y : State). y.origin) k.stood ∙ z
+
+    pub begins-behind : Underway script chars (tree_of ns es bs s'.counts) 0 s'.cursor
     begins-behind =
         let u = begins in
-        record {
+        subst (λ (c : Counts). Underway script chars (tree_of ns es bs c) 0 s'.cursor) (sym counts-are) record {
           fit = k.fit;
           all = u.all;
           lies = k.lies (subst (λ (c : Cursor). Lies chars (events_at script chars c)) (sym p) u.lies);
@@ -122,18 +128,18 @@ module _ (script chars ns es bs : List ℕ) (h : Rooted script chars (tree_of ns
           below = u.below;
         }
 
-    pub all-behind : level_built script chars 1025 (origin_in s') 0 (place_in s') first
+    pub all-behind : level_built script chars 1025 s'.origin 0 s'.cursor (tree_of ns es bs s'.counts)
         ≡ each (node (plain chars) (events script chars) 1025) (children_from zero (events_at script chars from)) 0 false 0 first
     all-behind =
-        ap (λ x. level_built script chars 1025 x 0 (place_in s') first) (k.by ∙ z) ∙ k.same 0 0 first
+        ap (λ (c : Counts). level_built script chars 1025 s'.origin 0 s'.cursor (tree_of ns es bs c)) counts-are
+        ∙ ap (λ x. level_built script chars 1025 x 0 s'.cursor first) origin-is ∙ k.same 0 0 first
         ∙ ap (λ (c : Cursor). level_built script chars 1025 0 0 c first) p
 
   -- The recursion's answer, and what it leaves.
-  module _ (ns' es' bs' k' : List ℕ) (r : ℕ)
-      (o : outcome_of k' (tree_of ns' es' bs' (counts_in k')) r
+  module _ (ns' es' bs' : List ℕ) (k : Counts) (r : Result (Unit {0}) Refusal)
+      (o : outcome_of (tree_of ns' es' bs' k) r
       ≡ each (node (plain chars) (events script chars) 1025) (children_from zero (events_at script chars from)) 0 false 0 first) where
-    is-parsed : (x : Out Tree) → outcome_of k' (tree_of ns' es' bs' (counts_in k')) r ≡ x →
-        parsed (plain chars) (events script chars) first ≡ x
+    is-parsed : (x : Out Tree) → outcome_of (tree_of ns' es' bs' k) r ≡ x → parsed (plain chars) (events script chars) first ≡ x
     unfolding parsed
     is-parsed x f = sym (rw all-still at o) ∙ f
 
@@ -147,26 +153,22 @@ module _ (script chars ns es bs : List ℕ) (h : Rooted script chars (tree_of ns
       same_answer x f = ap (λ (t : Tree). answered chars t (whole x)) (cleared-same ns es bs ns' es' bs' p q s)
           ∙ ap (λ (y : Out Tree). answered chars (cleared_as ns es bs) (whole y)) (sym f)
 
-      pub fill-refused : (r ≡ 0 → ⊥) → answered chars (cleared_as ns' es' bs') (refused (number_in k'))
+      pub fill-refused : (j : Refusal) → r ≡ Err j → answered chars (cleared_as ns' es' bs') (refused (number_of j))
           ≡ answered chars (cleared_as ns es bs) (whole (parsed (plain chars) (events script chars) first))
-      fill-refused z = same_answer (refused (number_in k')) (is-parsed (refused (number_in k')) (outcome-refused k' _ r z))
+      fill-refused j z = same_answer (refused (number_of j)) (is-parsed _ (ap (outcome_of (tree_of ns' es' bs' k)) z))
 
-      pub fill_done : r ≡ 0 → (c : Counts) → c ≡ counts_in k' →
-          answered chars (cleared_as ns' es' bs') (with_repairs chars (events script chars) (tested (tree_of ns' es' bs' c)))
+      pub fill_done : r ≡ Ok tt →
+          answered chars (cleared_as ns' es' bs') (with_repairs chars (events script chars) (tested (tree_of ns' es' bs' k)))
           ≡ answered chars (cleared_as ns es bs) (whole (parsed (plain chars) (events script chars) first))
-      fill_done z c g =
-          ap (λ (m : Counts). answered chars (cleared_as ns' es' bs')
-          (with_repairs chars (events script chars) (tested (tree_of ns' es' bs' m)))) g
-          ∙ same_answer (done (tree_of ns' es' bs' (counts_in k')))
-          (is-parsed (done (tree_of ns' es' bs' (counts_in k'))) (ap (outcome_of k' (tree_of ns' es' bs' (counts_in k'))) z))
+      fill_done z = same_answer (done (tree_of ns' es' bs' k)) (is-parsed _ (ap (outcome_of (tree_of ns' es' bs' k)) z))
 
-    pub fill-tended : (xs : List Event) (low n origin : ℕ) (s' : List ℕ) →
-        (r ≡ 0 → Reached script chars origin xs low n s' k' (tree_of ns' es' bs' (counts_in k'))) → r ≡ 0 → (c : Counts) →
-        c ≡ counts_in k' →
-        Tended script chars (tree_of ns' es' bs' c)
-    fill-tended xs low n origin s' g z c f =
-        subst (λ (m : Counts). Tended script chars (tree_of ns' es' bs' m)) (sym f)
-        (record { checked = h.checked; tidy = (g z).tidy })
+    pub fill-tended : (xs : List Event) (low n origin : ℕ) (s' : State) →
+        OnOk r (Reached script chars origin xs low n s' (tree_of ns' es' bs' k)) → r ≡ Ok tt →
+        Tended script chars (tree_of ns' es' bs' k)
+    fill-tended xs low n origin s' g z =
+        let at-ok : Reached script chars origin xs low n s' (tree_of ns' es' bs' k) =
+        subst (λ (y : Result (Unit {0}) Refusal). OnOk y (Reached script chars origin xs low n s' (tree_of ns' es' bs' k))) z g in
+        record { checked = h.checked; tidy = at-ok.tidy }
 
 -- FROM THE BEGINNING
 
@@ -238,7 +240,9 @@ module _ (script chars ns es bs ns₁ es₁ bs₁ : List ℕ) (checked : check s
       with-root = rw (same-empty, is-root) (built-from true (lt-ltb 0 room (omega arith)))
 
 -- check's number first.
-pub check-refused : (script chars : List ℕ) (n m b k : ℕ) → k ≡ check script chars → (k ≡ 0 → ⊥) →
-    answered chars (cleared n m b) (refused k) ≡ build script chars n m b
+pub check-refused : (script chars : List ℕ) (n m b : ℕ) (r : Result (Unit {0}) Refusal) (j : Refusal) → answer_of r ≡ check script chars →
+    r ≡ Err j → answered chars (cleared n m b) (refused (number_of j)) ≡ build script chars n m b
 unfolding build
-check-refused script chars n m b k e z = rw (← e, ne_eqb k 0 z) refl
+check-refused script chars n m b r j e z =
+    let h : number_of j ≡ check script chars = sym (ap answer_of z) ∙ e in
+    rw (← h, ne_eqb (number_of j) 0 (number_nonzero j)) refl

@@ -1,12 +1,20 @@
 -- The answer of an operation on the tables as the model has it, and what the steps of a build ask.
-use Rattle.std.specs.Prelude.{◌≡◌, ℕ, ◌≤◌, Bool, true, false, List, length}
+use Rattle.std.specs.Prelude.{◌≡◌, ℕ, ◌≤◌, Bool, true, false, List, length, Ok, Err}
 use Rattle.model.specs.Check.{check}
 use Rattle.model.specs.Tables.{Tree, cleared, rooted}
 use Rattle.model.specs.Build.{Result}
+use Rattle.std.specs.Prelude as std
+use Rattle.refusal.specs.declared.Refusal.{Refusal}
+use Rattle.refusal.specs.Number.{number_of}
 use Rattle.model.specs.Theorems.Kept.{Tidy}
 use Rattle.tree.specs.declared.Counts.{Counts}
 use Rattle.tree.specs.Lent.{tree_of}
 use Rattle.build.specs.declared.Built.{Built}
+
+-- The answer of a build for a host.
+abbrev pub built_of : std.Result Counts Refusal → Built
+built_of (Ok c) = record { number = 0; nodes = c.nodes; attributes = c.attributes; text = c.text }
+built_of (Err r) = record { number = number_of r; nodes = 0; attributes = 0; text = 0 }
 
 -- How much of the tables is taken by an answer.
 abbrev pub counts_of : Built → Counts

@@ -1,5 +1,5 @@
 // build: check, the tables cleared, the root, the nodes, the first element's test, the repairs.
-ghost use Rattle.std.specs.Prelude.{◌≡◌, length};
+ghost use Rattle.std.specs.Prelude.{◌≡◌, ◌≤◌, length};
 ghost use Rattle.model.specs.Check.{check};
 ghost use Rattle.model.specs.Drawing.{events};
 ghost use Rattle.model.specs.Tables.{then};
@@ -7,16 +7,17 @@ ghost use Rattle.model.specs.Parse.{plain};
 ghost use Rattle.model.specs.Build.{parsed, tested, with_repairs, answered, build};
 ghost use Rattle.memo.specs.Table.{Memo};
 ghost use Rattle.tree.specs.Lent.{tree_of};
-ghost use Rattle.build.specs.Results.{result_of, root_alone, cleared_as, Tended, Rooted};
+ghost use Rattle.build.specs.Results.{built_of, result_of, root_alone, cleared_as, Tended, Rooted};
 
-use crate::Built;
-use crate::tables::{clear, first_is_svg, refusal, refuse};
+use crate::tables::{clear, first_is_svg, refuse};
 use memo::link::may_link;
+use parse::State;
 use parse::node::parse_xml_node_children;
-use parse::state::counted;
 use parse::unbuilt::pass_unbuilt;
+use refusal::Refusal;
 use repair::whole::repair;
 use script::check::check;
+use script::cursor::Cursor;
 use tree::Counts;
 use tree::room::node_room;
 use tree::write::put_root;
@@ -29,23 +30,18 @@ fn finish(
     attributes: &mut [u32],
     text: &mut [u8],
     counts: Counts,
-) -> Built
+) -> Result<Counts, Refusal>
     requires { Tended script.now characters.now (tree_of nodes.old attributes.old text.old counts) }
-    ensures { result_of characters.now nodes.new attributes.new text.new result
+    ensures { result_of characters.now nodes.new attributes.new text.new (built_of result)
         ≡ answered characters.now (cleared_as nodes.old attributes.old text.old)
         (with_repairs characters.now (events script.now characters.now)
         (tested (tree_of nodes.old attributes.old text.old counts))) }
 {
     if !first_is_svg(nodes) {
-        return refuse(nodes, attributes, text, 21, true);
+        return refuse(nodes, attributes, text, Refusal::NotAnSvg, true);
     }
     repair(script, characters, nodes, attributes, counts);
-    Built {
-        number: 0,
-        nodes: counts.nodes,
-        attributes: counts.attributes,
-        text: counts.text,
-    }
+    Ok(counts)
 }
 
 // What is still to do behind the root, by the table of ids. The recursion begins before the first command, with the root alone taken; what
@@ -57,111 +53,79 @@ fn fill_by(
     nodes: &mut [u32],
     attributes: &mut [u32],
     text: &mut [u8],
-) -> Built
+) -> Result<Counts, Refusal>
     requires rooted { Rooted script.now characters.now (tree_of nodes.old attributes.old text.old root_alone) }
     requires memo { Memo script.now characters.now slots.now }
-    ensures { result_of characters.now nodes.new attributes.new text.new result
+    ensures { result_of characters.now nodes.new attributes.new text.new (built_of result)
         ≡ answered characters.now (cleared_as nodes.old attributes.old text.old)
         (with_repairs characters.now (events script.now characters.now)
         (then (parsed (plain characters.now) (events script.now characters.now)
         (tree_of nodes.old attributes.old text.old root_alone)) tested)) }
 {
-    let mut place: [usize; 10] = [0; 10];
-    let mut taken: [u32; 4] = [1, 0, 0, 0];
-    pass_unbuilt(&mut place, script, characters, 1025);
-    let refused = parse_xml_node_children(
-        &mut place, &mut taken, 1025, 0, script, characters, nodes, attributes, text, slots,
+    let mut state = State {
+        cursor: Cursor::start(),
+        children: Cursor::start(),
+        copier: 0,
+        origin: 0,
+        counts: Counts {
+            nodes: 1,
+            attributes: 0,
+            text: 0,
+        },
+    };
+    pass_unbuilt(&mut state, script, characters, 1025);
+    let built = parse_xml_node_children(
+        &mut state, 1025, 0, script, characters, nodes, attributes, text, slots,
     );
-    if refused != 0 {
-        let number = taken[3];
-        return refuse(nodes, attributes, text, number, true);
+    match built {
+        Ok(()) => finish(script, characters, nodes, attributes, text, state.counts),
+        Err(refusal) => refuse(nodes, attributes, text, refusal, true),
     }
-    let counts = counted(&taken);
-    finish(script, characters, nodes, attributes, text, counts)
 }
 
-// What is still to do behind the root, where no link is followed by an id: a table that tells nothing.
-fn fill_alone(
+// What is still to do behind the root, with a table of ids of N words: it tells nothing where they are few.
+fn fill_with<const N: usize>(
     script: &[u8],
     characters: &[u8],
     nodes: &mut [u32],
     attributes: &mut [u32],
     text: &mut [u8],
-) -> Built
-    requires { Rooted script.now characters.now (tree_of nodes.old attributes.old text.old root_alone) }
-    ensures { result_of characters.now nodes.new attributes.new text.new result
+) -> Result<Counts, Refusal>
+    requires size { N ≤ 32768 }
+    requires rooted { Rooted script.now characters.now (tree_of nodes.old attributes.old text.old root_alone) }
+    ensures { result_of characters.now nodes.new attributes.new text.new (built_of result)
         ≡ answered characters.now (cleared_as nodes.old attributes.old text.old)
         (with_repairs characters.now (events script.now characters.now)
         (then (parsed (plain characters.now) (events script.now characters.now)
         (tree_of nodes.old attributes.old text.old root_alone)) tested)) }
 {
-    let mut slots: [u16; 1] = [0; 1];
+    let mut slots: [u16; N] = [0; N];
     memo::fill::fill(script, characters, &mut slots);
     fill_by(script, characters, &slots, nodes, attributes, text)
 }
 
-// What is still to do behind the root: the table of ids of a small drawing, and the rest by it.
-fn fill_small(
-    script: &[u8],
-    characters: &[u8],
-    nodes: &mut [u32],
-    attributes: &mut [u32],
-    text: &mut [u8],
-) -> Built
-    requires { Rooted script.now characters.now (tree_of nodes.old attributes.old text.old root_alone) }
-    ensures { result_of characters.now nodes.new attributes.new text.new result
-        ≡ answered characters.now (cleared_as nodes.old attributes.old text.old)
-        (with_repairs characters.now (events script.now characters.now)
-        (then (parsed (plain characters.now) (events script.now characters.now)
-        (tree_of nodes.old attributes.old text.old root_alone)) tested)) }
-{
-    let mut slots: [u16; 2048] = [0; 2048];
-    memo::fill::fill(script, characters, &mut slots);
-    fill_by(script, characters, &slots, nodes, attributes, text)
-}
-
-// The same of any drawing.
-fn fill_large(
-    script: &[u8],
-    characters: &[u8],
-    nodes: &mut [u32],
-    attributes: &mut [u32],
-    text: &mut [u8],
-) -> Built
-    requires { Rooted script.now characters.now (tree_of nodes.old attributes.old text.old root_alone) }
-    ensures { result_of characters.now nodes.new attributes.new text.new result
-        ≡ answered characters.now (cleared_as nodes.old attributes.old text.old)
-        (with_repairs characters.now (events script.now characters.now)
-        (then (parsed (plain characters.now) (events script.now characters.now)
-        (tree_of nodes.old attributes.old text.old root_alone)) tested)) }
-{
-    let mut slots: [u16; 32768] = [0; 32768];
-    memo::fill::fill(script, characters, &mut slots);
-    fill_by(script, characters, &slots, nodes, attributes, text)
-}
-
-// What is still to do behind the root.
+// What is still to do behind the root: no link is followed by an id, or few, or any number.
 fn fill(
     script: &[u8],
     characters: &[u8],
     nodes: &mut [u32],
     attributes: &mut [u32],
     text: &mut [u8],
-) -> Built
+) -> Result<Counts, Refusal>
     requires { Rooted script.now characters.now (tree_of nodes.old attributes.old text.old root_alone) }
-    ensures { result_of characters.now nodes.new attributes.new text.new result
+    ensures { result_of characters.now nodes.new attributes.new text.new (built_of result)
         ≡ answered characters.now (cleared_as nodes.old attributes.old text.old)
         (with_repairs characters.now (events script.now characters.now)
         (then (parsed (plain characters.now) (events script.now characters.now)
         (tree_of nodes.old attributes.old text.old root_alone)) tested)) }
 {
     if !may_link(script) {
-        return fill_alone(script, characters, nodes, attributes, text);
+        return fill_with::<1>(script, characters, nodes, attributes, text);
     }
     if script.len() < 16384 {
-        return fill_small(script, characters, nodes, attributes, text);
+        return fill_with::<2048>(script, characters, nodes, attributes, text);
     }
-    fill_large(script, characters, nodes, attributes, text)
+    fill_with::<32768>(script, characters, nodes, attributes, text)
 }
 
 // The build of a drawing that check takes.
@@ -171,15 +135,15 @@ pub fn build_checked(
     nodes: &mut [u32],
     attributes: &mut [u32],
     text: &mut [u8],
-) -> Built
+) -> Result<Counts, Refusal>
     requires { check script.now characters.now ≡ 0 }
-    ensures { result_of characters.now nodes.new attributes.new text.new result
+    ensures { result_of characters.now nodes.new attributes.new text.new (built_of result)
         ≡ build script.now characters.now (length nodes.old) (length attributes.old)
         (length text.old) }
 {
     clear(nodes, attributes, text);
     if node_room(nodes) == 0 {
-        return refusal(22);
+        return Err(Refusal::NodesFull);
     }
     put_root(nodes);
     fill(script, characters, nodes, attributes, text)
@@ -192,15 +156,13 @@ pub fn build(
     nodes: &mut [u32],
     attributes: &mut [u32],
     text: &mut [u8],
-) -> Built
-    ensures { result_of characters.now nodes.new attributes.new text.new result
+) -> Result<Counts, Refusal>
+    ensures { result_of characters.now nodes.new attributes.new text.new (built_of result)
         ≡ build script.now characters.now (length nodes.old) (length attributes.old)
         (length text.old) }
 {
-    let k = check(script, characters);
-    let is_refused = k != 0;
-    if is_refused {
-        return refuse(nodes, attributes, text, k, true);
+    match check(script, characters) {
+        Ok(()) => build_checked(script, characters, nodes, attributes, text),
+        Err(refusal) => refuse(nodes, attributes, text, refusal, true),
     }
-    build_checked(script, characters, nodes, attributes, text)
 }

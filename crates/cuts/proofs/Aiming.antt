@@ -1,9 +1,10 @@
 -- What a pass aims at. Assumes nothing.
 use mathlib.Core.Path.{◌≡◌, refl, ap, ◌∙◌}
+use mathlib.Core.Bool.{true, false}
 use mathlib.Core.List.{List}
-use Prim.Native.Nat.{ℕ, ◌+◌, ◌<◌, ◌≤◌}
+use lib.Dec.{leb}
+use Prim.Native.Nat.{ℕ, ◌+◌, ◌<◌}
 use native.Mathlib.Omega.{arith}
-use borrow.Author.Tests.{eq-eqb, ne_eqb, le-leb, lt-leb}
 use Rattle.model.specs.AId
 use Rattle.model.specs.Tables.{Tree, entry_at, attribute_id, last_with_id, element_by_id}
 use Rattle.model.specs.Repair.{element_id}
@@ -12,6 +13,7 @@ use Rattle.tree.specs.Lent.{read_of}
 use Rattle.tree.proofs.Alike.{id_same, last-same}
 use Rattle.tree.proofs.Facts.{readable}
 use Rattle.leads.specs.Links.{KnownIn}
+use Rattle.tree.proofs.Entries.{taken}
 use Rattle.cuts.specs.Seen.{key_of}
 use Rattle.cuts.proofs.Writing.{id-seen}
 
@@ -35,20 +37,20 @@ module _ (chars : List ℕ) (t : Tree) (k i : ℕ) where
   abbrev found : ℕ
   found = last_with_id chars (read_of t.nodes t.attributes) (element_id chars (read_of t.nodes t.attributes) i) t.node_count
 
-  module _ (h : 2 < k) (j : ℕ) (e : j ≡ attribute_id (read_of t.nodes t.attributes) i AId.Id) where
-    pub key-absent : j ≡ 0 → 0 ≡ key_of chars k t i
+  module _ (h : leb k 2 ≡ false) where
+    pub key-absent : 0 ≡ attribute_id (read_of t.nodes t.attributes) i AId.Id → 0 ≡ key_of chars k t i
     unfolding key_of
-    key-absent z = rw (lt-leb k 2 h, ← id_same t i AId.Id, ← e, eq-eqb j 0 z) refl
+    key-absent e = rw (h, ← id_same t i AId.Id, ← e) refl
 
-    pub key_here : (j ≡ 0 → ⊥) → (n : ℕ) → n ≡ i → n + 2 ≡ key_of chars k t i
+    pub key_here : (j : ℕ) → j + 1 ≡ attribute_id (read_of t.nodes t.attributes) i AId.Id → i + 2 ≡ key_of chars k t i
     unfolding key_of
-    key_here z n d = rw (lt-leb k 2 h, ← id_same t i AId.Id, ← e, ne_eqb j 0 z, d) refl
+    key_here j e = rw (h, ← id_same t i AId.Id, taken j e) refl
 
-  module _ (h : k ≤ 2) (w : ℕ) (e : w ≡ found) where
-    pub key-empty : w ≡ 0 → 1 ≡ key_of chars k t i
+  module _ (h : leb k 2 ≡ true) where
+    pub key-empty : 0 ≡ found → 1 ≡ key_of chars k t i
     unfolding key_of
-    key-empty z = rw (le-leb k 2 h, ← last-seen chars t i, ← e, eq-eqb w 0 z) refl
+    key-empty e = rw (h, ← last-seen chars t i, ← e) refl
 
-    pub key-some : (w ≡ 0 → ⊥) → (n : ℕ) → n ≡ w → n + 1 ≡ key_of chars k t i
+    pub key-some : (w : ℕ) → w + 1 ≡ found → w + 2 ≡ key_of chars k t i
     unfolding key_of
-    key-some z n d = rw (le-leb k 2 h, ← last-seen chars t i, ← e, ne_eqb w 0 z, d) refl
+    key-some w e = rw (h, ← last-seen chars t i, taken w e) (omega (arith, e))

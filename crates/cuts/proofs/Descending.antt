@@ -5,8 +5,8 @@ use mathlib.Core.List.{List, [], ◌∷◌}
 use Prim.Native.Nat.{ℕ, zero, suc, ◌+◌, ◌-◌, ◌<◌, ◌≤◌}
 use native.Mathlib.Omega.{arith}
 use native.Mathlib.Decide.{ℕ_discrete, dec_lt}
-use borrow.Author.Tests.{eq-eqb, ne_eqb, le-leb, lt-leb, lt-ltb, le-ltb}
-use lib.Dec.{eqb, leb, ltb}
+use borrow.Author.Tests.{eq-eqb, ne_eqb, le-leb, lt-leb}
+use lib.Dec.{eqb, leb}
 use Rattle.model.specs.Base.{pick}
 use Rattle.model.specs.Tables.{Tree, word, parent_of, attribute_id}
 use Rattle.model.specs.Repair.{up_from, below_from, descendants}
@@ -14,6 +14,8 @@ use Rattle.tree.specs.declared.Counts.{Counts}
 use Rattle.tree.specs.Lent.{read_of}
 use Rattle.tree.proofs.Alike.{id_same}
 use Rattle.targets.specs.Targets.{seen_of}
+use Rattle.std.proofs.Common.{Option, Some, None, IfSome}
+use Rattle.std.specs.Option.{is_some, unwrap_or}
 use Rattle.cuts.specs.Seen.{any_with, has_links, Range}
 
 -- The nodes from i on, up to n, where there is one.
@@ -57,6 +59,11 @@ module _ (ns : List ℕ) (n i j : ℕ) (p : Passed ns n i j) where
       go : (y : ℕ) → i < y → y < j + 1 → Dec (y ≡ j) → i < word ns y 1
       go y a b (yes e) = rw e w
       go y a b (no e) = p.under y a (omega arith)
+
+  -- On behind a node, or behind what stands below it where that is known.
+  pub passed-on : j < n → i < word ns j 1 → (o : Option ℕ) → IfSome o (λ end. Range ns n j end) → Passed ns n i (unwrap_or o (j + 1))
+  passed-on h w (Some end) r = passed-range w end r
+  passed-on h w None r = passed-more h w
 
   -- It is not.
   pub passed-stop : word ns j 1 ≤ i → Range ns n i j
@@ -109,20 +116,6 @@ pub record Without (t : Tree) (a i end m : ℕ) : Type 0 where
   pub high : m ≤ end
   pub none : (x : ℕ) → i ≤ x → x < m → attribute_id t x a ≡ 0
 
-pub without-first : (t : Tree) (a i end : ℕ) → i ≤ end → Without t a i end i
-without-first t a i end h = record { low = omega arith; high = h; none = λ x l g. absurd (omega arith) }
-
-pub without_more : (t : Tree) (a i end m : ℕ) → Without t a i end m → m < end → attribute_id t m a ≡ 0 → Without t a i end (m + 1)
-without_more t a i end m w l e = record {
-  low = omega (arith, w.low);
-  high = omega arith;
-  none = λ x p q. go x p q (ℕ_discrete x m);
-}
-  where
-    go : (x : ℕ) → i ≤ x → x < m + 1 → Dec (x ≡ m) → attribute_id t x a ≡ 0
-    go x p q (yes d) = ap (λ (y : ℕ). attribute_id t y a) d ∙ e
-    go x p q (no d) = w.none x p (omega arith)
-
 -- LINKS BELOW AN ELEMENT
 
 with_none : (t : Tree) (a n i : ℕ) → ((x : ℕ) → i ≤ x → x < i + n → attribute_id t x a ≡ 0) → any_with t a (up_from i n) ≡ false
@@ -147,19 +140,15 @@ with-some t a (suc n) i x l m h = go (ℕ_discrete (attribute_id t i a) 0) (λ d
         later (no d) = omega arith
 
 -- What was found by a search for the first one.
-pub links-found : (ns es : List ℕ) (c : Counts) (a i end r : ℕ) → Range ns c.nodes i end → (i ≤ r) × (r ≤ end)
-    → ((m : ℕ) → i ≤ m → m < r → attribute_id (read_of ns es) m a ≡ 0) → (r < end → attribute_id (read_of ns es) r a ≡ 0 → ⊥)
-    → ltb r end ≡ has_links (seen_of ns es c) a i
+pub links-found : (ns es : List ℕ) (c : Counts) (a i end : ℕ) (o : Option ℕ) → Range ns c.nodes i end
+    → IfSome o (λ m. (i ≤ m) × (m < end)) → ((m : ℕ) → i ≤ m → m < unwrap_or o end → attribute_id (read_of ns es) m a ≡ 0)
+    → IfSome o (λ m. attribute_id (read_of ns es) m a ≡ 0 → ⊥) → is_some o ≡ has_links (seen_of ns es c) a i
 unfolding has_links
-links-found ns es c a i end r d b none some = go (dec_lt r end) ∙ sym (ap (any_with t a) (range_same t i end d))
-  where
-    t : Tree
-    t = seen_of ns es c
-
-    go : Dec (r < end) → ltb r end ≡ any_with t a (up_from i (end - i))
-    go (yes h) =
-        lt-ltb r end h
-        ∙ sym (with-some t a (end - i) i r b.0 (omega (arith, b.1)) (λ z. some h (id_same t r a ∙ z)))
-    go (no h) =
-        le-ltb r end (omega arith)
-        ∙ sym (with_none t a (end - i) i (λ x p q. sym (id_same t x a) ∙ none x p (omega (arith, d.low, b.1))))
+links-found ns es c a i end (Some r) d b none some =
+    let t = seen_of ns es c in
+    sym (ap (any_with t a) (range_same t i end d)
+    ∙ with-some t a (end - i) i r b.0 (omega (arith, b.1)) (λ z. some (id_same t r a ∙ z)))
+links-found ns es c a i end None d b none some =
+    let t = seen_of ns es c in
+    sym (ap (any_with t a) (range_same t i end d)
+    ∙ with_none t a (end - i) i (λ x p q. sym (id_same t x a) ∙ none x p (omega (arith, d.low))))

@@ -3,6 +3,8 @@ use mathlib.Core.Path.{◌≡◌, refl, sym, ap, ◌∙◌, subst}
 use mathlib.Core.Bool.{Bool, true, false, true≢false}
 use mathlib.Core.List.{List, [], ◌∷◌}
 use mathlib.Core.Option.{Option, none, some}
+use Rattle.std.proofs.Common as common
+use Rattle.std.proofs.Common.{Some, None}
 use Prim.Native.Nat.{ℕ, zero, suc, ◌+◌, ◌-◌, ◌<◌, ◌≤◌}
 use native.Mathlib.Omega.{arith}
 use native.Mathlib.Decide.{ℕ_discrete}
@@ -26,6 +28,8 @@ use Rattle.leads.specs.Links.{values_of}
 use Rattle.targets.specs.Targets.{seen_of, pass_kind, mark_for, mark_of}
 use Rattle.targets.proofs.Passes.{no-id}
 use Rattle.targets.proofs.Marks.{mark-target}
+use Rattle.targets.specs.Pass.{pass_number}
+use Rattle.places.specs.declared.marks.Marks.{Marks}
 use Rattle.cuts.specs.declared.Aim.{Aim}
 use Rattle.cuts.specs.Seen.{any_with, has_links, Cuttable, key_of, Aimed, cut_back, cut_nodes, cut_pairs}
 use Rattle.cuts.specs.Seen.{Range, Quiet, Covered, Known, Settled}
@@ -67,33 +71,38 @@ module _ (script chars ns es : List ℕ) (c : Counts) (aim : Aim) (w : Aimed cha
   t = seen_of ns es c
 
   -- Where its link leads, by its mark.
-  pub target-nowhere : (n : ℕ) → n ≡ mark_of chars values aim.pass t m → n < 2 → target_of chars values aim.pass t m ≡ 0
-  target-nowhere n e l = mark-target chars values aim.pass w.first w.last t m ∙ rw (← e, lt-leb 2 n l) refl
+  pub target-nowhere : (n : ℕ) → n ≡ mark_of chars values (pass_number aim.pass) t m → n < 2 → target_of chars values
+      (pass_number aim.pass) t m ≡ 0
+  target-nowhere n e l = mark-target chars values (pass_number aim.pass) w.first w.last t m ∙ rw (← e, lt-leb 2 n l) refl
 
-  pub target-on : (n : ℕ) → n ≡ mark_of chars values aim.pass t m → 2 ≤ n → n - 2 + 1 ≡ target_of chars values aim.pass t m
+  pub target-on : (n : ℕ) → n ≡ mark_of chars values (pass_number aim.pass) t m → 2 ≤ n → n - 2 + 1 ≡ target_of chars values
+      (pass_number aim.pass) t m
   target-on n e l =
       let z : n - 2 + 1 ≡ n - 1 = omega arith in
-      z ∙ sym (mark-target chars values aim.pass w.first w.last t m ∙ rw (← e, le-leb 2 n l) refl)
+      z ∙ sym (mark-target chars values (pass_number aim.pass) w.first w.last t m ∙ rw (← e, le-leb 2 n l) refl)
 
   -- It leads to a node of the tree.
-  pub target-inside : (n : ℕ) → n ≡ mark_of chars values aim.pass t m → 2 ≤ n → n - 2 < c.nodes
-  target-inside n e l = omega (arith, mark-low chars values aim.pass t m, e)
+  pub target-inside : (n : ℕ) → n ≡ mark_of chars values (pass_number aim.pass) t m → 2 ≤ n → n - 2 < c.nodes
+  target-inside n e l = omega (arith, mark-low chars values (pass_number aim.pass) t m, e)
 
   -- What the pair leaves.
-  pub pair-back : leads_to chars values aim.pass t aim.element m ≡ true
-      → cut_back chars values aim.pass aim.element t m
-      ≡ cut_nodes chars values aim.pass t (nodes_at chars values aim.pass t aim.element m)
+  pub pair-back : leads_to chars values (pass_number aim.pass) t aim.element m ≡ true
+      → cut_back chars values (pass_number aim.pass) aim.element t m
+      ≡ cut_nodes chars values (pass_number aim.pass) t (nodes_at chars values (pass_number aim.pass) t aim.element m)
   unfolding nodes_at cuts_along applied
   pair-back e = rw e refl
 
-  pub pair-nowhere : leads_to chars values aim.pass t aim.element m ≡ false → target_of chars values aim.pass t m ≡ 0
-      → t ≡ cut_nodes chars values aim.pass t (nodes_at chars values aim.pass t aim.element m)
+  pub pair-nowhere : leads_to chars values (pass_number aim.pass) t aim.element m ≡ false → target_of chars values
+      (pass_number aim.pass) t m ≡ 0
+      → t ≡ cut_nodes chars values (pass_number aim.pass) t (nodes_at chars values (pass_number aim.pass) t aim.element m)
   unfolding nodes_at cuts_along applied
   pair-nowhere e z = rw (e, z) refl
 
-  pub pair-below : leads_to chars values aim.pass t aim.element m ≡ false → (n : ℕ) → n + 1 ≡ target_of chars values aim.pass t m
-      → cut_nodes chars values aim.pass t (passing (leads_to chars values aim.pass t aim.element) (descendants t n))
-      ≡ cut_nodes chars values aim.pass t (nodes_at chars values aim.pass t aim.element m)
+  pub pair-below : leads_to chars values (pass_number aim.pass) t aim.element m ≡ false → (n : ℕ) → n + 1 ≡ target_of chars values
+      (pass_number aim.pass) t m
+      → cut_nodes chars values (pass_number aim.pass) t (passing (leads_to chars values (pass_number aim.pass) t aim.element)
+      (descendants t n))
+      ≡ cut_nodes chars values (pass_number aim.pass) t (nodes_at chars values (pass_number aim.pass) t aim.element m)
   unfolding nodes_at
   pair-below e n q = let z : n + 1 - 1 ≡ n = omega arith in rw (e, ← q, ne_eqb (n + 1) 0 (λ o. omega arith), z) refl
 
@@ -206,56 +215,54 @@ unled-nodes chars values k f l t i h j = rw (never j) (go (eqb (target_of chars 
 -- FROM ONE ELEMENT TO THE NEXT
 
 -- Whether a node leads to an element that is aimed at is told by the key.
-leads-key : (chars : List ℕ) (values : List Value) (k : ℕ) (t : Tree) (aim : Aim) → Aimed chars t aim → aim.pass ≡ k → (m : ℕ)
+leads-key : (chars : List ℕ) (values : List Value) (k : ℕ) (t : Tree) (aim : Aim) → Aimed chars t aim → (pass_number aim.pass) ≡ k → (m : ℕ)
     → leads_to chars values k t aim.element m ≡ eqb (mark_of chars values k t m) aim.key
 leads-key chars values k t aim w p m =
     subst (λ (j : ℕ). leads_to chars values j t aim.element m ≡ eqb (mark_of chars values j t m) aim.key) p
     (leads-marked chars values t aim w m)
 
 -- The words for an element that is aimed at, by what is known of one before it: the same links lead to two with the same key.
-pub settled-quiet : (chars : List ℕ) (values : List Value) (k : ℕ) (t : Tree) (known aim : Aim) (ws ws' : List ℕ) → Aimed chars t aim
-    → aim.pass ≡ k → Known chars values k t known ws → Settled t.node_count known aim ws ws' → Quiet chars values k t aim.element ws'
-settled-quiet chars values k t known aim ws ws' w p g s = go (ℕ_discrete known.key aim.key)
+pub settled-quiet : (chars : List ℕ) (values : List Value) (k : ℕ) (t : Tree) (known : common.Option Aim) (aim : Aim) (ws ws' : List ℕ)
+    → Aimed chars t aim → pass_number aim.pass ≡ k → Known chars values k t known ws → Settled t.node_count known aim ws ws'
+    → Quiet chars values k t aim.element ws'
+settled-quiet chars values k t None aim ws ws' w p g s = quiet-first chars values k t aim.element ws' (s.none refl)
+settled-quiet chars values k t (Some known) aim ws ws' w p g s = go (ℕ_discrete known.key aim.key)
   where
     go : Dec (known.key ≡ aim.key) → Quiet chars values k t aim.element ws'
-    go (no d) = quiet-first chars values k t aim.element ws' (s.none d)
+    go (no d) = quiet-first chars values k t aim.element ws' (s.none (ne_eqb known.key aim.key d))
     go (yes d) =
-        let some : known.key ≡ 0 → ⊥ = λ z. w.some (sym d ∙ z) in
-        let q = g.quiet some in
-        subst (Quiet chars values k t aim.element) (sym (s.same d)) (record {
-          ranges = q.ranges;
+        subst (Quiet chars values k t aim.element) (sym (s.same (eq-eqb known.key aim.key d))) (record {
+          ranges = g.quiet.ranges;
           silent = λ b l m. record {
             none = λ x y z. leads-key chars values k t aim w p x ∙ ap (eqb (mark_of chars values k t x)) (sym d)
-                ∙ sym (leads-key chars values k t known (g.aimed some) g.pass x) ∙ (q.silent b l m).none x y z;
+                ∙ sym (leads-key chars values k t known g.aimed g.pass x) ∙ (g.quiet.silent b l m).none x y z;
           };
         })
 
 -- The words hold for the element that was aimed at last.
 pub known-aim : (chars : List ℕ) (values : List Value) (t : Tree) (aim : Aim) (ws : List ℕ) → Aimed chars t aim
-    → Quiet chars values aim.pass t aim.element ws → Known chars values aim.pass t aim ws
-known-aim chars vs t aim ws w q = record { pass = refl; aimed = λ z. w; quiet = λ z. q }
-
--- Nothing is known.
-pub known-none : (chars : List ℕ) (values : List Value) (k : ℕ) (t : Tree) (aim : Aim) (ws : List ℕ) → aim.pass ≡ k → aim.key ≡ 0
-    → Known chars values k t aim ws
-known-none chars vs k t aim ws p z = record { pass = p; aimed = λ o. absurd (o z); quiet = λ o. absurd (o z) }
+    → Quiet chars values (pass_number aim.pass) t aim.element ws → Known chars values (pass_number aim.pass) t (Some aim) ws
+known-aim chars vs t aim ws w q = record { pass = refl; aimed = w; quiet = q }
 
 -- THE LOOP
 
 -- In the middle of the nodes from `first` up to the node `end`: j is next, the words tell ranges of nodes that do not lead back, and
 -- what is still to do leaves what all of it leaves.
-pub record Pairs (script chars marks heads ns : List ℕ) (c : Counts) (aim : Aim) (first end : ℕ) (es₀ es ws : List ℕ) (j : ℕ) : Type 0 where
-  pub cuttable : Cuttable script chars marks heads ns es c aim.pass
+pub record Pairs (script chars : List ℕ) (marks : Marks) (heads ns : List ℕ) (c : Counts) (aim : Aim) (first end : ℕ)
+    (es₀ es ws : List ℕ) (j : ℕ) : Type 0 where
+  pub cuttable : Cuttable script chars marks heads ns es c (pass_number aim.pass)
   pub aimed : Aimed chars (seen_of ns es c) aim
   pub inside : end ≤ c.nodes
   pub long : length es ≡ length es₀
-  pub quiet : Quiet chars (values_of script chars) aim.pass (seen_of ns es c) aim.element ws
-  pub same : cut_pairs chars (values_of script chars) aim.pass (seen_of ns es c) (with_each aim.element (up_from j (end - j)) [])
-      ≡ cut_pairs chars (values_of script chars) aim.pass (seen_of ns es₀ c) (with_each aim.element (up_from first (end - first)) [])
+  pub quiet : Quiet chars (values_of script chars) (pass_number aim.pass) (seen_of ns es c) aim.element ws
+  pub same : cut_pairs chars (values_of script chars) (pass_number aim.pass) (seen_of ns es c) (with_each aim.element (up_from j
+      (end - j)) [])
+      ≡ cut_pairs chars (values_of script chars) (pass_number aim.pass) (seen_of ns es₀ c) (with_each aim.element (up_from first
+      (end - first)) [])
 
-pub pairs_start : (script chars marks heads ns : List ℕ) (c : Counts) (aim : Aim) (first end : ℕ) (es ws : List ℕ)
-    → Cuttable script chars marks heads ns es c aim.pass → Aimed chars (seen_of ns es c) aim → end ≤ c.nodes
-    → Quiet chars (values_of script chars) aim.pass (seen_of ns es c) aim.element ws
+pub pairs_start : (script chars : List ℕ) (marks : Marks) (heads ns : List ℕ) (c : Counts) (aim : Aim) (first end : ℕ) (es ws : List ℕ)
+    → Cuttable script chars marks heads ns es c (pass_number aim.pass) → Aimed chars (seen_of ns es c) aim → end ≤ c.nodes
+    → Quiet chars (values_of script chars) (pass_number aim.pass) (seen_of ns es c) aim.element ws
     → Pairs script chars marks heads ns c aim first end es es ws first
 pairs_start script chars marks heads ns c aim first end es ws g a h z = record {
   cuttable = g;
@@ -266,40 +273,42 @@ pairs_start script chars marks heads ns c aim first end es ws g a h z = record {
   same = refl;
 }
 
-module _ (script chars marks heads ns : List ℕ) (c : Counts) (aim : Aim) (first end : ℕ) (es₀ es ws : List ℕ) (j : ℕ)
+module _ (script chars : List ℕ) (marks : Marks) (heads ns : List ℕ) (c : Counts) (aim : Aim) (first end : ℕ) (es₀ es ws : List ℕ) (j : ℕ)
     (q : Pairs script chars marks heads ns c aim first end es₀ es ws j) where
   pub pairs-turn : j < end → (es' ws' : List ℕ)
-      → seen_of ns es' c ≡ cut_nodes chars (values_of script chars) aim.pass (seen_of ns es c)
-      (nodes_at chars (values_of script chars) aim.pass (seen_of ns es c) aim.element j)
-      → Quiet chars (values_of script chars) aim.pass (seen_of ns es' c) aim.element ws'
+      → seen_of ns es' c ≡ cut_nodes chars (values_of script chars) (pass_number aim.pass) (seen_of ns es c)
+      (nodes_at chars (values_of script chars) (pass_number aim.pass) (seen_of ns es c) aim.element j)
+      → Quiet chars (values_of script chars) (pass_number aim.pass) (seen_of ns es' c) aim.element ws'
       → Pairs script chars marks heads ns c aim first end es₀ es' ws' (j + 1)
   pairs-turn l es' ws' e still =
       let t : Tree = seen_of ns es c in
       let vs : List Value = values_of script chars in
       let bare = values-bare (length chars) (events script chars) (all-inside script chars q.cuttable.mendable.drawn.checked) in
-      let other = no-id aim.pass in
-      let ms : List ℕ = nodes_at chars vs aim.pass t aim.element j in
-      let cs : List Cut = cuts_along chars vs aim.pass t ms in
+      let other = no-id (pass_number aim.pass) in
+      let ms : List ℕ = nodes_at chars vs (pass_number aim.pass) t aim.element j in
+      let cs : List Cut = cuts_along chars vs (pass_number aim.pass) t ms in
       record {
-        cuttable = cuttable-on script chars marks heads ns es c cs es' e aim.pass q.aimed.first q.aimed.last q.cuttable;
+        cuttable = cuttable-on script chars marks heads ns es c cs es' e (pass_number aim.pass) q.aimed.first q.aimed.last q.cuttable;
         aimed = subst (λ (u : Tree). Aimed chars u aim) (sym e)
-            (nodes-aimed (length chars) chars vs bare aim.pass other aim ms t q.cuttable.mendable.tidy q.aimed);
+            (nodes-aimed (length chars) chars vs bare (pass_number aim.pass) other aim ms t q.cuttable.mendable.tidy q.aimed);
         inside = q.inside;
         long = long-on script chars marks heads ns es c cs es' e ∙ q.long;
         quiet = still;
         same =
-            ap (λ (u : Tree). cut_pairs chars vs aim.pass u (with_each aim.element (up_from (j + 1) (end - (j + 1))) [])) e
-            ∙ sym (pair-first chars vs aim.pass aim.element t j (up_from (j + 1) (end - (j + 1))) [])
-            ∙ ap (λ (xs : List ℕ). cut_pairs chars vs aim.pass t (with_each aim.element xs [])) (sym (up_step j end l))
+            ap (λ (u : Tree). cut_pairs chars vs (pass_number aim.pass) u (with_each aim.element (up_from (j + 1) (end - (j + 1))) [])) e
+            ∙ sym (pair-first chars vs (pass_number aim.pass) aim.element t j (up_from (j + 1) (end - (j + 1))) [])
+            ∙ ap (λ (xs : List ℕ). cut_pairs chars vs (pass_number aim.pass) t (with_each aim.element xs [])) (sym (up_step j end l))
             ∙ q.same;
       }
 
   pub pairs-done : end ≤ j
       → seen_of ns es c
-      ≡ cut_pairs chars (values_of script chars) aim.pass (seen_of ns es₀ c) (with_each aim.element (up_from first (end - first)) [])
+      ≡ cut_pairs chars (values_of script chars) (pass_number aim.pass) (seen_of ns es₀ c) (with_each aim.element (up_from first
+      (end - first)) [])
   unfolding with_each going_on applied
   pairs-done l =
-      sym (ap (λ (xs : List ℕ). cut_pairs chars (values_of script chars) aim.pass (seen_of ns es c) (with_each aim.element xs []))
+      sym (ap (λ (xs : List ℕ). cut_pairs chars (values_of script chars) (pass_number aim.pass) (seen_of ns es c)
+      (with_each aim.element xs []))
       (up_none j end l))
       ∙ q.same
 
@@ -341,22 +350,25 @@ module _ (script chars ns es : List ℕ) (c : Counts) (k i end first n : ℕ) (d
 
 -- WHAT A TARGET AND A PAIR LEAVE
 
-module _ (script chars marks heads ns es : List ℕ) (c : Counts) (aim : Aim) (g : Cuttable script chars marks heads ns es c aim.pass)
-    (ws : List ℕ) (q : Quiet chars (values_of script chars) aim.pass (seen_of ns es c) aim.element ws) where
+module _ (script chars : List ℕ) (marks : Marks) (heads ns es : List ℕ) (c : Counts) (aim : Aim)
+    (g : Cuttable script chars marks heads ns es c (pass_number aim.pass))
+    (ws : List ℕ) (q : Quiet chars (values_of script chars) (pass_number aim.pass) (seen_of ns es c) aim.element ws) where
   -- A node that is covered: nothing is cut.
   pub covered-kept : (w : ℕ) → w < c.nodes → Covered ws w
-      → seen_of ns es c ≡ cut_nodes chars (values_of script chars) aim.pass (seen_of ns es c)
-      (passing (leads_to chars (values_of script chars) aim.pass (seen_of ns es c) aim.element) (descendants (seen_of ns es c) w))
+      → seen_of ns es c ≡ cut_nodes chars (values_of script chars) (pass_number aim.pass) (seen_of ns es c)
+      (passing (leads_to chars (values_of script chars) (pass_number aim.pass) (seen_of ns es c) aim.element) (descendants
+      (seen_of ns es c) w))
   unfolding cuts_along applied
   covered-kept w l h =
-      let e = covered_none chars (values_of script chars) aim.pass (seen_of ns es c) aim.element ws q w l h in
+      let e = covered_none chars (values_of script chars) (pass_number aim.pass) (seen_of ns es c) aim.element ws q w l h in
       rw e refl
 
   -- What is remembered is still behind cuts.
-  pub quiet-on : (ms es' : List ℕ) → seen_of ns es' c ≡ cut_nodes chars (values_of script chars) aim.pass (seen_of ns es c) ms
-      → Quiet chars (values_of script chars) aim.pass (seen_of ns es' c) aim.element ws
+  pub quiet-on : (ms es' : List ℕ) → seen_of ns es' c ≡ cut_nodes chars (values_of script chars) (pass_number aim.pass) (seen_of ns es c) ms
+      → Quiet chars (values_of script chars) (pass_number aim.pass) (seen_of ns es' c) aim.element ws
   quiet-on ms es' e =
       let bare = values-bare (length chars) (events script chars) (all-inside script chars g.mendable.drawn.checked) in
-      subst (λ (u : Tree). Quiet chars (values_of script chars) aim.pass u aim.element ws) (sym e)
-      (nodes-quiet (length chars) chars (values_of script chars) bare aim.pass aim.element (no-id aim.pass) ms (seen_of ns es c)
+      subst (λ (u : Tree). Quiet chars (values_of script chars) (pass_number aim.pass) u aim.element ws) (sym e)
+      (nodes-quiet (length chars) chars (values_of script chars) bare (pass_number aim.pass) aim.element (no-id
+      (pass_number aim.pass)) ms (seen_of ns es c)
       g.mendable.tidy ws q)

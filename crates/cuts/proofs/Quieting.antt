@@ -5,20 +5,20 @@ use mathlib.Core.Logic.{◌⊎◌, inl, inr}
 use mathlib.Core.List.{List, [], ◌∷◌}
 use Prim.Native.Nat.{ℕ, zero, suc, ◌+◌, ◌-◌, ◌*◌, ◌/◌, ◌%◌, ◌<◌, ◌≤◌}
 use native.Mathlib.Omega.{arith}
-use native.Mathlib.Decide.{ℕ_discrete, dec_lt}
+use native.Mathlib.Decide.{dec_lt}
 use borrow.Author.Tests.{lt-leb}
 use lib.Dec.{eqb, leb}
-use lib.ListN.{get_or, set}
+use lib.ListN.{get_or}
 use Rattle.model.specs.Base.{pick}
 use Rattle.model.specs.AId
 use Rattle.model.specs.Drawing.{Value, readings_of}
 use Rattle.model.specs.Tables.{Tree, word, parent_of, attribute_id, set_none}
 use Rattle.model.specs.Repair.{up_from, below_from, descendants, cut_name, cut_at, apply_cut, applied}
 use Rattle.model.specs.Theorems.Kept.{Tidy}
-use Rattle.model.proofs.Theorems.Agree.{set_cases}
 use Rattle.model.specs.Theorems.GoingOn.{passing, leads_to, cuts_along}
+use Rattle.std.proofs.Common.{Option, Some, None, IfSome}
 use Rattle.cuts.specs.Seen.{cut_back, cut_nodes, Range, told_first, told_end, Ranges, Silent, Quiet}
-use Rattle.cuts.specs.Seen.{Covered, Remembered, Told, Hushed, Spread}
+use Rattle.cuts.specs.Seen.{Covered, Remembered, Told, Hushed}
 use Rattle.cuts.proofs.Turning.{cut-tidy, cut-leads}
 
 -- WHAT IS SILENT GIVES NOTHING
@@ -55,6 +55,11 @@ remembered-range ns n ws g m r l h c =
     let e : told_first ws (m / 256) ≡ m = omega (arith, c.own) in
     subst (λ (q : ℕ). Range ns n q r) e (subst (Range ns n (told_first ws (m / 256))) (sym c.last)
     (g.range (m / 256) (omega arith) c.block (λ z. omega (arith, c.last, z)) (omega (arith, c.own))))
+
+pub remembered-some : (ns : List ℕ) (n : ℕ) (ws : List ℕ) → Ranges ns n ws → (m : ℕ) → m < n → (o : Option ℕ)
+    → IfSome o (λ r. (m < r) × Remembered ws m r) → IfSome o (λ r. Range ns n m r)
+remembered-some ns n ws g m l (Some r) h = remembered-range ns n ws g m r l h.0 h.1
+remembered-some ns n ws g m l None h = tt
 
 module _ (chars : List ℕ) (values : List Value) (k : ℕ) (t : Tree) (i : ℕ) where
   -- Nothing.
@@ -153,90 +158,3 @@ module _ (size : ℕ) (chars : List ℕ) (values : List Value) (bare : readings_
   nodes-quiet [] t g ws q = q
   nodes-quiet (m ∷ ms) t g ws q =
       nodes-quiet ms (apply_cut t (cut_at t k m)) (cut-tidy size chars values bare k other t g m) ws (cut-quiet t g ws q m)
-
--- WORDS
-
-zero-set : (xs : List ℕ) (n : ℕ) → get_or (set xs n 0) n 0 ≡ 0
-zero-set [] n = refl
-zero-set (x ∷ xs) zero = refl
-zero-set (x ∷ xs) (suc n) = zero-set xs n
-
--- Zeros up to a block, and one more.
-pub record Forgotten (ws : List ℕ) (b : ℕ) : Type 0 where
-  pub zero : (x : ℕ) → x < b → get_or ws x 0 ≡ 0
-
-pub forgotten-more : (ws : List ℕ) (b : ℕ) → Forgotten ws b → Forgotten (set ws b 0) (b + 1)
-forgotten-more ws b h = record { zero = λ x l. go x l (set_cases ws b 0 x) }
-  where
-    go : (x : ℕ) → x < b + 1 → (get_or (set ws b 0) x 0 ≡ get_or ws x 0) ⊎ ((x ≡ b) × (get_or (set ws b 0) x 0 ≡ 0))
-        → get_or (set ws b 0) x 0 ≡ 0
-    go x l (inr e) = e.1
-    go x l (inl e) = at (ℕ_discrete x b)
-      where
-        at : Dec (x ≡ b) → get_or (set ws b 0) x 0 ≡ 0
-        at (no d) = e ∙ h.zero x (omega arith)
-        at (yes d) = rw d (zero-set ws b)
-
--- Words that tell last parts of a range: none, one, and some behind others.
-pub spread_none : (ws : List ℕ) (a end : ℕ) → Spread ws a end ws
-spread_none ws a end = record { words = λ x. inl refl }
-
-pub spread-one : (ws : List ℕ) (b end : ℕ) → Spread ws b end (set ws b (536870912 + end))
-spread-one ws b end = record { words = λ x. go x (set_cases ws b (536870912 + end) x) }
-  where
-    us : List ℕ
-    us = set ws b (536870912 + end)
-
-    go : (x : ℕ) → (get_or us x 0 ≡ get_or ws x 0) ⊎ ((x ≡ b) × (get_or us x 0 ≡ 536870912 + end))
-        → (get_or us x 0 ≡ get_or ws x 0) ⊎ ((b ≤ x) × (get_or us x 0 ≡ 536870912 + end))
-    go x (inl e) = inl e
-    go x (inr e) = inr (omega (arith, e.0), e.1)
-
-pub spread-more : (ws : List ℕ) (a end : ℕ) (us : List ℕ) → Spread ws a end us → (b : ℕ) → a ≤ b → (ws' : List ℕ) → Spread us b end ws'
-    → Spread ws a end ws'
-spread-more ws a end us h b l ws' k = record { words = λ x. go x (h.words x) (k.words x) }
-  where
-    go : (x : ℕ) → (get_or us x 0 ≡ get_or ws x 0) ⊎ ((a ≤ x) × (get_or us x 0 ≡ 536870912 + end))
-        → (get_or ws' x 0 ≡ get_or us x 0) ⊎ ((b ≤ x) × (get_or ws' x 0 ≡ 536870912 + end))
-        → (get_or ws' x 0 ≡ get_or ws x 0) ⊎ ((a ≤ x) × (get_or ws' x 0 ≡ 536870912 + end))
-    go x (inl e) (inl f) = inl (f ∙ e)
-    go x (inr e) (inl f) = inr (e.0, f ∙ e.1)
-    go x e (inr f) = inr (omega (arith, f.0), f.1)
-
--- A word tells another range, and those behind it last parts of that.
-pub hushed-spread : (ws : List ℕ) (b w end : ℕ) → b ≡ w / 256 → end < 2097152 → (ws' : List ℕ)
-    → Spread (set ws b (w % 256 * 2097152 + end)) (b + 1) end ws' → Hushed ws w end ws'
-hushed-spread ws b w end d l ws' h = record { words = λ x. go x (set_cases ws b (w % 256 * 2097152 + end) x) (h.words x) }
-  where
-    us : List ℕ
-    us = set ws b (w % 256 * 2097152 + end)
-
-    go : (x : ℕ) → (get_or us x 0 ≡ get_or ws x 0) ⊎ ((x ≡ b) × (get_or us x 0 ≡ w % 256 * 2097152 + end))
-        → (get_or ws' x 0 ≡ get_or us x 0) ⊎ ((b + 1 ≤ x) × (get_or ws' x 0 ≡ 536870912 + end))
-        → (get_or ws' x 0 ≡ get_or ws x 0) ⊎ Told ws' w end x
-    go x (inl e) (inl f) = inl (f ∙ e)
-    go x (inr e) (inl f) = inr (record {
-      low = omega (arith, e.0, e.1, f, d);
-      last = omega (arith, e.1, f);
-      own = λ o. omega (arith, e.0, e.1, f, d);
-    })
-    go x e (inr f) = inr (record {
-      low = omega (arith, f.0, f.1, d);
-      last = omega (arith, f.1);
-      own = λ o. absurd (omega (arith, f.1));
-    })
-
-pub hushed-none : (ws : List ℕ) (w end : ℕ) → Hushed ws w end ws
-hushed-none ws w end = record { words = λ b. inl refl }
-
--- WHAT A WORD TELLS
-
-module _ (ws : List ℕ) (m b e : ℕ) (d : b ≡ m / 256) (l : b < 4096) (g : e ≡ get_or ws b 0) where
-  there : e ≡ get_or ws (m / 256) 0
-  there = g ∙ ap (λ (x : ℕ). get_or ws x 0) d
-
-  pub covered-by : e / 2097152 % 256 ≤ m % 256 → m < e % 2097152 → Covered ws m
-  covered-by p q = record { block = omega (arith, d); low = omega (arith, there); high = omega (arith, there) }
-
-  pub remembered-by : e / 2097152 ≡ m % 256 → Remembered ws m (e % 2097152)
-  remembered-by p = record { block = omega (arith, d); own = omega (arith, there); last = ap (λ (x : ℕ). x % 2097152) there }

@@ -27,6 +27,10 @@ use Rattle.tree.proofs.Alike.{id_same}
 use Rattle.leads.specs.Links.{values_of, Stands}
 use Rattle.targets.specs.Targets.{seen_of, mark_of}
 use Rattle.targets.proofs.Marks.{mark-leads-link, mark-leads-paint}
+use Rattle.std.proofs.Common as common
+use Rattle.std.proofs.Common.{Some, None}
+use Rattle.tree.specs.Lent.{plus_one}
+use Rattle.targets.specs.Pass.{pass_number}
 use Rattle.cuts.specs.declared.Aim.{Aim}
 use Rattle.cuts.specs.Seen.{key_of, Aimed, cut_back, cut_nodes}
 use Rattle.leads.proofs.Lasting.{last-absent}
@@ -34,21 +38,23 @@ use Rattle.leads.proofs.Lasting.{last-absent}
 -- WHAT IS READ
 
 -- The entry of an id can be read.
-pub id-stands : (size : ℕ) (t : Tree) → Tidy size t → (i j : ℕ) → j ≡ attribute_id t i AId.Id → Stands size (entries_of t.attributes) j
+pub id-stands : (size : ℕ) (t : Tree) → Tidy size t → (i : ℕ) (o : common.Option ℕ) → plus_one o ≡ attribute_id t i AId.Id
+    → Stands size (entries_of t.attributes) o
 unfolding entry_at
-id-stands size t g i j e z =
-    let h = attribute-any size t g.kept g.unused i AId.Id (λ x. z (e ∙ x)) in
-    let l : j - 1 < t.attribute_count = omega (arith, e, h, z) in
-    (omega (arith, l, g.kept.fits.entries), (g.kept.entries (j - 1) l).inside)
+id-stands size t g i None e = tt
+id-stands size t g i (Some j) e =
+    let h = attribute-any size t g.kept g.unused i AId.Id (λ x. let z : j + 1 ≡ 0 = e ∙ x in omega (arith, z)) in
+    let l : j < t.attribute_count = omega (arith, e, h) in
+    (omega (arith, l, g.kept.fits.entries), (g.kept.entries j l).inside)
 
 -- Whether node m leads to the element is told by its mark.
 pub leads-marked : (chars : List ℕ) (values : List Value) (t : Tree) (aim : Aim) → Aimed chars t aim → (m : ℕ)
-    → leads_to chars values aim.pass t aim.element m ≡ eqb (mark_of chars values aim.pass t m) aim.key
+    → leads_to chars values (pass_number aim.pass) t aim.element m ≡ eqb (mark_of chars values (pass_number aim.pass) t m) aim.key
 unfolding key_of
-leads-marked chars values t aim w m = go (leb aim.pass 2) refl (λ z. w.some (w.key ∙ z))
+leads-marked chars values t aim w m = go (leb (pass_number aim.pass) 2) refl (λ z. w.some (w.key ∙ z))
   where
     k : ℕ
-    k = aim.pass
+    k = (pass_number aim.pass)
 
     i : ℕ
     i = aim.element
@@ -128,17 +134,17 @@ module _ (script chars ns es : List ℕ) (c : Counts) (aim : Aim) (w : Aimed cha
   values = values_of script chars
 
   -- Whether it leads back is what its mark says.
-  pub back-told : (n : ℕ) → n ≡ mark_of chars values aim.pass (seen_of ns es c) m
-      → leads_to chars values aim.pass (seen_of ns es c) aim.element m ≡ eqb n aim.key
+  pub back-told : (n : ℕ) → n ≡ mark_of chars values (pass_number aim.pass) (seen_of ns es c) m
+      → leads_to chars values (pass_number aim.pass) (seen_of ns es c) aim.element m ≡ eqb n aim.key
   back-told n e = leads-marked chars values (seen_of ns es c) aim w m ∙ ap (λ (x : ℕ). eqb x aim.key) (sym e)
 
-  pub back_cut : leads_to chars values aim.pass (seen_of ns es c) aim.element m ≡ true
-      → (es' : List ℕ) → es' ≡ (apply_cut (read_of ns es) (cut_at (read_of ns es) aim.pass m)).attributes
-      → seen_of ns es' c ≡ cut_back chars values aim.pass aim.element (seen_of ns es c) m
-  back_cut e es' q = cut-seen ns es c aim.pass m es' q ∙ rw e refl
+  pub back_cut : leads_to chars values (pass_number aim.pass) (seen_of ns es c) aim.element m ≡ true
+      → (es' : List ℕ) → es' ≡ (apply_cut (read_of ns es) (cut_at (read_of ns es) (pass_number aim.pass) m)).attributes
+      → seen_of ns es' c ≡ cut_back chars values (pass_number aim.pass) aim.element (seen_of ns es c) m
+  back_cut e es' q = cut-seen ns es c (pass_number aim.pass) m es' q ∙ rw e refl
 
-  pub back-kept : leads_to chars values aim.pass (seen_of ns es c) aim.element m ≡ false
-      → seen_of ns es c ≡ cut_back chars values aim.pass aim.element (seen_of ns es c) m
+  pub back-kept : leads_to chars values (pass_number aim.pass) (seen_of ns es c) aim.element m ≡ false
+      → seen_of ns es c ≡ cut_back chars values (pass_number aim.pass) aim.element (seen_of ns es c) m
   back-kept e = rw e refl
 
 module _ (chars : List ℕ) (values : List Value) (k : ℕ) where
@@ -191,7 +197,7 @@ module _ (size : ℕ) (chars : List ℕ) (values : List Value) (bare : readings_
         first = w.first;
         last = w.last;
         inside = w.inside;
-        key = w.key ∙ sym (key-kept h aim.pass aim.element);
+        key = w.key ∙ sym (key-kept h (pass_number aim.pass) aim.element);
         some = w.some;
       })
 

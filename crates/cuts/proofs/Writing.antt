@@ -26,25 +26,27 @@ use Rattle.script.specs.Step.{Fit}
 use Rattle.tree.specs.declared.Counts.{Counts}
 use Rattle.tree.specs.Lent.{read_of, entries_of}
 use Rattle.tree.proofs.Alike.{id_same}
+use Rattle.tree.proofs.Entries.{taken, one-less}
 use Rattle.ids.specs.Chains.{Indexed}
 use Rattle.ids.proofs.Chaining.{chained_same}
 use Rattle.leads.specs.Links.{values_of}
 use Rattle.targets.specs.Targets.{seen_of, Targeted}
 use Rattle.targets.proofs.Passes.{no-id}
 use Rattle.targets.proofs.Marks.{targeted-applied}
+use Rattle.places.specs.declared.marks.Marks.{Marks}
 use Rattle.cuts.specs.Seen.{Mendable, Cuttable}
 
-module _ (t : Tree) (k i j : ℕ) (e : j ≡ attribute_id t i (cut_name k)) where
+module _ (t : Tree) (k i : ℕ) where
   -- The node has no such attribute.
-  pub cut-none : j ≡ 0 → t.attributes ≡ (apply_cut t (cut_at t k i)).attributes
+  pub cut-none : 0 ≡ attribute_id t i (cut_name k) → t.attributes ≡ (apply_cut t (cut_at t k i)).attributes
   unfolding apply_cut cut_at
-  cut-none z = rw (eq-eqb (attribute_id t i (cut_name k)) 0 (sym e ∙ z)) refl
+  cut-none e = rw (sym e) refl
 
   -- It has one.
-  pub cut-some : (j ≡ 0 → ⊥) → (es : List ℕ) → es ≡ (set_none (j - 1) (entries_of t.attributes)).attributes
-      → es ≡ (apply_cut t (cut_at t k i)).attributes
+  pub cut-some : (j : ℕ) → j + 1 ≡ attribute_id t i (cut_name k) → (es : List ℕ)
+      → es ≡ (set_none j (entries_of t.attributes)).attributes → es ≡ (apply_cut t (cut_at t k i)).attributes
   unfolding apply_cut cut_at set_none
-  cut-some z es q = rw (ne_eqb (attribute_id t i (cut_name k)) 0 (λ x. z (e ∙ x)), ← e) q
+  cut-some j e es q = rw (taken j e, one-less j e) q
 
 -- CUTS ONE AFTER ANOTHER
 
@@ -115,7 +117,7 @@ unfolding element_id entry_at
 id-seen chars t i = ap (λ (j : ℕ). pick (eqb j 0) (λ u. []) (λ u. value_at_entry chars t j)) (id_same t i AId.Id)
 
 -- What is asked still holds behind cuts, and the table is as long as it was.
-module _ (script chars marks heads ns es : List ℕ) (c : Counts) (cs : List Cut) (es' : List ℕ)
+module _ (script chars : List ℕ) (marks : Marks) (heads ns es : List ℕ) (c : Counts) (cs : List Cut) (es' : List ℕ)
     (e : seen_of ns es' c ≡ applied (seen_of ns es c) cs) where
   indexed-on : Tidy (length chars) (seen_of ns es c) → Indexed chars (read_of ns es) heads c.nodes
       → Indexed chars (read_of ns es') heads c.nodes

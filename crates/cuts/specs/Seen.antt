@@ -1,5 +1,6 @@
 -- The tables as the repairs see them, and what a step at one element leaves in them.
-use Rattle.std.specs.Prelude.{◌≡◌, ℕ, ◌+◌, ◌*◌, ◌/◌, ◌%◌, ◌<◌, ◌≤◌, Bool, true, false, List, [], ◌∷◌, ◌⊎◌, eqb, leb, length, get_or}
+use Rattle.std.specs.Prelude.{◌≡◌, ℕ, ◌+◌, ◌*◌, ◌/◌, ◌%◌, ◌<◌, ◌≤◌, Bool, true, false}
+use Rattle.std.specs.Prelude.{List, [], ◌∷◌, ◌⊎◌, eqb, leb, length, get_or, Option, Some, None, IfSome}
 use Rattle.model.specs.Base.{pick, Pair}
 use Rattle.model.specs.Drawing.{Value}
 use Rattle.model.specs.AId
@@ -13,18 +14,20 @@ use Rattle.tree.specs.declared.Counts.{Counts}
 use Rattle.tree.specs.Lent.{read_of}
 use Rattle.ids.specs.Chains.{Indexed}
 use Rattle.leads.specs.Links.{Drawn, values_of}
+use Rattle.places.specs.declared.marks.Marks.{Marks}
+use Rattle.targets.specs.Pass.{pass_number}
 use Rattle.targets.specs.Targets.{seen_of, Targeted}
 use Rattle.cuts.specs.declared.Aim.{Aim}
 
 -- What the repairs ask: a drawing that check takes, marks of its script, a cursor in it, tables that are tidy beside its characters, and
 -- heads of the chains of their ids.
-pub record Mendable (script chars marks heads ns es : List ℕ) (c : Counts) (hint : Cursor) : Type 0 where
+pub record Mendable (script chars : List ℕ) (marks : Marks) (heads ns es : List ℕ) (c : Counts) (hint : Cursor) : Type 0 where
   pub drawn : Drawn script chars marks hint
   pub tidy : Tidy (length chars) (seen_of ns es c)
   pub indexed : Indexed chars (read_of ns es) heads c.nodes
 
 -- What pass k asks, one of the passes 1 to 5: that, and marks of its links in the tables, if the word behind the heads says so.
-pub record Cuttable (script chars marks heads ns es : List ℕ) (c : Counts) (k : ℕ) : Type 0 where
+pub record Cuttable (script chars : List ℕ) (marks : Marks) (heads ns es : List ℕ) (c : Counts) (k : ℕ) : Type 0 where
   pub mendable : Mendable script chars marks heads ns es c at_start
   pub targeted : (get_or heads 2048 0 ≡ 0 → ⊥) → Targeted chars (values_of script chars) k (seen_of ns es c)
 
@@ -50,10 +53,10 @@ key_of chars k t i =
 
 -- An element that one of the passes 1 to 5 aims at, and to which links can lead.
 pub record Aimed (chars : List ℕ) (t : Tree) (aim : Aim) : Type 0 where
-  pub first : 1 ≤ aim.pass
-  pub last : aim.pass ≤ 5
+  pub first : 1 ≤ pass_number aim.pass
+  pub last : pass_number aim.pass ≤ 5
   pub inside : aim.element < t.node_count
-  pub key : aim.key ≡ key_of chars aim.pass t aim.element
+  pub key : aim.key ≡ key_of chars (pass_number aim.pass) t aim.element
   pub some : aim.key ≡ 0 → ⊥
 
 -- CUTS
@@ -136,13 +139,22 @@ pub record Onward (chars : List ℕ) (values : List Value) (k : ℕ) (t : Tree) 
 
 -- FROM ONE ELEMENT TO THE NEXT
 
--- What is known between two elements of pass k: the words hold for an element that was aimed at; nothing is, where its key is 0.
-pub record Known (chars : List ℕ) (values : List Value) (k : ℕ) (t : Tree) (aim : Aim) (ws : List ℕ) : Type 0 where
-  pub pass : aim.pass ≡ k
-  pub aimed : (aim.key ≡ 0 → ⊥) → Aimed chars t aim
-  pub quiet : (aim.key ≡ 0 → ⊥) → Quiet chars values k t aim.element ws
+-- What is known behind an element of pass k: it was aimed at, and the words hold for it.
+pub record HoldsFor (chars : List ℕ) (values : List Value) (k : ℕ) (t : Tree) (ws : List ℕ) (aim : Aim) : Type 0 where
+  pub pass : pass_number aim.pass ≡ k
+  pub aimed : Aimed chars t aim
+  pub quiet : Quiet chars values k t aim.element ws
+
+-- What is known between two elements of pass k: the words hold for an element that was aimed at, or nothing.
+abbrev pub Known : List ℕ → List Value → ℕ → Tree → Option Aim → List ℕ → Type 0
+Known chars values k t known ws = IfSome known (HoldsFor chars values k t ws)
+
+-- Is it an element with that key?
+abbrev pub has_key : Option Aim → ℕ → Bool
+has_key None key = false
+has_key (Some aim) key = eqb aim.key key
 
 -- The words are as they were where both elements have the same key; else those of n nodes are 0.
-pub record Settled (n : ℕ) (known aim : Aim) (ws ws' : List ℕ) : Type 0 where
-  pub same : known.key ≡ aim.key → ws' ≡ ws
-  pub none : (known.key ≡ aim.key → ⊥) → (b : ℕ) → 256 * b < n → b < 4096 → get_or ws' b 0 ≡ 0
+pub record Settled (n : ℕ) (known : Option Aim) (aim : Aim) (ws ws' : List ℕ) : Type 0 where
+  pub same : has_key known aim.key ≡ true → ws' ≡ ws
+  pub none : has_key known aim.key ≡ false → (b : ℕ) → 256 * b < n → b < 4096 → get_or ws' b 0 ≡ 0

@@ -3,6 +3,7 @@ ghost use Rattle.std.specs.Prelude.{◌≡◌, ◌<◌, ◌≤◌};
 ghost use Rattle.model.specs.Repair.{descendants};
 ghost use Rattle.model.specs.Theorems.GoingOn.{leads_to, passing};
 ghost use Rattle.leads.specs.Links.{values_of};
+ghost use Rattle.targets.specs.Pass.{pass_number};
 ghost use Rattle.targets.specs.Targets.{seen_of};
 ghost use Rattle.cuts.specs.Seen.{Cuttable, Aimed, cut_back, cut_nodes, Range, Silent, Quiet, Onward};
 
@@ -10,6 +11,7 @@ use crate::Aim;
 use crate::below::behind_target;
 use crate::cut::cut;
 use crate::quiet::behind_quiet;
+use places::marks::Marks;
 use targets::mark::mark_of;
 use tree::Counts;
 
@@ -17,7 +19,7 @@ use tree::Counts;
 fn cut_back(
     script: &[u8],
     characters: &[u8],
-    marks: &[usize; 1025],
+    marks: &Marks,
     heads: &[u32; 2049],
     nodes: &[u32],
     attributes: &mut [u32],
@@ -25,11 +27,11 @@ fn cut_back(
     aim: Aim,
     m: u32,
 )
-    requires cuttable { Cuttable script.now characters.now marks.now heads.now nodes.now attributes.old counts aim.pass }
+    requires cuttable { Cuttable script.now characters.now marks.now heads.now nodes.now attributes.old counts (pass_number aim.pass) }
     requires aimed { Aimed characters.now (seen_of nodes.now attributes.old counts) aim }
     requires m_lt_nodes { m < counts.nodes }
     ensures { seen_of nodes.now attributes.new counts
-        ≡ cut_back characters.now (values_of script.now characters.now) aim.pass aim.element
+        ≡ cut_back characters.now (values_of script.now characters.now) (pass_number aim.pass) aim.element
         (seen_of nodes.now attributes.old counts) m }
 {
     let mark = mark_of(
@@ -44,7 +46,7 @@ fn cut_back(
 fn cut_next(
     script: &[u8],
     characters: &[u8],
-    marks: &[usize; 1025],
+    marks: &Marks,
     heads: &[u32; 2049],
     quiet: &[u32; 4096],
     nodes: &[u32],
@@ -54,35 +56,31 @@ fn cut_next(
     m: u32,
     end: u32,
 ) -> u32
-    requires cuttable { Cuttable script.now characters.now marks.now heads.now nodes.now attributes.old counts aim.pass }
+    requires cuttable { Cuttable script.now characters.now marks.now heads.now nodes.now attributes.old counts (pass_number aim.pass) }
     requires aimed { Aimed characters.now (seen_of nodes.now attributes.old counts) aim }
-    requires quiet { Quiet characters.now (values_of script.now characters.now) aim.pass
+    requires quiet { Quiet characters.now (values_of script.now characters.now) (pass_number aim.pass)
         (seen_of nodes.now attributes.old counts) aim.element quiet.now }
     requires m_lt_end { (m < end) × (end ≤ counts.nodes) }
     ensures tables { seen_of nodes.now attributes.new counts
-        ≡ cut_back characters.now (values_of script.now characters.now) aim.pass aim.element
+        ≡ cut_back characters.now (values_of script.now characters.now) (pass_number aim.pass) aim.element
         (seen_of nodes.now attributes.old counts) m }
-    ensures onward { Onward characters.now (values_of script.now characters.now) aim.pass
+    ensures onward { Onward characters.now (values_of script.now characters.now) (pass_number aim.pass)
         (seen_of nodes.now attributes.old counts) aim.element m end result }
 {
-    let n = behind_quiet(quiet, m);
-    if n == m {
+    let Some(n) = behind_quiet(quiet, m) else {
         cut_back(
             script, characters, marks, heads, nodes, attributes, counts, aim, m,
         );
         return m + 1;
-    }
-    if n < end {
-        return n;
-    }
-    end
+    };
+    n.min(end)
 }
 
 // Node w and the nodes below it, one after another. The search goes on behind a cut and does not start over. Answers the node behind them.
 pub fn cut_below(
     script: &[u8],
     characters: &[u8],
-    marks: &[usize; 1025],
+    marks: &Marks,
     heads: &[u32; 2049],
     quiet: &[u32; 4096],
     nodes: &[u32],
@@ -91,19 +89,19 @@ pub fn cut_below(
     aim: Aim,
     w: u32,
 ) -> u32
-    requires cuttable { Cuttable script.now characters.now marks.now heads.now nodes.now attributes.old counts aim.pass }
+    requires cuttable { Cuttable script.now characters.now marks.now heads.now nodes.now attributes.old counts (pass_number aim.pass) }
     requires aimed { Aimed characters.now (seen_of nodes.now attributes.old counts) aim }
-    requires quiet { Quiet characters.now (values_of script.now characters.now) aim.pass
+    requires quiet { Quiet characters.now (values_of script.now characters.now) (pass_number aim.pass)
         (seen_of nodes.now attributes.old counts) aim.element quiet.now }
     requires w_lt_nodes { w < counts.nodes }
     ensures tables { seen_of nodes.now attributes.new counts
-        ≡ cut_nodes characters.now (values_of script.now characters.now) aim.pass
+        ≡ cut_nodes characters.now (values_of script.now characters.now) (pass_number aim.pass)
         (seen_of nodes.now attributes.old counts)
-        (passing (leads_to characters.now (values_of script.now characters.now) aim.pass
+        (passing (leads_to characters.now (values_of script.now characters.now) (pass_number aim.pass)
         (seen_of nodes.now attributes.old counts) aim.element)
         (descendants (seen_of nodes.now attributes.old counts) w)) }
     ensures range { Range nodes.now counts.nodes w result }
-    ensures silent { Silent characters.now (values_of script.now characters.now) aim.pass
+    ensures silent { Silent characters.now (values_of script.now characters.now) (pass_number aim.pass)
         (seen_of nodes.now attributes.new counts) aim.element w result }
 {
     let end = behind_target(quiet, nodes, counts.nodes, w);

@@ -1,5 +1,5 @@
 // The nodes below a node follow it in the table.
-ghost use Rattle.std.specs.Prelude.{◌≡◌, ℕ, ◌*◌, ◌≤◌, ◌<◌, length};
+ghost use Rattle.std.specs.Prelude.{◌≡◌, ℕ, ◌*◌, ◌≤◌, ◌<◌, IfSome, unwrap_or, length};
 ghost use Rattle.model.specs.Tables.{attribute_id};
 ghost use Rattle.tree.specs.Lent.{read_of, Readable};
 ghost use Rattle.targets.specs.Targets.{seen_of};
@@ -15,14 +15,12 @@ pub fn behind_below(nodes: &[u32], count: u32, i: u32) -> u32
     requires { (i < count) × (8 * count ≤ length nodes.now) }
     ensures { Range nodes.now count i result }
 {
-    let mut j = i + 1;
-    while j < count {
+    for j in i + 1..count {
         if node_word(nodes, j, word::PARENT) <= i {
             return j;
         }
-        j += 1;
     }
-    j
+    count
 }
 
 // Behind node w and the nodes below it, where ranges are remembered: what stands below a remembered node is passed over.
@@ -36,33 +34,26 @@ pub fn behind_target(quiet: &[u32; 4096], nodes: &[u32], count: u32, w: u32) -> 
         if node_word(nodes, j, word::PARENT) <= w {
             return j;
         }
-        let n = behind_quiet(quiet, j);
-        if n > j {
-            j = n;
-        } else {
-            j += 1;
-        }
+        j = behind_quiet(quiet, j).unwrap_or(j + 1);
     }
     j
 }
 
-// The first of the nodes from i up to end that has that attribute; end if none has.
-pub fn first_with(nodes: &[u32], attributes: &[u32], name: u32, i: u32, end: u32) -> u32
+// The first of the nodes from i up to end that has that attribute.
+pub fn first_with(nodes: &[u32], attributes: &[u32], name: u32, i: u32, end: u32) -> Option<u32>
     requires i_le_end { i ≤ end }
     requires by_index { (m : ℕ) → m < end → Readable (read_of nodes.now attributes.now) m }
-    ensures within { (i ≤ result) × (result ≤ end) }
-    ensures none { (m : ℕ) → i ≤ m → m < result
+    ensures within { IfSome result (λ m. (i ≤ m) × (m < end)) }
+    ensures none { (m : ℕ) → i ≤ m → m < unwrap_or result end
         → attribute_id (read_of nodes.now attributes.now) m name ≡ 0 }
-    ensures some { result < end → attribute_id (read_of nodes.now attributes.now) result name ≡ 0 → ⊥ }
+    ensures some { IfSome result (λ m. attribute_id (read_of nodes.now attributes.now) m name ≡ 0 → ⊥) }
 {
-    let mut m = i;
-    while m < end {
-        if attribute_id(nodes, attributes, m, name) != 0 {
-            return m;
+    for m in i..end {
+        if attribute_id(nodes, attributes, m, name).is_some() {
+            return Some(m);
         }
-        m += 1;
     }
-    m
+    None
 }
 
 // Has node i that attribute, or a node below it?
@@ -72,5 +63,5 @@ pub fn has_links(nodes: &[u32], attributes: &[u32], counts: Counts, name: u32, i
     ensures { result ≡ has_links (seen_of nodes.now attributes.now counts) name i }
 {
     let end = behind_below(nodes, counts.nodes, i);
-    first_with(nodes, attributes, name, i, end) < end
+    first_with(nodes, attributes, name, i, end).is_some()
 }

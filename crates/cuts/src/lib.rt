@@ -1,4 +1,4 @@
-// What leads back to one element is cut (document 01, section 5).
+// What leads back to one element is cut.
 #![tactic(auto)]
 
 pub mod back;
@@ -8,10 +8,12 @@ pub mod key;
 pub mod pair;
 pub mod quiet;
 
+use targets::name::Pass;
+
 // An element to which links may lead: the pass that asks, the element's index, and the mark of the links that lead to it.
 #[derive(Clone, Copy)]
 pub struct Aim {
-    pub pass: u32,
+    pub pass: Pass,
     pub element: u32,
     pub key: usize,
 }

@@ -1,8 +1,9 @@
 // An element, and the nodes below it one after another: what leads back to the element is cut, at the node or below where that leads.
-ghost use Rattle.std.specs.Prelude.{◌≡◌, [], ◌-◌, ◌<◌, ◌≤◌};
+ghost use Rattle.std.specs.Prelude.{◌≡◌, [], ◌-◌, ◌<◌, ◌≤◌, Some};
 ghost use Rattle.model.specs.Repair.{up_from, descendants};
 ghost use Rattle.model.specs.Theorems.GoingOn.{leads_to, passing, nodes_at, with_each};
 ghost use Rattle.leads.specs.Links.{values_of};
+ghost use Rattle.targets.specs.Pass.{pass_number};
 ghost use Rattle.targets.specs.Targets.{seen_of};
 ghost use Rattle.cuts.specs.Seen.{Cuttable, Aimed, Quiet, Known, Settled, cut_nodes, cut_pairs};
 
@@ -12,15 +13,16 @@ use crate::below::{behind_below, first_with};
 use crate::cut::cut;
 use crate::key::key_of;
 use crate::quiet::{forget, hush, is_quiet};
+use places::marks::Marks;
 use targets::mark::mark_of;
-use targets::name::cut_name;
+use targets::name::{Pass, cut_name};
 use tree::Counts;
 
 // What leads back at or below node w; nothing, where w is known to be quiet.
 fn cut_target(
     script: &[u8],
     characters: &[u8],
-    marks: &[usize; 1025],
+    marks: &Marks,
     heads: &[u32; 2049],
     quiet: &mut [u32; 4096],
     nodes: &[u32],
@@ -29,18 +31,18 @@ fn cut_target(
     aim: Aim,
     w: u32,
 )
-    requires cuttable { Cuttable script.now characters.now marks.now heads.now nodes.now attributes.old counts aim.pass }
+    requires cuttable { Cuttable script.now characters.now marks.now heads.now nodes.now attributes.old counts (pass_number aim.pass) }
     requires aimed { Aimed characters.now (seen_of nodes.now attributes.old counts) aim }
-    requires quiet_2 { Quiet characters.now (values_of script.now characters.now) aim.pass
+    requires quiet_2 { Quiet characters.now (values_of script.now characters.now) (pass_number aim.pass)
         (seen_of nodes.now attributes.old counts) aim.element quiet.old }
     requires w_lt_nodes { w < counts.nodes }
     ensures tables { seen_of nodes.now attributes.new counts
-        ≡ cut_nodes characters.now (values_of script.now characters.now) aim.pass
+        ≡ cut_nodes characters.now (values_of script.now characters.now) (pass_number aim.pass)
         (seen_of nodes.now attributes.old counts)
-        (passing (leads_to characters.now (values_of script.now characters.now) aim.pass
+        (passing (leads_to characters.now (values_of script.now characters.now) (pass_number aim.pass)
         (seen_of nodes.now attributes.old counts) aim.element)
         (descendants (seen_of nodes.now attributes.old counts) w)) }
-    ensures quiet { Quiet characters.now (values_of script.now characters.now) aim.pass
+    ensures quiet { Quiet characters.now (values_of script.now characters.now) (pass_number aim.pass)
         (seen_of nodes.now attributes.new counts) aim.element quiet.new }
 {
     if is_quiet(quiet, w) {
@@ -56,7 +58,7 @@ fn cut_target(
 fn cut_pair(
     script: &[u8],
     characters: &[u8],
-    marks: &[usize; 1025],
+    marks: &Marks,
     heads: &[u32; 2049],
     quiet: &mut [u32; 4096],
     nodes: &[u32],
@@ -65,17 +67,17 @@ fn cut_pair(
     aim: Aim,
     j: u32,
 )
-    requires cuttable { Cuttable script.now characters.now marks.now heads.now nodes.now attributes.old counts aim.pass }
+    requires cuttable { Cuttable script.now characters.now marks.now heads.now nodes.now attributes.old counts (pass_number aim.pass) }
     requires aimed { Aimed characters.now (seen_of nodes.now attributes.old counts) aim }
-    requires quiet_2 { Quiet characters.now (values_of script.now characters.now) aim.pass
+    requires quiet_2 { Quiet characters.now (values_of script.now characters.now) (pass_number aim.pass)
         (seen_of nodes.now attributes.old counts) aim.element quiet.old }
     requires j_lt_nodes { j < counts.nodes }
     ensures tables { seen_of nodes.now attributes.new counts
-        ≡ cut_nodes characters.now (values_of script.now characters.now) aim.pass
+        ≡ cut_nodes characters.now (values_of script.now characters.now) (pass_number aim.pass)
         (seen_of nodes.now attributes.old counts)
-        (nodes_at characters.now (values_of script.now characters.now) aim.pass
+        (nodes_at characters.now (values_of script.now characters.now) (pass_number aim.pass)
         (seen_of nodes.now attributes.old counts) aim.element j) }
-    ensures quiet { Quiet characters.now (values_of script.now characters.now) aim.pass
+    ensures quiet { Quiet characters.now (values_of script.now characters.now) (pass_number aim.pass)
         (seen_of nodes.now attributes.new counts) aim.element quiet.new }
 {
     let mark = mark_of(
@@ -95,10 +97,12 @@ fn cut_pair(
 }
 
 // The words for an element that is aimed at. They stay where they hold for an element with the same key, since the same links lead to both.
-fn settle(quiet: &mut [u32; 4096], count: u32, known: Aim, aim: Aim)
+fn settle(quiet: &mut [u32; 4096], count: u32, known: Option<Aim>, aim: Aim)
     ensures { Settled count known aim quiet.old quiet.new }
 {
-    if known.key == aim.key {
+    if let Some(k) = known
+        && k.key == aim.key
+    {
         return;
     }
     forget(quiet, count);
@@ -108,36 +112,34 @@ fn settle(quiet: &mut [u32; 4096], count: u32, known: Aim, aim: Aim)
 fn cut_pairs(
     script: &[u8],
     characters: &[u8],
-    marks: &[usize; 1025],
+    marks: &Marks,
     heads: &[u32; 2049],
     quiet: &mut [u32; 4096],
     nodes: &[u32],
     attributes: &mut [u32],
     counts: Counts,
-    known: Aim,
+    known: Option<Aim>,
     aim: Aim,
     first: u32,
     end: u32,
 )
-    requires cuttable { Cuttable script.now characters.now marks.now heads.now nodes.now attributes.old counts aim.pass }
+    requires cuttable { Cuttable script.now characters.now marks.now heads.now nodes.now attributes.old counts (pass_number aim.pass) }
     requires aimed { Aimed characters.now (seen_of nodes.now attributes.old counts) aim }
     requires end_le_nodes { end ≤ counts.nodes }
-    requires known_2 { Known characters.now (values_of script.now characters.now) aim.pass
+    requires known_2 { Known characters.now (values_of script.now characters.now) (pass_number aim.pass)
         (seen_of nodes.now attributes.old counts) known quiet.old }
     ensures tables { seen_of nodes.now attributes.new counts
-        ≡ cut_pairs characters.now (values_of script.now characters.now) aim.pass
+        ≡ cut_pairs characters.now (values_of script.now characters.now) (pass_number aim.pass)
         (seen_of nodes.now attributes.old counts)
         (with_each aim.element (up_from first (end - first)) []) }
-    ensures known { Known characters.now (values_of script.now characters.now) aim.pass
-        (seen_of nodes.now attributes.new counts) aim quiet.new }
+    ensures known { Known characters.now (values_of script.now characters.now) (pass_number aim.pass)
+        (seen_of nodes.now attributes.new counts) (Some aim) quiet.new }
 {
     settle(quiet, counts.nodes, known, aim);
-    let mut j = first;
-    while j < end {
+    for j in first..end {
         cut_pair(
             script, characters, marks, heads, quiet, nodes, attributes, counts, aim, j,
         );
-        j += 1;
     }
 }
 
@@ -146,38 +148,37 @@ fn cut_pairs(
 pub fn cut_element(
     script: &[u8],
     characters: &[u8],
-    marks: &[usize; 1025],
+    marks: &Marks,
     heads: &[u32; 2049],
     quiet: &mut [u32; 4096],
     nodes: &[u32],
     attributes: &mut [u32],
     counts: Counts,
-    pass: u32,
-    known: Aim,
+    pass: Pass,
+    known: Option<Aim>,
     i: u32,
-) -> Aim
-    requires cuttable { Cuttable script.now characters.now marks.now heads.now nodes.now attributes.old counts pass }
-    requires le_pass { (1 ≤ pass) × (pass ≤ 5) }
+) -> Option<Aim>
+    requires cuttable { Cuttable script.now characters.now marks.now heads.now nodes.now attributes.old counts (pass_number pass) }
+    requires pass_bound { pass_number pass ≤ 5 }
     requires i_lt_nodes { i < counts.nodes }
-    requires known_2 { Known characters.now (values_of script.now characters.now) pass (seen_of nodes.now attributes.old counts) known
+    requires known_2 { Known characters.now (values_of script.now characters.now) (pass_number pass)
+        (seen_of nodes.now attributes.old counts) known
         quiet.old }
     ensures tables { seen_of nodes.now attributes.new counts
-        ≡ cut_pairs characters.now (values_of script.now characters.now) pass
+        ≡ cut_pairs characters.now (values_of script.now characters.now) (pass_number pass)
         (seen_of nodes.now attributes.old counts)
         (with_each i (descendants (seen_of nodes.now attributes.old counts) i) []) }
-    ensures known { Known characters.now (values_of script.now characters.now) pass
+    ensures known { Known characters.now (values_of script.now characters.now) (pass_number pass)
         (seen_of nodes.now attributes.new counts) result quiet.new }
 {
     let name = cut_name(pass);
     let end = behind_below(nodes, counts.nodes, i);
-    let first = first_with(nodes, attributes, name, i, end);
-    if first == end {
+    let Some(first) = first_with(nodes, attributes, name, i, end) else {
         return known;
-    }
-    let key = key_of(nodes, attributes, characters, heads, counts, pass, i);
-    if key == 0 {
+    };
+    let Some(key) = key_of(nodes, attributes, characters, heads, counts, pass, i) else {
         return known;
-    }
+    };
     let aim = Aim {
         pass,
         element: i,
@@ -186,5 +187,5 @@ pub fn cut_element(
     cut_pairs(
         script, characters, marks, heads, quiet, nodes, attributes, counts, known, aim, first, end,
     );
-    aim
+    Some(aim)
 }

@@ -2,35 +2,22 @@
 // nodes has a word. 0 is nothing. Else one node of the block is remembered, with the node behind the last one below it: how far it stands
 // behind the first node of the block, times 2097152, and the node behind. With 256 for how far, the nodes from the first of the block up
 // to the node behind stand below a remembered node before the block.
-ghost use Rattle.std.specs.Prelude.{◌≡◌, true, ℕ, ◌*◌, ◌<◌, ◌≤◌, get_or};
+ghost use Rattle.std.specs.Prelude.{◌≡◌, true, ℕ, ◌*◌, ◌<◌, ◌≤◌, get_or, IfSome};
 ghost use Rattle.cuts.specs.Seen.{Covered, Remembered, Hushed, Spread};
-
-fn wide(n: u32) -> usize
-    ensures { (result ≡ n) × (result < 4294967296) }
-{
-    n as usize
-}
 
 // How many blocks the first `count` nodes have, at most all.
 fn blocks(count: u32) -> usize
     ensures { (result ≤ 4096) × ((b : ℕ) → 256 * b < count → b < 4096 → b < result) }
 {
-    let n = wide(count / 256) + 1;
-    if n < 4096 {
-        return n;
-    }
-    4096
+    ((count / 256) as usize + 1).min(4096)
 }
 
 // Nothing is remembered of the first `count` nodes.
 pub fn forget(quiet: &mut [u32; 4096], count: u32)
     ensures { (b : ℕ) → 256 * b < count → b < 4096 → get_or quiet.new b 0 ≡ 0 }
 {
-    let end = blocks(count);
-    let mut b: usize = 0;
-    while b < end {
+    for b in 0..blocks(count) {
         quiet[b] = 0;
-        b += 1;
     }
 }
 
@@ -38,34 +25,31 @@ pub fn forget(quiet: &mut [u32; 4096], count: u32)
 pub fn is_quiet(quiet: &[u32; 4096], w: u32) -> bool
     ensures { result ≡ true → Covered quiet.now w }
 {
-    let b = wide(w / 256);
+    let b = (w / 256) as usize;
     if b >= 4096 {
         return false;
     }
     let e = quiet[b];
-    if w % 256 < e / 2097152 % 256 {
-        return false;
-    }
-    w < e % 2097152
+    e / 2097152 % 256 <= w % 256 && w < e % 2097152
 }
 
-// The node behind the last one below node m, if m is remembered; m if not.
-pub fn behind_quiet(quiet: &[u32; 4096], m: u32) -> u32
-    ensures { (m ≤ result) × (m < result → Remembered quiet.now m result) }
+// The node behind the last one below node m, if m is remembered.
+pub fn behind_quiet(quiet: &[u32; 4096], m: u32) -> Option<u32>
+    ensures { IfSome result (λ end. (m < end) × Remembered quiet.now m end) }
 {
-    let b = wide(m / 256);
+    let b = (m / 256) as usize;
     if b >= 4096 {
-        return m;
+        return None;
     }
     let e = quiet[b];
     if e / 2097152 != m % 256 {
-        return m;
+        return None;
     }
     let end = e % 2097152;
-    if end < m {
-        return m;
+    if end <= m {
+        return None;
     }
-    end
+    Some(end)
 }
 
 // Block b, whose nodes up to the node `end` stand below a remembered node before it. A word that reaches further is kept.
@@ -83,11 +67,8 @@ fn spread(quiet: &mut [u32; 4096], a: usize, end: u32)
     requires { end < 2097152 }
     ensures { Spread quiet.old a end quiet.new }
 {
-    let last = blocks(end);
-    let mut b = a;
-    while b < last {
+    for b in a..blocks(end) {
         cover(quiet, b, end);
-        b += 1;
     }
 }
 
@@ -96,14 +77,8 @@ fn spread(quiet: &mut [u32; 4096], a: usize, end: u32)
 pub fn hush(quiet: &mut [u32; 4096], w: u32, end: u32)
     ensures { Hushed quiet.old w end quiet.new }
 {
-    let b = wide(w / 256);
-    if b >= 4096 {
-        return;
-    }
-    if end >= 2097152 {
-        return;
-    }
-    if end < quiet[b] % 2097152 {
+    let b = (w / 256) as usize;
+    if b >= 4096 || end >= 2097152 || end < quiet[b] % 2097152 {
         return;
     }
     quiet[b] = w % 256 * 2097152 + end;

@@ -1,12 +1,14 @@
 -- Blank texts, character by character. Assumes nothing.
-use Prim.Native.Nat.{ℕ, zero, suc, ◌+◌, ◌-◌, ◌*◌, ◌≤◌, ◌<◌, max}
-use mathlib.Core.Path.{◌≡◌, refl, sym, ap, ◌∙◌}
+use Prim.Native.Nat.{ℕ, zero, suc, ◌-◌, ◌≤◌, ◌<◌, max}
+use mathlib.Core.Path.{◌≡◌, refl, sym, ap, ap₂, ◌∙◌}
 use mathlib.Core.Bool.{Bool, true, false}
 use mathlib.Core.List.{List, [], ◌∷◌}
 use native.Mathlib.Omega.{arith}
-use lib.ListN.{length, get_or, drop, length-drop, drop_of_length-le}
-use lib.Seq.{drop-cons, drop-drop, get_or-drop}
-use borrow.Author.Tests.{le-leb, lt-leb, eq-eqb, ne_eqb}
+use lib.ListN.{length, take, drop}
+use lib.Seq.{get_or-take, length-take-le}
+use Rattle.std.proofs.Common.{Option, Some, None, SomeIff}
+use Rattle.std.proofs.lemmas.Bool.Decides.{nat_tests}
+use Rattle.std.specs.Option.{unwrap_or}
 use Rattle.model.specs.Base.{pick}
 use Rattle.model.specs.Utf8.{Range, is_within, begins, sequence_of, well_formed, code_point, white_spaces, is_within_any, is_blank_from}
 use Rattle.model.specs.Utf8.{is_blank}
@@ -32,39 +34,26 @@ sequence-most (r ∷ rs) bs = go (begins r bs) refl (sequence-most rs bs)
     go true e h = begins-length r bs e
     go false e h = h
 
-pub sequence-fits : (s : List ℕ) (i n : ℕ) → n ≡ sequence_of well_formed (drop i s) → n ≤ length s - i
-sequence-fits s i n e = omega (arith, e, sequence-most well_formed (drop i s), length-drop i s)
+-- How many bytes a character takes: those of its sequence, or else one.
+abbrev pub taken : List ℕ → ℕ
+taken s = max (sequence_of well_formed s) 1
 
--- THE NUMBER OF A CHARACTER
+pub taken-is : (s : List ℕ) (r : Option ℕ) → SomeIff r (0 < sequence_of well_formed s) (sequence_of well_formed s) → unwrap_or r 1 ≡ taken s
+taken-is s (Some n) e = omega (arith, e.0, e.1)
+taken-is s None e = omega (arith, e)
 
-module _ (s : List ℕ) (i n : ℕ) (b : ℕ) (first : b ≡ get_or s i 0) where
-  at : (k : ℕ) → get_or (drop i s) k 0 ≡ get_or s (i + k) 0
-  at k = get_or-drop i s k 0
+pub taken-fits : (s : List ℕ) → 0 < length s → taken s ≤ length s
+taken-fits s h = omega (arith, sequence-most well_formed s)
 
-  front : get_or (drop i s) 0 0 ≡ b
-  front = at 0 ∙ ap (λ k. get_or s k 0) (let q : i + 0 ≡ i = omega arith in q) ∙ sym first
+-- The bytes of a character tell its number, and a byte alone is read as one that begins no sequence.
+code_taken : (n : ℕ) (s : List ℕ) → 1 ≤ n → code_point n (take n s) ≡ code_point n s
+unfolding code_point
+code_taken n s h = grind (arith, nat_tests, get_or-take {A = ℕ})
 
-  pub code_one : n ≤ 1 → b ≡ code_point n (drop i s)
-  unfolding code_point
-  code_one h = rw (le-leb n 1 h, front) refl
-
-  module _ (more : 1 < n) (x : ℕ) (second : x ≡ get_or s (i + 1) 0 - 0x80) where
-    pub code-two : n ≡ 2 → (l : ℕ) → l ≡ b - 0xC0 → l * 64 + x ≡ code_point n (drop i s)
-    unfolding code_point
-    code-two e l h = rw (lt-leb n 1 more, eq-eqb n 2 e, front, at 1, second, h) refl
-
-    module _ (not-two : n ≡ 2 → ⊥) (y : ℕ) (third : y ≡ get_or s (i + 2) 0 - 0x80) where
-      pub code-three : n ≡ 3 → (l : ℕ) → l ≡ b - 0xE0 → l * 4096 + x * 64 + y ≡ code_point n (drop i s)
-      unfolding code_point
-      code-three e l h = rw (lt-leb n 1 more, ne_eqb n 2 not-two, eq-eqb n 3 e, front, at 1, at 2, second, third, h) refl
-
-      pub code-four : (n ≡ 3 → ⊥) → (z : ℕ) → z ≡ get_or s (i + 3) 0 - 0x80 → (l : ℕ) → l ≡ b - 0xF0 →
-          l * 262144 + x * 4096 + y * 64 + z ≡ code_point n (drop i s)
-      unfolding code_point
-      code-four e z fourth l h =
-          rw (lt-leb n 1 more, ne_eqb n 2 not-two, ne_eqb n 3 e, front, at 1, at 2, at 3, second, third, fourth, h) refl
-
--- CHARACTER BY CHARACTER
+code-one : (n : ℕ) (s : List ℕ) → code_point (max n 1) s ≡ code_point n s
+unfolding code_point
+code-one zero s = refl
+code-one (suc n) s = ap (λ m. code_point m s) (let z : max (suc n) 1 ≡ suc n = omega arith in z)
 
 blank-drop : (n : ℕ) (s : List ℕ) → is_blank_from n s ≡ is_blank_from 0 (drop n s)
 unfolding is_blank_from
@@ -73,37 +62,28 @@ blank-drop (suc n) [] = refl
 blank-drop zero (b ∷ bs) = refl
 blank-drop (suc n) (b ∷ bs) = blank-drop n bs
 
--- From i on the text is blank just if the whole is.
-pub record Blank (s : List ℕ) (i : ℕ) : Type 0 where
-  pub within : i ≤ length s
-  pub same : is_blank_from 0 (drop i s) ≡ is_blank s
+pub blank_none : (s : List ℕ) → length s ≡ 0 → true ≡ is_blank s
+unfolding is_blank is_blank_from
+blank_none [] e = refl
+blank_none (b ∷ bs) e = absurd (omega arith)
 
-pub blank_none : (s : List ℕ) → Blank s 0
-unfolding is_blank
-blank_none s = record { within = omega arith; same = refl }
+-- The first character, and what stands behind it.
+pub blank-step : (s : List ℕ) (n : ℕ) → 0 < length s → n ≡ taken s
+    → is_blank s ≡ pick (is_within_any (code_point (length (take n s)) (take n s)) white_spaces) (λ u. is_blank (drop n s)) (λ u. false)
+unfolding is_blank is_blank_from
+blank-step [] n h e = absurd (omega arith)
+blank-step (b ∷ bs) n h e =
+    let s : List ℕ = b ∷ bs in
+    let code : code_point (sequence_of well_formed s) s ≡ code_point (length (take n s)) (take n s) =
+    sym (ap (λ m. code_point m (take n s)) (length-take-le n s (omega (arith, e, taken-fits s h)))
+    ∙ code_taken n s (omega (arith, e)) ∙ ap (λ m. code_point m s) e ∙ code-one (sequence_of well_formed s) s) in
+    let behind : is_blank_from (sequence_of well_formed s - 1) bs ≡ is_blank_from 0 (drop n s) =
+    blank-drop (sequence_of well_formed s - 1) bs
+    ∙ ap (λ m. is_blank_from 0 (drop m s)) (let z : suc (sequence_of well_formed s - 1) ≡ n = omega (arith, e) in z) in
+    ap₂ (λ c r. pick (is_within_any c white_spaces) (λ u. r) (λ u. false)) code behind
 
-module _ (s : List ℕ) (i : ℕ) (h : i < length s) (r : Blank s i) (n : ℕ) (e : n ≡ sequence_of well_formed (drop i s)) where
-  open_up : is_blank s
-      ≡ pick (is_within_any (code_point n (drop i s)) white_spaces) (λ u. is_blank_from (n - 1) (drop (suc i) s)) (λ u. false)
-  unfolding is_blank_from
-  open_up = sym r.same ∙ rw (e, drop-cons s i 0 h) refl
-
-  pub not-blank : is_within_any (code_point n (drop i s)) white_spaces ≡ false → false ≡ is_blank s
-  not-blank w = sym (open_up ∙ rw w refl)
-
-  pub blank-on : is_within_any (code_point n (drop i s)) white_spaces ≡ true → Blank s (i + max n 1)
-  blank-on w = record {
-    within = omega (arith, sequence-fits s i n e);
-    same = ap (λ m. is_blank_from 0 (drop m s)) (let q : i + max n 1 ≡ suc i + (n - 1) = omega arith in q)
-        ∙ sym (ap (λ l. is_blank_from 0 l) (drop-drop (n - 1) (suc i) s)) ∙ sym (blank-drop (n - 1) (drop (suc i) s))
-        ∙ sym (open_up ∙ rw w refl);
-  }
-
-pub blank-all : (s : List ℕ) (i : ℕ) → Blank s i → length s ≤ i → true ≡ is_blank s
-unfolding is_blank_from
-blank-all s i r h = sym (sym r.same ∙ rw (drop_of_length-le s h))
-
--- The last of several tests.
-pub either : (b : Bool) {r : Bool} → r ≡ b → r ≡ pick b (λ u. true) (λ u. false)
-either true e = e
-either false e = e
+-- The same of what the code reads.
+pub blank-turn : (s : List ℕ) (n : ℕ) (front behind : List ℕ) (c : ℕ) (w : Bool) → 0 < length s → n ≡ taken s → front ≡ take n s
+    → behind ≡ drop n s → c ≡ code_point (length front) front → w ≡ is_within_any c white_spaces
+    → is_blank s ≡ pick w (λ u. is_blank behind) (λ u. false)
+blank-turn s n front behind c w h e f g i j = blank-step s n h e ∙ rw (j, i, f, g) refl

@@ -1,47 +1,20 @@
 -- The edges of a text, and what is left of it when a byte is given up. Assumes nothing.
 use Prim.Native.Nat.{ℕ, ◌+◌, ◌-◌, ◌≤◌, ◌<◌, min, max}
 use mathlib.Core.Path.{◌≡◌, refl, sym, ap, ◌∙◌}
-use mathlib.Core.Bool.{true, false}
+use mathlib.Core.Bool.{true}
 use mathlib.Core.List.{List, [], ◌∷◌}
 use native.Mathlib.Omega.{arith}
 use borrow.Author.Tests.{eq-eqb, ne_eqb}
 use lib.Dec.{eqb}
-use lib.ListN.{length, get_or, take, drop}
-use lib.Seq.{slice, slice-cons, length-slice, get_or-take, get_or-drop}
+use lib.ListN.{length, take, drop}
+use lib.Seq.{slice, length-slice}
 use Rattle.model.specs.Tables.{Tree, word, from_of, to_of, text_of, set_text}
-use Rattle.model.specs.Text.{SPACE, begins_with_space, ends_with_space, is_empty, cut_text}
+use Rattle.model.specs.Text.{begins_with_space, ends_with_space, is_empty, cut_text}
 use Rattle.tree.specs.Lent.{texts_of}
 use Rattle.tree.proofs.Entries.{part_slice}
 use Rattle.edges.specs.Pairs.{Ranged, Filled, size_of}
 
 -- LOOKING
-
-slice-none : (f t : ℕ) (l : List ℕ) → t ≤ length l → t ≤ f → slice f t l ≡ []
-slice-none f t l h k = go (slice f t l) (length-slice f t l h)
-  where
-    go : (s : List ℕ) → length s ≡ t - f → s ≡ []
-    go [] e = refl
-    go (x ∷ s) e = absurd (omega arith)
-
-begins-none : (f t : ℕ) (l : List ℕ) → t ≤ length l → t ≤ f → false ≡ begins_with_space (slice f t l)
-begins-none f t l h k = rw (slice-none f t l h k) refl
-
-begins-at : (f t : ℕ) (l : List ℕ) → t ≤ length l → f < t → eqb (get_or l f 0) SPACE ≡ begins_with_space (slice f t l)
-begins-at f t l h k = rw (slice-cons f t l 0 k h) refl
-
-ends-none : (f t : ℕ) (l : List ℕ) → t ≤ length l → t ≤ f → false ≡ ends_with_space (slice f t l)
-ends-none f t l h k = rw (slice-none f t l h k) refl
-
-ends_at : (f t : ℕ) (l : List ℕ) → t ≤ length l → f < t → eqb (get_or l (t - 1) 0) SPACE ≡ ends_with_space (slice f t l)
-ends_at f t l h k =
-    go (slice f t l) (length-slice f t l h) (λ j q. get_or-drop f (take t l) j 0 ∙ get_or-take t l (f + j) 0 (omega arith))
-  where
-    go : (s : List ℕ) → length s ≡ t - f → ((j : ℕ) → j < t - f → get_or s j 0 ≡ get_or l (f + j) 0) →
-        eqb (get_or l (t - 1) 0) SPACE ≡ ends_with_space s
-    go [] e g = absurd (omega arith)
-    go (x ∷ s) e g =
-        let at : f + length s ≡ t - 1 = omega arith in
-        ap (λ (k : ℕ). eqb k SPACE) (ap (λ (k : ℕ). get_or l k 0) (sym at) ∙ sym (g (length s) (omega arith)))
 
 -- A text with a space at an edge has a byte.
 begins-some : (f t : ℕ) (l : List ℕ) → t ≤ length l → begins_with_space (slice f t l) ≡ true → f < t
@@ -78,18 +51,6 @@ module _ (ns bs : List ℕ) (i : ℕ) (r : Ranged (texts_of ns bs) i) (f t : ℕ
   unfolding text_of
   bounds = rw (from, to) refl
 
-  pub text-begins-not : t ≤ f → false ≡ begins_with_space own
-  text-begins-not h = begins-none f t bs within h ∙ ap begins_with_space bounds
-
-  pub text-begins : f < t → eqb (get_or bs f 0) SPACE ≡ begins_with_space own
-  text-begins h = begins-at f t bs within h ∙ ap begins_with_space bounds
-
-  pub text-ends-not : t ≤ f → false ≡ ends_with_space own
-  text-ends-not h = ends-none f t bs within h ∙ ap ends_with_space bounds
-
-  pub text-ends : f < t → eqb (get_or bs (t - 1) 0) SPACE ≡ ends_with_space own
-  text-ends h = ends_at f t bs within h ∙ ap ends_with_space bounds
-
   pub text-part : take (t - f) (drop f bs) ≡ own
   text-part = part_slice f (t - f) bs ∙ ap (λ k. slice f k bs) (let z : f + (t - f) ≡ t = omega (arith, r.ordered.order) in z) ∙ bounds
 
@@ -111,22 +72,13 @@ module _ (t : Tree) (i : ℕ) (r : Ranged t i) where
   unfolding text_of
   size_is = sym (length-slice (from_of t i) (to_of t i) t.text r.within)
 
--- GIVING UP A BYTE
+-- GIVING UP BYTES
 
-pub first-cut : (ns bs ms cs : List ℕ) (i f g : ℕ) → f ≡ word ns i 6 → g ≡ word ns i 7 → f < g →
-    ms ≡ (set_text i (f + 1) g (texts_of ns bs)).nodes → cs ≡ (set_text i (f + 1) g (texts_of ns bs)).text →
-    texts_of ms cs ≡ cut_text i 1 0 (texts_of ns bs)
+pub cut-is : (ns bs ms cs : List ℕ) (i f g x y : ℕ) → f ≡ word ns i 6 → g ≡ word ns i 7 → f ≤ g → x + y ≤ g - f →
+    ms ≡ (set_text i (f + x) (g - y) (texts_of ns bs)).nodes → cs ≡ (set_text i (f + x) (g - y) (texts_of ns bs)).text →
+    texts_of ms cs ≡ cut_text i x y (texts_of ns bs)
 unfolding cut_text set_text
-first-cut ns bs ms cs i f g e h l p q =
-    let a : min (word ns i 6 + 1) (word ns i 7) ≡ f + 1 = omega arith in
-    let b : max (f + 1) (word ns i 7 - 0) ≡ g = omega arith in
-    rw (a, b, p, q) refl
-
-pub last-cut : (ns bs ms cs : List ℕ) (i f g : ℕ) → f ≡ word ns i 6 → g ≡ word ns i 7 → f < g →
-    ms ≡ (set_text i f (g - 1) (texts_of ns bs)).nodes → cs ≡ (set_text i f (g - 1) (texts_of ns bs)).text →
-    texts_of ms cs ≡ cut_text i 0 1 (texts_of ns bs)
-unfolding cut_text set_text
-last-cut ns bs ms cs i f g e h l p q =
-    let a : min (word ns i 6 + 0) (word ns i 7) ≡ f = omega arith in
-    let b : max f (word ns i 7 - 1) ≡ g - 1 = omega arith in
+cut-is ns bs ms cs i f g x y e h l m p q =
+    let a : min (word ns i 6 + x) (word ns i 7) ≡ f + x = omega arith in
+    let b : max (f + x) (word ns i 7 - y) ≡ g - y = omega arith in
     rw (a, b, p, q) refl

@@ -4,16 +4,15 @@ use mathlib.Core.Path.{◌≡◌, refl, sym, ap, ◌∙◌}
 use mathlib.Core.Bool.{Bool, true, false, not}
 use native.Mathlib.Omega.{arith}
 use native.Mathlib.Decide.{ℕ_discrete}
-use borrow.Author.Tests.{eq-eqb}
 use lib.Dec.{eqb}
 use lib.ListN.{length, set, length-set}
 use lib.Seq.{length-sets, get_or-set_same, get_or-set_other}
 use Rattle.model.specs.Base.{pick, and}
 use Rattle.model.specs.Tables.{Tree, word, from_of, to_of, text_of, set_text}
-use Rattle.model.specs.Text.{begins_with_space, ends_with_space, is_empty, cut_from, cut_to, cut_text}
+use Rattle.model.specs.Text.{ends_with_space, is_empty, cut_from, cut_to, cut_text}
 use Rattle.edges.specs.declared.Pair.{Pair}
 use Rattle.edges.specs.declared.Edges.{Edges}
-use Rattle.edges.specs.Pairs.{Ranged, Filled, size_of, cut_if, after_single, edges_of, after_between}
+use Rattle.edges.specs.Pairs.{Ranged, Filled, size_of, cut_if, edges_of, after_between}
 use Rattle.edges.specs.Pairs.{after_outer, after_last, after_pair}
 use Rattle.edges.proofs.Looking.{begins-filled, ends-filled, empty-is}
 
@@ -83,14 +82,6 @@ module _ (P : Tree → Type 0) where
   keep-pick true x y = x
   keep-pick false x y = y
 
-  pub keep-single : (i : ℕ) → ((t : Tree) → P t → P (cut_text i 1 0 t)) → ((t : Tree) → P t → P (cut_text i 0 1 t)) → (t : Tree) → P t →
-      P (after_single i t)
-  unfolding after_single
-  keep-single i first last t h =
-      let one = keep-pick (begins_with_space (text_of t i)) (first t h) h in
-      keep-pick (eqb (length (text_of t i)) 1) (keep-pick (begins_with_space (text_of t i)) (last t h) h)
-      (keep-pick (ends_with_space (text_of t i)) (last _ one) one)
-
   module _ (p : Pair) (first1 : (t : Tree) → P t → P (cut_text p.node1 1 0 t)) (last1 : (t : Tree) → P t → P (cut_text p.node1 0 1 t))
       (first2 : (t : Tree) → P t → P (cut_text p.node2 1 0 t)) (last2 : (t : Tree) → P t → P (cut_text p.node2 0 1 t)) where
     pub keep-between : (c : Edges) (t : Tree) → P t → P (after_between p c t)
@@ -135,9 +126,6 @@ both-pair p t h = keep_pair (Both p) p (both_first p 1 0) (both_first p 0 1) (bo
 
 -- A SINGLE TEXT
 
-pub size-filled : (t : Tree) (i : ℕ) → Ranged t i → (size_of t.nodes i ≡ 0 → ⊥) → Filled t i
-size-filled t i r h = record { ranged = r; some = omega arith }
-
 -- The last byte is still there when the first was given up.
 pub single-last : (t : Tree) (i : ℕ) → Ranged t i → (size_of t.nodes i ≡ 1 → ⊥) → (passed : Bool) → ends_with_space (text_of t i) ≡ true →
     Filled (cut_if passed i 1 0 t) i
@@ -148,11 +136,6 @@ single-last t i r n true e =
 single-last t i r n false e = ends-filled t i r e
 
 -- A PAIR
-
-pub edges-told : (t : Tree) (a b : ℕ) (c1 c2 c3 c4 : Bool) → c1 ≡ begins_with_space (text_of t a) → c2 ≡ ends_with_space (text_of t a) →
-    c3 ≡ begins_with_space (text_of t b) → c4 ≡ ends_with_space (text_of t b) →
-    ◌≡◌ {A = Edges} (record { c1 = c1; c2 = c2; c3 = c3; c4 = c4 }) (edges_of t a b)
-edges-told t a b c1 c2 c3 c4 e f g h = rw (e, f, g, h) refl
 
 module _ (t : Tree) (p : Pair) (c : Edges) (h : Both p t) where
   module _ (e : c ≡ edges_of t p.node1 p.node2) where
@@ -168,27 +151,6 @@ module _ (t : Tree) (p : Pair) (c : Edges) (h : Both p t) where
 
   abbrev last_test : Bool
   last_test = and (and p.last c.c4) (and (not (eqb (size_of t.nodes p.node2) 0)) p.default2)
-
-  not-zero : (x y : Bool) (n : ℕ) → and x (and y (not (eqb n 0))) ≡ true → n ≡ 0 → ⊥
-  not-zero x y n e z = let q : ◌≡◌ {A = Bool} false true = back x y (rw (eq-eqb n 0 z) at e) in let w : ◌≡◌ {A = ℕ} 0 1 = cc in omega arith
-    where
-      back : (x y : Bool) → and x (and y false) ≡ true → false ≡ true
-      back true true e = e
-      back true false e = e
-      back false y e = e
-
-  zero-not : (x y : Bool) (n : ℕ) → and x (and (not (eqb n 0)) y) ≡ true → n ≡ 0 → ⊥
-  zero-not x y n e z = let q : ◌≡◌ {A = Bool} false true = back x (rw (eq-eqb n 0 z) at e) in let w : ◌≡◌ {A = ℕ} 0 1 = cc in omega arith
-    where
-      back : (x : Bool) → and x false ≡ true → false ≡ true
-      back true e = e
-      back false e = e
-
-  pub outer-first-filled : first_test ≡ true → Filled t p.node1
-  outer-first-filled e = size-filled t p.node1 h.0 (not-zero (and p.first c.c1) p.default1 _ e)
-
-  pub outer-last-filled : last_test ≡ true → Filled t p.node2
-  outer-last-filled e = size-filled t p.node2 h.1 (zero-not (and p.last c.c4) p.default2 _ e)
 
   pub outer-is : after_outer p c t ≡ pick first_test (λ u. cut_text p.node1 1 0 t) (λ u. cut_if last_test p.node2 0 1 t)
   unfolding after_outer

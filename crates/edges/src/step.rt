@@ -16,10 +16,9 @@ fn remove_first_if(nodes: &mut [u32], text: &mut [u8], i: u32, passed: bool)
     ensures { texts_of nodes.new text.new
         ≡ cut_if passed i 1 0 (texts_of nodes.old text.old) }
 {
-    if !passed {
-        return;
+    if passed {
+        remove_first_space(nodes, text, i);
     }
-    remove_first_space(nodes, text, i);
 }
 
 // `remove_last_space` where a test passed.
@@ -28,10 +27,9 @@ fn remove_last_if(nodes: &mut [u32], text: &mut [u8], i: u32, passed: bool)
     ensures { texts_of nodes.new text.new
         ≡ cut_if passed i 0 1 (texts_of nodes.old text.old) }
 {
-    if !passed {
-        return;
+    if passed {
+        remove_last_space(nodes, text, i);
     }
-    remove_last_space(nodes, text, i);
 }
 
 // A text element with a single text node: a lone space is cleared, else a space goes at each edge.
@@ -56,14 +54,16 @@ fn edges_of(nodes: &[u32], text: &[u8], a: u32, b: u32) -> Edges
     requires ranged_2 { Ranged (texts_of nodes.now text.now) b }
     ensures { result ≡ edges_of (texts_of nodes.now text.now) a b }
 {
-    let c1 = begins_with_space(nodes, text, a);
-    let c2 = ends_with_space(nodes, text, a);
-    let c3 = begins_with_space(nodes, text, b);
-    let c4 = ends_with_space(nodes, text, b);
-    Edges { c1, c2, c3, c4 }
+    Edges {
+        c1: begins_with_space(nodes, text, a),
+        c2: ends_with_space(nodes, text, a),
+        c3: begins_with_space(nodes, text, b),
+        c4: ends_with_space(nodes, text, b),
+    }
 }
 
 // The space between the two texts: the second gives up its first one, or the first its last one.
+#[tactic(auto, unfolding(crate::specs::Pairs::after_between))]
 fn trim_between(nodes: &mut [u32], text: &mut [u8], p: Pair, c: Edges)
     requires ranged { Ranged (texts_of nodes.old text.old) p.node1 }
     requires ranged_2 { Ranged (texts_of nodes.old text.old) p.node2 }
@@ -72,29 +72,16 @@ fn trim_between(nodes: &mut [u32], text: &mut [u8], p: Pair, c: Edges)
         ≡ after_between p c (texts_of nodes.old text.old) }
 {
     if p.deeper {
-        if !c.c3 {
-            return;
+        if c.c3 && p.default2 {
+            remove_first_space(nodes, text, p.node2);
         }
-        if !p.default2 {
-            return;
+    } else if c.c2 && c.c3 && p.default2 {
+        if p.default1 {
+            remove_last_space(nodes, text, p.node1);
+        } else {
+            remove_first_space(nodes, text, p.node2);
         }
-        remove_first_space(nodes, text, p.node2);
-        return;
     }
-    if !c.c2 {
-        return;
-    }
-    if !c.c3 {
-        return;
-    }
-    if !p.default2 {
-        return;
-    }
-    if p.default1 {
-        remove_last_space(nodes, text, p.node1);
-        return;
-    }
-    remove_first_space(nodes, text, p.node2);
 }
 
 // Does the first text of the element give up a leading space?
@@ -103,16 +90,7 @@ fn is_first_trimmed(nodes: &[u32], p: Pair, c: Edges) -> bool
     ensures { result ≡
         and (and p.first c.c1) (and p.default1 (not (eqb (size_of nodes.now p.node1) 0))) }
 {
-    if !p.first {
-        return false;
-    }
-    if !c.c1 {
-        return false;
-    }
-    if !p.default1 {
-        return false;
-    }
-    size_of(nodes, p.node1) != 0
+    p.first && c.c1 && p.default1 && size_of(nodes, p.node1) != 0
 }
 
 // Does the last text of the element give up a trailing space?
@@ -121,16 +99,7 @@ fn is_last_trimmed(nodes: &[u32], p: Pair, c: Edges) -> bool
     ensures { result ≡
         and (and p.last c.c4) (and (not (eqb (size_of nodes.now p.node2) 0)) p.default2) }
 {
-    if !p.last {
-        return false;
-    }
-    if !c.c4 {
-        return false;
-    }
-    if size_of(nodes, p.node2) == 0 {
-        return false;
-    }
-    p.default2
+    p.last && c.c4 && size_of(nodes, p.node2) != 0 && p.default2
 }
 
 // A leading space of the first text, or else a trailing space of the last one.
@@ -142,12 +111,9 @@ fn trim_outer(nodes: &mut [u32], text: &mut [u8], p: Pair, c: Edges)
 {
     if is_first_trimmed(nodes, p, c) {
         remove_first_space(nodes, text, p.node1);
-        return;
+    } else if is_last_trimmed(nodes, p, c) {
+        remove_last_space(nodes, text, p.node2);
     }
-    if !is_last_trimmed(nodes, p, c) {
-        return;
-    }
-    remove_last_space(nodes, text, p.node2);
 }
 
 // A trailing space of the first text of the last pair, where the second is empty.
@@ -157,19 +123,9 @@ fn trim_last_edge(nodes: &mut [u32], text: &mut [u8], p: Pair, c: Edges)
     ensures { texts_of nodes.new text.new
         ≡ after_last p c (texts_of nodes.old text.old) }
 {
-    if !p.last {
-        return;
+    if p.last && c.c2 && size_of(nodes, p.node2) == 0 && ends_with_space(nodes, text, p.node1) {
+        remove_last_space(nodes, text, p.node1);
     }
-    if !c.c2 {
-        return;
-    }
-    if size_of(nodes, p.node2) != 0 {
-        return;
-    }
-    if !ends_with_space(nodes, text, p.node1) {
-        return;
-    }
-    remove_last_space(nodes, text, p.node1);
 }
 
 // One pair whole.

@@ -1,78 +1,54 @@
 -- The rows of a font declaration's tables, and its steps. Assumes nothing.
 use Prim.Native.Nat.{ℕ, zero, suc, ◌+◌, ◌≤◌, ◌<◌}
-use mathlib.Core.Path.{◌≡◌, refl, sym, ap, ◌∙◌}
+use mathlib.Core.Path.{◌≡◌, refl, sym, ap}
 use mathlib.Core.Bool.{Bool, true, false}
 use mathlib.Core.List.{List, [], ◌∷◌}
 use mathlib.Core.Option.{Option, none, some}
 use native.Mathlib.Omega.{arith}
+use Rattle.std.proofs.Common as std
+use Rattle.std.proofs.Common.{Result, Ok, Some, None}
+use Rattle.std.specs.Option.{is_some}
+use Rattle.refusal.specs.declared.Refusal.{Refusal}
 use lib.Dec.{eqb}
 use lib.ListN.{length, get_or, drop}
-use Rattle.model.specs.Base.{pick, given, Pair}
+use lib.Seq.{drop-nil}
+use Rattle.model.specs.Base.{pick, given, Pair, ◌gives◌}
 use Rattle.model.specs.Drawing.{Part, Reading, part_at, value_at, reading_of}
 use Rattle.model.specs.Check.{most_bytes}
 use Rattle.model.specs.Theorems.Sim.{Every}
 use Rattle.model.specs.Theorems.Inside.{LiesPart}
 use Rattle.script.specs.Step.{Fit, most_place}
 use Rattle.walk.specs.declared.value.ValueAt.{ValueAt}
-use Rattle.walk.specs.declared.value.FoundPart.{FoundPart}
-use Rattle.walk.specs.declared.value.FoundPart.TheVariants as found
+use Rattle.walk.specs.declared.value.Part as W
 use Rattle.walk.specs.Values.{value_of, readings_in, part_of}
 use Rattle.tree.specs.Lent.{read_of}
-use Rattle.model.specs.Names.{font_resets}
 use Rattle.model.specs.Tables.{Entry}
-use Rattle.model.specs.Element.{font_parts, insert_entry, append_attribute, is_read}
+use Rattle.model.specs.Element.{insert_entry, append_attribute, is_read}
 use Rattle.entries.specs.declared.Place.{Place}
 use Rattle.entries.specs.declared.Value.{Value}
-use Rattle.entries.specs.declared.Stored.{Stored}
-use Rattle.entries.specs.declared.Stored.TheVariants.{Next}
 use Rattle.entries.specs.Space.{Space, Leaves, so_far, Above, inserted}
-use Rattle.element.specs.Font.{value_from, Held, declaration_of, row_of, reset_as, parts_of}
+use Rattle.element.specs.Font.{value_from, Held, declaration_of, reset_as, parts_of}
 use Rattle.entries.proofs.Storing.{same_entries}
 use Rattle.entries.proofs.Inserting.{inserts-more, append-on}
-use Rattle.element.proofs.Steps.{Steady}
+use Rattle.entries.proofs.Steps.{Steady}
 
--- The keys of a table of pairs, and its values.
-abbrev pub keys_of : List Pair → List ℕ
-keys_of [] = []
-keys_of (r ∷ rows) = r.key ∷ keys_of rows
+-- The rows of a table as pairs, and the rows from k on, the first of them by its pair.
+abbrev pub pairs_of : List Pair → List (ℕ × ℕ)
+pairs_of [] = []
+pairs_of (r ∷ rows) = (r.key, r.value) ∷ pairs_of rows
 
-abbrev pub values_of : List Pair → List ℕ
-values_of [] = []
-values_of (r ∷ rows) = r.value ∷ values_of rows
-
-pub key-at : (rows : List Pair) (k : ℕ) → get_or (keys_of rows) k 0 ≡ (row_of rows k).key
-key-at [] k = refl
-key-at (r ∷ rows) zero = refl
-key-at (r ∷ rows) (suc k) = key-at rows k
-
-pub value-at : (rows : List Pair) (k : ℕ) → get_or (values_of rows) k 0 ≡ (row_of rows k).value
-value-at [] k = refl
-value-at (r ∷ rows) zero = refl
-value-at (r ∷ rows) (suc k) = value-at rows k
-
--- The rows from k on are row k and those behind it.
-pub rows-from : (rows : List Pair) (k : ℕ) → k < length rows → drop k rows ≡ row_of rows k ∷ drop (k + 1) rows
-rows-from [] k h = absurd (omega arith)
-rows-from (r ∷ rows) zero h = refl
-rows-from (r ∷ rows) (suc k) h =
+pub rows-from : (rows : List Pair) (k : ℕ) (d : ℕ × ℕ) → k < length (pairs_of rows) →
+    drop k rows ≡ ((get_or (pairs_of rows) k d).0 gives (get_or (pairs_of rows) k d).1) ∷ drop (k + 1) rows
+rows-from [] k d h = absurd (omega arith)
+rows-from (r ∷ rows) zero d h = refl
+rows-from (r ∷ rows) (suc k) d h =
     let e : suc k + 1 ≡ suc (k + 1) = omega arith in
-    rw e (rows-from rows k (omega arith))
+    rw e (rows-from rows k d (omega arith))
 
--- Two tables beside each other are rows.
-pub row-known : (keys values : List ℕ) (rows : List Pair) → keys_of rows ≡ keys → values_of rows ≡ values → (k : ℕ) →
-    record { key = get_or keys k 0; value = get_or values k 0 } ≡ row_of rows k
-row-known keys values rows p q k =
-    let a : get_or keys k 0 ≡ (row_of rows k).key = rw (← p) (key-at rows k) in
-    let b : get_or values k 0 ≡ (row_of rows k).value = rw (← q) (value-at rows k) in
-    λ i. record { key = a i; value = b i }
-
--- Row k of the resets.
-pub reset-row : (k : ℕ) → record {
-  key = get_or (46 ∷ 48 ∷ 55 ∷ 45 ∷ 83 ∷ 44 ∷ 41 ∷ 49 ∷ 51 ∷ 52 ∷ 50 ∷ 53 ∷ []) k 0;
-  value = get_or (3 ∷ 3 ∷ 3 ∷ 3 ∷ 3 ∷ 1 ∷ 2 ∷ 3 ∷ 3 ∷ 3 ∷ 3 ∷ 3 ∷ []) k 0;
-} ≡ row_of font_resets k
-unfolding font_resets
-reset-row k = row-known _ _ font_resets refl refl k
+pub rows_end : (rows : List Pair) (k : ℕ) → length (pairs_of rows) ≤ k → drop k rows ≡ []
+rows_end [] k h = drop-nil k
+rows_end (r ∷ rows) zero h = absurd (omega arith)
+rows_end (r ∷ rows) (suc k) h = rows_end rows k (omega arith)
 
 -- A reset does not hang on the table.
 pub resets-steady : (ats : List ℕ) (place : Place) (important : ℕ) → Steady (λ m. reset_as important) ats place
@@ -97,22 +73,6 @@ parts-steady script chars ns ats place above important v = record {
         (append_attribute (read_of ns m) place.parent place.tag row.value important x (value_of script chars v).command)) (λ u. es))
     grow m es row none = omega arith
     grow m es row (some x) = inserts-more row.value es _
-
-pub resets-long : length font_resets ≡ 12
-unfolding font_resets
-resets-long = refl
-
--- Row k of the parts.
-pub part-row : (k : ℕ) → record {
-  key = get_or (5 ∷ 6 ∷ 7 ∷ 8 ∷ 9 ∷ 10 ∷ []) k 0;
-  value = get_or (45 ∷ 55 ∷ 48 ∷ 46 ∷ 43 ∷ 39 ∷ []) k 0;
-} ≡ row_of font_parts k
-unfolding font_parts
-part-row k = row-known _ _ font_parts refl refl k
-
-pub parts-long : length font_parts ≡ 6
-unfolding font_parts
-parts-long = refl
 
 -- A VALUE OF THE DRAWING
 
@@ -140,37 +100,34 @@ module _ (script chars : List ℕ) (v : ValueAt) (h : Held script chars v) where
   held-reading = (h.behind, omega (arith, held_whole, h.small))
 
   -- A part that was read lies within the characters.
-  pub held-part : (k : ℕ) (r : FoundPart) → part_of chars r ≡ reading_of k (readings_in script chars v.own.chars v.behind) →
-      (a l : ℕ) → r ≡ found.At a l → a + l ≤ length chars
+  pub held-part : (k : ℕ) (x : W.Part) → some (part_at chars x.start x.len) ≡ reading_of k (readings_in script chars v.own.chars v.behind) →
+      x.start + x.len ≤ length chars
   unfolding value_at part_at
-  held-part k r e a l q = among (length chars) k (readings_in script chars v.own.chars v.behind) h.lies.2 (part_at chars a l)
-      (sym e ∙ ap (λ x. part_of chars x) q)
+  held-part k x e =
+      among (length chars) k (readings_in script chars v.own.chars v.behind) h.lies.2 (part_at chars x.start x.len) (sym e)
 
   -- The parts are read under the value's command.
-  module _ (ns ats : List ℕ) (place : Place) (n important : ℕ) (row : Pair) (r : FoundPart)
-      (e : part_of chars r ≡ reading_of row.key (readings_in script chars v.own.chars v.behind)) where
-    pub part-inserted : (a l : ℕ) → r ≡ found.At a l → (whole : Value) → whole ≡ value_from v → (o : Stored) (m : List ℕ) →
+  module _ (ns ats : List ℕ) (place : Place) (n important : ℕ) (row : Pair) where
+    pub part-inserted : (x : W.Part) →
+        some (part_at chars x.start x.len) ≡ reading_of row.key (readings_in script chars v.own.chars v.behind) →
+        (whole : Value) → whole ≡ value_from v → (o : Result ℕ Refusal) (m : List ℕ) →
         Leaves ats place
-        (inserted ns ats chars place important (record { start = a; size = l; command = whole.command }) (so_far ats place n) row.value)
-        o m →
+        (inserted ns ats chars place important (record { start = x.start; size = x.len; command = whole.command }) (so_far ats place n)
+        row.value) o m →
         Leaves ats place (parts_of script chars ns place important v ats (so_far ats place n) row) o m
     unfolding value_at
-    part-inserted a l q whole w o m g =
-        let command : whole.command ≡ v.own.number + 1 = ap (λ (x : Value). x.command) w in rw (← e, q, ← command) g
+    part-inserted x e whole w o m g =
+        let command : whole.command ≡ v.own.number + 1 = ap (λ (y : Value). y.command) w in rw (← e, ← command) g
 
-    pub part-passed : r ≡ found.Nothing → Space ats place n →
-        Leaves ats place (parts_of script chars ns place important v ats (so_far ats place n) row) (Next n) ats
+    pub part-passed : none ≡ reading_of row.key (readings_in script chars v.own.chars v.behind) → Space ats place n →
+        Leaves ats place (parts_of script chars ns place important v ats (so_far ats place n) row) (Ok n) ats
     unfolding value_at
-    part-passed q s = rw (← e, q) (same_entries ats place n s)
+    part-passed e s = rw (← e) (same_entries ats place n s)
 
--- IS A KIND READ?
-
-module _ (script chars : List ℕ) (v : ValueAt) (k : ℕ) (r : FoundPart)
-    (e : part_of chars r ≡ reading_of k (readings_in script chars v.own.chars v.behind)) where
-  pub is-read : (a l : ℕ) → r ≡ found.At a l → true ≡ is_read (read_of [] []) 0 0 (declaration_of script chars 0 0 v) k
-  unfolding value_at
-  is-read a l q = rw (← e, q) refl
-
-  pub not-read : r ≡ found.Nothing → false ≡ is_read (read_of [] []) 0 0 (declaration_of script chars 0 0 v) k
-  unfolding value_at
-  not-read q = rw (← e, q) refl
+-- Is a kind read?
+pub is-read : (script chars : List ℕ) (v : ValueAt) (k : ℕ) (r : std.Option W.Part) →
+    part_of chars r ≡ reading_of k (readings_in script chars v.own.chars v.behind) →
+    is_some r ≡ is_read (read_of [] []) 0 0 (declaration_of script chars 0 0 v) k
+unfolding value_at
+is-read script chars v k (Some x) e = rw (← e) refl
+is-read script chars v k None e = rw (← e) refl

@@ -2,5 +2,4 @@ pub mod Declaring
 pub mod Fonts
 pub mod Keeping
 pub mod Running
-pub mod Steps
 pub mod Whole

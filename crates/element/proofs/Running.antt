@@ -1,10 +1,12 @@
 -- The loops over the attributes and over the declarations of an element. Assumes nothing.
 use Prim.Native.Nat.{ℕ, ◌≤◌}
-use mathlib.Core.Path.{◌≡◌, refl, subst}
+use mathlib.Core.Path.{◌≡◌, refl}
 use mathlib.Core.Bool.{Bool, true, false, not}
 use mathlib.Core.List.{List, [], ◌∷◌}
 use mathlib.Core.Option.{Option, none, some}
 use native.Mathlib.Omega.{arith}
+use Rattle.std.proofs.Common.{Result, Ok, Err}
+use Rattle.refusal.specs.declared.Refusal.{Refusal}
 use lib.Dec.{eqb}
 use lib.ListN.{length, length-append}
 use Rattle.model.specs.Base.{pick, and, given, folded, Pair}
@@ -21,20 +23,16 @@ use Rattle.model.specs.Theorems.Inside.{LiesValue}
 use Rattle.script.specs.declared.cursor.Cursor.{Cursor}
 use Rattle.script.specs.Step.{Fit}
 use Rattle.walk.specs.declared.value.ValueAt.{ValueAt}
-use Rattle.walk.specs.declared.value.NextValue.{NextValue}
 use Rattle.walk.specs.Values.{attributes_in, declarations_in, SameNodes, SameRest, value_of, Attributed, Declared}
-use Rattle.walk.proofs.Walks.{DeclarationIs}
 use Rattle.tree.specs.Lent.{read_of}
 use Rattle.entries.specs.declared.Place.{Place}
 use Rattle.entries.specs.declared.Value as E
-use Rattle.entries.specs.declared.Stored.{Stored}
-use Rattle.entries.specs.declared.Stored.TheVariants.{Next, Full}
 use Rattle.entries.specs.Space.{Space, Leaves, so_far, attribute_of, Above}
 use Rattle.element.specs.Font.{value_from, Held, declared_in}
 use Rattle.element.specs.Runs.{added_in}
 use Rattle.entries.proofs.Storing.{first_count}
 use Rattle.entries.proofs.Inserting.{inserts-more, agree_on}
-use Rattle.element.proofs.Steps.{folded_more, Steady, Towards, at_first, step-on, step-full, at-end}
+use Rattle.entries.proofs.Steps.{folded_more, Steady, Towards, at_first, step-on, step-full, at-end}
 
 -- What a loop walks over: the things from a cursor on, the value of each, and what of the script stays the same behind them.
 pub record Things : Type 1 where
@@ -56,7 +54,7 @@ module _ (t : Things) (size : ℕ) (f : List ℕ → List Entry → t.Thing → 
   run-first c n same lies s = record { same = same; lies = lies; towards = at_first f ats place n s (t.inside c) }
 
   module _ (goal : List Entry) (from c : Cursor) (n : ℕ) (m : List ℕ) (run : Running t size f ats place goal from c n m) where
-    pub run_end : Steady f ats place → [] ≡ t.inside c → Leaves ats place goal (Next n) m
+    pub run_end : Steady f ats place → [] ≡ t.inside c → Leaves ats place goal (Ok n) m
     run_end h e = at-end f ats place h goal n m (rw (← e) at run.towards)
 
     -- One thing more.
@@ -64,16 +62,16 @@ module _ (t : Things) (size : ℕ) (f : List ℕ → List Entry → t.Thing → 
       pub run_lies : LiesValue size (t.valued x)
       run_lies = (rw (← e) at run.lies).0
 
-      module _ (h : Steady f ats place) (r : Stored) (l : List ℕ) (step : Leaves m place (f m (so_far m place n) x) r l) where
-        pub run_step : t.Same from next → (k : ℕ) → r ≡ Next k → Running t size f ats place goal from next k l
+      module _ (h : Steady f ats place) (r : Result ℕ Refusal) (l : List ℕ) (step : Leaves m place (f m (so_far m place n) x) r l) where
+        pub run_step : t.Same from next → (k : ℕ) → r ≡ Ok k → Running t size f ats place goal from next k l
         run_step same k q = record {
           same = same;
           lies = (rw (← e) at run.lies).1;
           towards = step-on f ats place h goal n m x (t.inside next) (rw (← e) at run.towards) r l step k q;
         }
 
-        pub run-stop : r ≡ Full → Leaves ats place goal Full l
-        run-stop q = step-full f ats place h goal n m x (t.inside next) (rw (← e) at run.towards) r l step q
+        pub run-stop : (p q : Refusal) (o : Result ℕ Refusal) → r ≡ Err p → o ≡ Err q → q ≡ p → Leaves ats place goal o l
+        run-stop p q o d i j = step-full f ats place h goal n m x (t.inside next) (rw (← e) at run.towards) r l step p q o d i j
 
 -- THE ATTRIBUTES, THE DECLARATIONS
 
@@ -162,12 +160,6 @@ module _ (ns ats : List ℕ) (place : Place) (above : Above ns place) where
         above.range place.tag d es;
   }
 
--- WHAT THE NEXT ONE IS
-
-pub declaration-told : (script chars : List ℕ) (c : Cursor) (r x : NextValue) → r ≡ x → DeclarationIs script chars c r →
-    DeclarationIs script chars c x
-declaration-told script chars c r x e h = subst (DeclarationIs script chars c) e h
-
 -- Both can be stored.
 module _ (script chars : List ℕ) (small : length chars ≤ most_bytes) (c : Cursor) (v : ValueAt) where
   pub held-declared : Declared script chars c v → LiesValue (length chars) (value_of script chars v) → Held script chars v
@@ -178,7 +170,7 @@ module _ (script chars : List ℕ) (small : length chars ≤ most_bytes) (c : Cu
 
 -- What is read in an attribute's value does not matter to its entry.
 pub added-whole : (script chars ns m : List ℕ) (place : Place) (ignored : Bool) (n name space : ℕ) (v : ValueAt) (value : E.Value) →
-    value ≡ value_from v → (r : Stored) (l : List ℕ) →
+    value ≡ value_from v → (r : Result ℕ Refusal) (l : List ℕ) →
     Leaves m place (added_in ns place ignored m (so_far m place n) (attribute_of chars name space value)) r l →
     Leaves m place (added_in ns place ignored m (so_far m place n)
     (record { name = name; namespace = space; value = value_of script chars v })) r l

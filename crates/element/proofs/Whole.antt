@@ -4,6 +4,10 @@ use mathlib.Core.Path.{◌≡◌, refl, sym, ap, ◌∙◌}
 use mathlib.Core.Bool.{Bool, true, false}
 use mathlib.Core.List.{List, [], ◌∷◌}
 use native.Mathlib.Omega.{arith}
+use Rattle.std.proofs.Common.{Result, Ok, Err}
+use Rattle.refusal.specs.declared.Refusal.{Refusal}
+use Rattle.refusal.specs.declared.Refusal.TheVariants.{AttributesFull}
+use Rattle.refusal.specs.Number.{number_of}
 use borrow.Author.Tests.{le-leb, lt-leb, leb-true, lt-ltb, le-ltb}
 use lib.Dec.{leb, ltb}
 use lib.ListN.{length}
@@ -16,21 +20,18 @@ use Rattle.model.proofs.Theorems.Runs.{add_same, write_same}
 use Rattle.script.specs.declared.cursor.Cursor.{Cursor}
 use Rattle.walk.specs.declared.node.Opened.{Opened}
 use Rattle.walk.specs.Nodes.{element_of}
-use Rattle.walk.specs.Values.{attributes_in, declarations_in, SameRest, SameNodes}
+use Rattle.walk.specs.Values.{attributes_in, declarations_in, SameRest}
 use Rattle.tree.specs.declared.Counts.{Counts}
 use Rattle.tree.specs.Lent.{tree_of, read_of, nodes_read}
 use Rattle.entries.specs.declared.Place.{Place}
-use Rattle.entries.specs.declared.Stored.{Stored}
-use Rattle.entries.specs.declared.Stored.TheVariants as stored
 use Rattle.element.specs.declared.Run.{Run}
-use Rattle.element.specs.declared.Run.TheVariants as run
 use Rattle.entries.specs.Space.{Space, Leaves, so_far, Above}
 use Rattle.element.specs.Font.{declared_in}
-use Rattle.element.specs.Runs.{InDeclarations, added_in, entries_in, stored_of, RunRest, RunNodes, Ready}
+use Rattle.element.specs.Runs.{InDeclarations, added_in, entries_in, stored_of, RunNodes, Ready}
 use Rattle.walk.proofs.Finding.{nodes-on}
 use Rattle.entries.proofs.Storing.{On}
 use Rattle.entries.proofs.Inserting.{on-told}
-use Rattle.element.proofs.Steps.{run_on, run-full}
+use Rattle.entries.proofs.Steps.{run_on, run-full}
 use Rattle.element.proofs.Running.{writes-steady}
 
 -- Before the first entry.
@@ -42,7 +43,7 @@ unfolding entries_from
 none_yet ats place = let z : place.first - place.first ≡ 0 = omega arith in rw z refl
 
 module _ (script chars ns ats : List ℕ) (place : Place) (ignored : Bool) (from : Cursor) (room : 5 * place.room ≤ length ats)
-    (above : Above ns place) (r : Run) (m : List ℕ)
+    (above : Above ns place) (r : Result Run Refusal) (m : List ℕ)
     (step : Leaves ats place (folded (added_in ns place ignored ats) (so_far ats place place.first) (attributes_in script chars from))
     (stored_of r) m) where
   -- The entries of the attributes.
@@ -52,22 +53,24 @@ module _ (script chars ns ats : List ℕ) (place : Place) (ignored : Bool) (from
   step-none : Leaves ats place added (stored_of r) m
   step-none = rw (none_yet ats place) at step
 
-  pub entries-full : r ≡ run.Full → Leaves ats place (entries_in script chars ns place ignored ats from) stored.Full m
-  entries-full e =
+  pub entries-full : (p q : Refusal) (o : Result Run Refusal) → r ≡ Err p → o ≡ Err q → q ≡ p →
+      Leaves ats place (entries_in script chars ns place ignored ats from) (stored_of o) m
+  entries-full p q o e d i =
       run-full (declared_in ns place) ats place (writes-steady ns ats place above) added (declarations_in script chars from) room (stored_of
       r) m
-      step-none (ap stored_of e)
+      step-none p q (stored_of o) (ap stored_of e) (ap stored_of d) i
 
-  module _ (n : ℕ) (c : Cursor) (e : r ≡ run.Next n c) where
-    pub entries-on : On ats place added n m
-    entries-on = on-told ats place room added (stored_of r) m step-none n (ap stored_of e)
+  module _ (x : Run) (e : r ≡ Ok x) where
+    pub entries-on : On ats place added x.next m
+    entries-on = on-told ats place room added (stored_of r) m step-none x.next (ap stored_of e)
 
-    pub entries-behind : declarations_in script chars c ≡ declarations_in script chars from → (o : Stored) (l : List ℕ) →
-        Leaves m place (folded (declared_in ns place m) (so_far m place n) (declarations_in script chars c)) o l →
+    pub entries-behind : declarations_in script chars x.behind ≡ declarations_in script chars from →
+        (o : Result ℕ Refusal) (l : List ℕ) →
+        Leaves m place (folded (declared_in ns place m) (so_far m place x.next) (declarations_in script chars x.behind)) o l →
         Leaves ats place (entries_in script chars ns place ignored ats from) o l
     entries-behind same o l h =
-        run_on (declared_in ns place) ats place (writes-steady ns ats place above) added (declarations_in script chars from) n m entries-on
-        o l
+        run_on (declared_in ns place) ats place (writes-steady ns ats place above) added (declarations_in script chars from) x.next m
+        entries-on o l
         (rw same at h)
 
 -- The same declarations behind the attributes.
@@ -75,26 +78,22 @@ pub declarations-behind : (script chars : List ℕ) (from c : Cursor) → SameRe
     InDeclarations script chars c
 declarations-behind script chars from c s h = record { fit = s.nodes.fit; lie = rw s.declarations h.lie; small = h.small }
 
-pub rest-told : (script chars : List ℕ) (from : Cursor) (r : Run) (n : ℕ) (c : Cursor) → r ≡ run.Next n c → RunRest script chars from r →
-    SameRest script chars from c
-rest-told script chars from r n c e h = rw e at h
-
 -- What is behind the declarations is behind the attributes.
-pub run-nodes : (script chars : List ℕ) (from c : Cursor) (r : Run) → SameRest script chars from c → RunNodes script chars c r →
-    RunNodes script chars from r
-run-nodes script chars from c (run.Next n k) s h = nodes-on script chars from c k s.nodes h
-run-nodes script chars from c run.Full s h = tt
+pub run-nodes : (script chars : List ℕ) (from c : Cursor) (r : Result Run Refusal) → SameRest script chars from c →
+    RunNodes script chars c r → RunNodes script chars from r
+run-nodes script chars from c (Ok x) s h = nodes-on script chars from c x.behind s.nodes h
+run-nodes script chars from c (Err r) s h = tt
 
 -- THE NODE
 
 -- What an answer says of the test for room.
-full-answer : (b : Bool) (n : ℕ) → stored.Full ≡ pick b (λ u. stored.Next n) (λ u. stored.Full) → b ≡ false
-full-answer true n e = let z : ◌≡◌ {A = ℕ} 0 1 = cc in absurd (omega arith)
-full-answer false n e = refl
+full-answer : (b : Bool) (n : ℕ) (q : Refusal) → Err q ≡ pick b (λ u. Ok n) (λ u. Err AttributesFull) → (b ≡ false) × (q ≡ AttributesFull)
+full-answer true n q e = absurd cc
+full-answer false n q e = (refl, cc)
 
-next-answer : (b : Bool) (k n : ℕ) → stored.Next k ≡ pick b (λ u. stored.Next n) (λ u. stored.Full) → (b ≡ true) × (k ≡ n)
+next-answer : (b : Bool) (k n : ℕ) → Ok k ≡ pick b (λ u. Ok n) (λ u. Err AttributesFull) → (b ≡ true) × (k ≡ n)
 next-answer true k n e = (refl, cc)
-next-answer false k n e = let z : ◌≡◌ {A = ℕ} 0 1 = cc in absurd (omega arith)
+next-answer false k n e = absurd cc
 
 module _ (ns ats : List ℕ) (c : Counts) (p tag : ℕ) (ready : Ready ns ats c p) (room : ℕ) (is : room ≡ attribute_room (table_of ats)) where
   -- Where the element's entries go.
@@ -158,15 +157,15 @@ module _ (ns ats : List ℕ) (c : Counts) (p tag : ℕ) (ready : Ready ns ats c 
     unfolding parse_svg_element attribute_room node_room
     whole = rw (entries-alike, is) refl
 
-    module _ (r : Run) (m : List ℕ) (step : Leaves ats at es (stored_of r) m) where
-      pub no_room : r ≡ run.Full → refused 23 ≡ parse_svg_element (element_of script chars e) tag ignored p t
-      no_room q =
-          let h = full-answer (leb (c.attributes + length es) room) (c.attributes + length es) (sym (ap stored_of q) ∙ step.answer) in
-          sym (whole ∙ rw h refl)
+    module _ (r : Result Run Refusal) (m : List ℕ) (step : Leaves ats at es (stored_of r) m) where
+      pub no_room : (d : Refusal) → r ≡ Err d → refused (number_of d) ≡ parse_svg_element (element_of script chars e) tag ignored p t
+      no_room d q =
+          let h = full-answer (leb (c.attributes + length es) room) (c.attributes + length es) d (sym (ap stored_of q) ∙ step.answer) in
+          ap (λ (x : Refusal). refused (number_of x)) h.1 ∙ sym (whole ∙ rw h.0 refl)
 
-      module _ (n : ℕ) (behind : Cursor) (q : r ≡ run.Next n behind) where
-        room-told : (leb (c.attributes + length es) room ≡ true) × (n ≡ c.attributes + length es)
-        room-told = next-answer (leb (c.attributes + length es) room) n (c.attributes + length es) (sym (ap stored_of q) ∙ step.answer)
+      module _ (x : Run) (q : r ≡ Ok x) where
+        room-told : (leb (c.attributes + length es) room ≡ true) × (x.next ≡ c.attributes + length es)
+        room-told = next-answer (leb (c.attributes + length es) room) x.next (c.attributes + length es) (sym (ap stored_of q) ∙ step.answer)
 
         pub too_many : 1000000 < c.nodes → refused 20 ≡ parse_svg_element (element_of script chars e) tag ignored p t
         too_many h = sym (whole ∙ rw (room-told.0, lt-leb c.nodes most_nodes h) refl)
@@ -176,8 +175,8 @@ module _ (ns ats : List ℕ) (c : Counts) (p tag : ℕ) (ready : Ready ns ats c 
         no_record h f = sym (whole ∙ rw (room-told.0, le-leb c.nodes most_nodes h, le-ltb c.nodes (node_room (nodes_read ns)) f) refl)
 
         pub appended-here : c.nodes ≤ 1000000 → c.nodes < node_room (nodes_read ns) → (l : List ℕ) →
-            l ≡ appended ELEMENT tag c.attributes n ns p c.nodes →
-            done (tree_of l m bs (record { nodes = c.nodes + 1; attributes = n; text = c.text }))
+            l ≡ appended ELEMENT tag c.attributes x.next ns p c.nodes →
+            done (tree_of l m bs (record { nodes = c.nodes + 1; attributes = x.next; text = c.text }))
             ≡ parse_svg_element (element_of script chars e) tag ignored p t
         unfolding add_element with_run
         appended-here h f l a =
@@ -191,7 +190,3 @@ module _ (ns ats : List ℕ) (c : Counts) (p tag : ℕ) (ready : Ready ns ats c 
       (8 * c.nodes + 7 < length ns) × (p < c.nodes) × (c.nodes < 4294967295) × (word ns p 4 ≤ c.nodes)
   unfolding node_room
   record-there f = (omega arith, ready.below, omega arith, ready.last)
-
-pub nodes-told : (script chars : List ℕ) (from : Cursor) (r : Run) (n : ℕ) (c : Cursor) → r ≡ run.Next n c → RunNodes script chars from r →
-    SameNodes script chars from c
-nodes-told script chars from r n c e h = rw e at h

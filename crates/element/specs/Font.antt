@@ -1,7 +1,7 @@
 -- A value of the drawing as it stands in the script, and the steps of a font declaration.
-use Rattle.std.specs.Prelude.{ℕ, ◌+◌, ◌≤◌, Bool, List, [], length, get_or}
+use Rattle.std.specs.Prelude.{ℕ, ◌+◌, ◌≤◌, Bool, List, [], length}
 use Rattle.std.proofs.Math.Option.{some}
-use Rattle.model.specs.Base.{pick, and, folded, Pair, ◌gives◌}
+use Rattle.model.specs.Base.{pick, and, folded, Pair}
 use Rattle.model.specs.Names.{font_resets}
 use Rattle.model.specs.Drawing.{Declaration}
 use Rattle.model.specs.Tables.{Entry, fixed_entry}
@@ -29,10 +29,6 @@ pub record Held (script chars : List ℕ) (v : ValueAt) : Type 0 where
 -- The declaration of a value.
 abbrev pub declaration_of : List ℕ → List ℕ → ℕ → ℕ → ValueAt → Declaration
 declaration_of script chars name important v = record { name = name; important = important; value = value_of script chars v }
-
--- Row k of a table of pairs.
-abbrev pub row_of : List Pair → ℕ → Pair
-row_of rows k = get_or rows k (0 gives 0)
 
 -- One of the resets of a font declaration of that importance.
 abbrev pub reset_as : ℕ → List Entry → Pair → List Entry

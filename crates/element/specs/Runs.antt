@@ -1,5 +1,5 @@
 -- The attributes and declarations of an element in the script, one after another.
-use Rattle.std.specs.Prelude.{ℕ, ◌*◌, ◌≤◌, ◌<◌, ◌≡◌, List, [], length, Bool}
+use Rattle.std.specs.Prelude.{ℕ, ◌*◌, ◌≤◌, ◌<◌, ◌≡◌, List, [], length, Bool, Result, Ok, Err}
 use Rattle.model.specs.Base.{folded}
 use Rattle.model.specs.Check.{most_bytes}
 use Rattle.model.specs.Drawing.{Attribute, Declaration}
@@ -10,16 +10,14 @@ use Rattle.model.specs.Theorems.Inside.{LiesValue}
 use Rattle.script.specs.declared.cursor.Cursor.{Cursor}
 use Rattle.script.specs.Step.{Fit}
 use Rattle.walk.specs.Values.{attributes_in, declarations_in, SameNodes, SameRest}
+use Rattle.refusal.specs.declared.Refusal.{Refusal}
 use Rattle.tree.specs.declared.Counts.{Counts}
+use Rattle.refusal.specs.Number.{number_of}
 use Rattle.tree.specs.Lent.{tree_of, read_of}
 use Rattle.entries.specs.declared.Place.{Place}
-use Rattle.entries.specs.declared.Stored.{Stored}
-use Rattle.entries.specs.declared.Stored.TheVariants as stored
 use Rattle.element.specs.Font.{declared_in}
 use Rattle.element.specs.declared.Run.{Run}
-use Rattle.element.specs.declared.Run.TheVariants as run
 use Rattle.element.specs.declared.Parsed.{Parsed}
-use Rattle.element.specs.declared.Parsed.TheVariants as parsed
 
 -- A cursor inside an element whose attributes lie, with their readings, within the characters, which are at most 1,048,576.
 pub record InAttributes (script chars : List ℕ) (c : Cursor) : Type 0 where
@@ -44,19 +42,19 @@ entries_in script chars ns place ignored ats c =
     chars c)
 
 -- Where a run left the entries.
-abbrev pub stored_of : Run → Stored
-stored_of (run.Next n c) = stored.Next n
-stored_of run.Full = stored.Full
+abbrev pub stored_of : Result Run Refusal → Result ℕ Refusal
+stored_of (Ok x) = Ok x.next
+stored_of (Err r) = Err r
 
 -- The cursor behind the attributes: the same declarations and nodes.
-abbrev pub RunRest : List ℕ → List ℕ → Cursor → Run → Type 0
-RunRest script chars from (run.Next n c) = SameRest script chars from c
-RunRest script chars from run.Full = Unit {0}
+abbrev pub RunRest : List ℕ → List ℕ → Cursor → Result Run Refusal → Type 0
+RunRest script chars from (Ok x) = SameRest script chars from x.behind
+RunRest script chars from (Err r) = Unit {0}
 
 -- The cursor behind the declarations: the same nodes.
-abbrev pub RunNodes : List ℕ → List ℕ → Cursor → Run → Type 0
-RunNodes script chars from (run.Next n c) = SameNodes script chars from c
-RunNodes script chars from run.Full = Unit {0}
+abbrev pub RunNodes : List ℕ → List ℕ → Cursor → Result Run Refusal → Type 0
+RunNodes script chars from (Ok x) = SameNodes script chars from x.behind
+RunNodes script chars from (Err r) = Unit {0}
 
 -- THE ELEMENT
 
@@ -72,11 +70,11 @@ pub record Ready (ns ats : List ℕ) (c : Counts) (p : ℕ) : Type 0 where
   pub last : word ns p 4 ≤ c.nodes
 
 -- What an element comes to, with the tables as they are left.
-abbrev pub parsed_of : List ℕ → List ℕ → List ℕ → Parsed → Out Tree
-parsed_of ns ats bs (parsed.Refused k) = refused k
-parsed_of ns ats bs (parsed.Done c behind) = done (tree_of ns ats bs c)
+abbrev pub parsed_of : List ℕ → List ℕ → List ℕ → Result Parsed Refusal → Out Tree
+parsed_of ns ats bs (Err r) = refused (number_of r)
+parsed_of ns ats bs (Ok p) = done (tree_of ns ats bs p.counts)
 
 -- The cursor behind it: where its children begin.
-abbrev pub ParsedFit : List ℕ → List ℕ → Cursor → Parsed → Type 0
-ParsedFit script chars from (parsed.Refused k) = Unit {0}
-ParsedFit script chars from (parsed.Done c behind) = SameNodes script chars from behind
+abbrev pub ParsedFit : List ℕ → List ℕ → Cursor → Result Parsed Refusal → Type 0
+ParsedFit script chars from (Ok p) = SameNodes script chars from p.behind
+ParsedFit script chars from (Err r) = Unit {0}

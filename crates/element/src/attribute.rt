@@ -5,12 +5,14 @@ ghost use Rattle.entries.specs.Space.{Space, Leaves, so_far, Above};
 ghost use Rattle.element.specs.Runs.{InAttributes, added_in, stored_of, RunRest};
 
 use crate::{Run, value_of};
+use entries::Place;
 use entries::attribute::add_attribute;
-use entries::{Place, Stored};
+use refusal::Refusal;
 use script::cursor::Cursor;
-use walk::value::{NextValue, next_attribute};
+use walk::value::next_attribute;
 
 // The attributes of an element, from inside it, one after another.
+// `write_declarations` walks in the same way; a function for both would need a trait with laws for what is stored, and be longer.
 pub fn add_attributes(
     script: &[u8],
     characters: &[u8],
@@ -20,7 +22,7 @@ pub fn add_attributes(
     next: u32,
     ignored: bool,
     from: Cursor,
-) -> Run
+) -> Result<Run, Refusal>
     requires space { Space attributes.old place next }
     requires above { Above nodes.now place }
     requires in_attributes { InAttributes script.now characters.now from }
@@ -33,19 +35,22 @@ pub fn add_attributes(
     let mut n = next;
     loop {
         match next_attribute(script, characters, c) {
-            NextValue::At(name, space, v) => {
-                let value = value_of(v);
-                let step = add_attribute(
-                    nodes, attributes, characters, place, n, ignored, name, space, value,
-                );
-                let Stored::Next(k) = step else {
-                    return Run::Full;
-                };
-                n = k;
-                c = v.behind;
+            Ok(x) => {
+                n = add_attribute(
+                    nodes,
+                    attributes,
+                    characters,
+                    place,
+                    n,
+                    ignored,
+                    x.name,
+                    x.qualifier,
+                    value_of(x.value),
+                )?;
+                c = x.value.behind;
             }
-            NextValue::End(behind) => {
-                return Run::Next(n, behind);
+            Err(behind) => {
+                return Ok(Run { next: n, behind });
             }
         }
     }

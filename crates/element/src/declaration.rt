@@ -7,11 +7,12 @@ ghost use Rattle.element.specs.Runs.{InDeclarations, stored_of, RunNodes};
 
 use crate::font::insert_font;
 use crate::{Run, value_of};
+use entries::Place;
 use entries::insert::{insert_attribute, insert_marker};
-use entries::{Place, Stored};
 use names::{aid, is_presentation};
+use refusal::Refusal;
 use script::cursor::Cursor;
-use walk::value::{NextValue, ValueAt, next_declaration};
+use walk::value::{Named, next_declaration};
 
 // The number that stands for `marker` among declarations.
 const MARKER: u32 = 254;
@@ -24,33 +25,31 @@ pub fn write_declaration(
     attributes: &mut [u32],
     place: Place,
     next: u32,
-    name: u8,
-    important: u8,
-    v: ValueAt,
-) -> Stored
+    x: Named,
+) -> Result<u32, Refusal>
     requires space { Space attributes.old place next }
     requires above { Above nodes.now place }
-    requires held { Held script.now characters.now v }
+    requires held { Held script.now characters.now x.value }
     ensures { Leaves attributes.old place
         (declared_in nodes.now place attributes.old (so_far attributes.old place next)
-        (declaration_of script.now characters.now name important v)) result attributes.new }
+        (declaration_of script.now characters.now x.name x.qualifier x.value)) result attributes.new }
 {
-    let value = value_of(v);
-    let code = name as u32;
-    let weight = important as u32;
-    if code == MARKER {
-        return insert_marker(nodes, attributes, characters, place, next, weight, value);
+    let value = value_of(x.value);
+    let name = u32::from(x.name);
+    let important = u32::from(x.qualifier);
+    if name == MARKER {
+        return insert_marker(nodes, attributes, characters, place, next, important, value);
     }
-    if code == aid::FONT {
+    if name == aid::FONT {
         return insert_font(
-            script, characters, nodes, attributes, place, next, weight, v,
+            script, characters, nodes, attributes, place, next, important, x.value,
         );
     }
-    if !is_presentation(code) {
-        return Stored::Next(next);
+    if !is_presentation(name) {
+        return Ok(next);
     }
     insert_attribute(
-        nodes, attributes, characters, place, next, code, weight, value,
+        nodes, attributes, characters, place, next, name, important, value,
     )
 }
 
@@ -63,7 +62,7 @@ pub fn write_declarations(
     place: Place,
     next: u32,
     from: Cursor,
-) -> Run
+) -> Result<Run, Refusal>
     requires space { Space attributes.old place next }
     requires above { Above nodes.now place }
     requires in_declarations { InDeclarations script.now characters.now from }
@@ -76,18 +75,12 @@ pub fn write_declarations(
     let mut n = next;
     loop {
         match next_declaration(script, characters, c) {
-            NextValue::At(name, important, v) => {
-                let step = write_declaration(
-                    script, characters, nodes, attributes, place, n, name, important, v,
-                );
-                let Stored::Next(k) = step else {
-                    return Run::Full;
-                };
-                n = k;
-                c = v.behind;
+            Ok(x) => {
+                n = write_declaration(script, characters, nodes, attributes, place, n, x)?;
+                c = x.value.behind;
             }
-            NextValue::End(behind) => {
-                return Run::Next(n, behind);
+            Err(behind) => {
+                return Ok(Run { next: n, behind });
             }
         }
     }

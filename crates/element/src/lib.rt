@@ -7,6 +7,7 @@ ghost use Rattle.element.specs.Font.{value_from};
 
 use entries::Value;
 use script::cursor::Cursor;
+use tree::Counts;
 use walk::value::ValueAt;
 
 pub mod attribute;
@@ -14,19 +15,18 @@ pub mod declaration;
 pub mod font;
 pub mod parse;
 
-// Where a run of steps left the entries, and the cursor behind what was read; or there is no room for an entry.
+// Where a run of steps left the entries, and the cursor behind what was read.
 #[derive(Clone, Copy)]
-pub enum Run {
-    Next(u32, Cursor),
-    Full,
+pub struct Run {
+    pub next: u32,
+    pub behind: Cursor,
 }
 
-// What an element comes to: a refusal's number; or how much of the tables is taken then, and the cursor behind what belongs to it,
-// where its children begin.
+// How much of the tables is taken behind an element, and the cursor behind what belongs to it, where its children begin.
 #[derive(Clone, Copy)]
-pub enum Parsed {
-    Refused(u32),
-    Done(tree::Counts, Cursor),
+pub struct Parsed {
+    pub counts: Counts,
+    pub behind: Cursor,
 }
 
 // A value of the drawing: its place, its length and the number of its command.

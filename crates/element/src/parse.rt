@@ -10,10 +10,11 @@ use crate::attribute::add_attributes;
 use crate::declaration::write_declarations;
 use crate::{Parsed, Run};
 use entries::Place;
+use refusal::Refusal;
 use script::cursor::Cursor;
 use tree::room::{attribute_room, node_room};
 use tree::write::append;
-use tree::{Counts, word};
+use tree::{Counts, Kind, NewNode};
 use walk::node::Opened;
 
 // The entries of an element, from inside it: those of its attributes, then those of its declarations.
@@ -25,7 +26,7 @@ fn store_entries(
     place: Place,
     ignored: bool,
     from: Cursor,
-) -> Run
+) -> Result<Run, Refusal>
     requires first_le_room { (place.first ≤ place.room) × (5 * place.room ≤ length attributes.old) }
     requires above { Above nodes.now place }
     requires in_attributes { InAttributes script.now characters.now from × InDeclarations script.now characters.now from }
@@ -34,7 +35,7 @@ fn store_entries(
         (stored_of result) attributes.new }
     ensures behind { RunNodes script.now characters.now from result }
 {
-    let first = add_attributes(
+    let run = add_attributes(
         script,
         characters,
         nodes,
@@ -43,17 +44,16 @@ fn store_entries(
         place.first,
         ignored,
         from,
-    );
-    let Run::Next(next, behind) = first else {
-        return Run::Full;
-    };
-    write_declarations(script, characters, nodes, attributes, place, next, behind)
+    )?;
+    write_declarations(
+        script, characters, nodes, attributes, place, run.next, run.behind,
+    )
 }
 
 // The nodes that may be present before an element is appended.
 const MOST_NODES: u32 = 1000000;
 
-// `parse_svg_element`: the element below `parent`, under the name `tag`. No entry left is 23, too many nodes 20, no record left 22, in this
+// `parse_svg_element`: the element below `parent`, under the name `tag`. Refusals: no entry left, too many nodes, no record left, in this
 // order. What a refusal leaves lies behind the counts, in the attribute table alone.
 pub fn parse_svg_element(
     script: &[u8],
@@ -65,7 +65,7 @@ pub fn parse_svg_element(
     tag: u32,
     ignored: bool,
     e: Opened,
-) -> Parsed
+) -> Result<Parsed, Refusal>
     requires ready { Ready nodes.old attributes.old counts parent }
     requires in_attributes { InAttributes script.now characters.now e.inside × InDeclarations script.now characters.now e.inside }
     ensures outcome { (bs : List ℕ) → parsed_of nodes.new attributes.new bs result
@@ -79,31 +79,30 @@ pub fn parse_svg_element(
         first: counts.attributes,
         room: attribute_room(attributes),
     };
-    let run = store_entries(
+    let stored = store_entries(
         script, characters, nodes, attributes, place, ignored, e.inside,
     );
-    let Run::Next(next, behind) = run else {
-        return Parsed::Refused(23);
-    };
+    let run = stored?;
     if counts.nodes > MOST_NODES {
-        return Parsed::Refused(20);
+        return Err(Refusal::ElementsLimitReached);
     }
     if node_room(nodes) <= counts.nodes {
-        return Parsed::Refused(22);
+        return Err(Refusal::NodesFull);
     }
-    append(
-        nodes,
-        word::ELEMENT,
-        tag,
-        counts.attributes,
-        next,
-        parent,
-        counts.nodes,
-    );
+    let node = NewNode {
+        kind: Kind::Element,
+        code: tag,
+        from: counts.attributes,
+        to: run.next,
+    };
+    append(nodes, node, parent, counts.nodes);
     let taken = Counts {
         nodes: counts.nodes + 1,
-        attributes: next,
+        attributes: run.next,
         text: counts.text,
     };
-    Parsed::Done(taken, behind)
+    Ok(Parsed {
+        counts: taken,
+        behind: run.behind,
+    })
 }

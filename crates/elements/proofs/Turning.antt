@@ -27,17 +27,18 @@ use Rattle.walk.specs.Values.{events_at, SameNodes}
 use Rattle.tree.specs.declared.Counts.{Counts}
 use Rattle.tree.specs.Lent.{tree_of}
 use Rattle.element.specs.declared.Parsed.{Parsed}
-use Rattle.element.specs.declared.Parsed.TheVariants as parsed
 use Rattle.element.specs.Runs.{InAttributes, InDeclarations, Ready, parsed_of, ParsedFit}
 use Rattle.element.proofs.Keeping.{kept-ready, element-grown}
 use Rattle.elements.specs.declared.State.{State}
-use Rattle.elements.specs.declared.Turn.{Turn}
-use Rattle.elements.specs.declared.Turn.TheVariants as turn
+use Rattle.std.specs.Prelude.{Option, Some, None, Result, Ok, Err}
+use Rattle.refusal.specs.declared.Refusal.{Refusal}
+use Rattle.build.specs.Results.{nothing}
+use Rattle.build.proofs.Building.{both_small}
 use Rattle.label.specs.Walk.{Lies}
 use Rattle.label.specs.Whole.{Beginning, Closed, ClosedFit}
 use Rattle.label.proofs.Growing.{made-element}
 use Rattle.label.proofs.Walking.{lies-leave}
-use Rattle.elements.specs.Turns.{is_kept, tag_in, Going, Opening, TurnFit}
+use Rattle.elements.specs.Turns.{Going, Opening, TurnFit}
 
 module _ (script chars ns ats bs : List ℕ) (s : State) (g : Going script chars ns ats bs s) where
   abbrev t : Tree
@@ -114,11 +115,11 @@ module _ (script chars ns ats bs : List ℕ) (s : State) (g : Going script chars
     }
 
     -- Behind a text element.
-    pub labelled : (r : Parsed) (c : Counts) (behind : Cursor) → r ≡ parsed.Done c behind → (ms as' bs' : List ℕ) →
+    pub labelled : (r : Result Parsed Refusal) (x : Parsed) → r ≡ Ok x → (ms as' bs' : List ℕ) →
         ClosedFit script chars e.inside s.counts.nodes ms as' bs' r →
-        Going script chars ms as' bs' (record { c = behind; parent = s.parent; counts = c }) × (s.c.at < behind.at)
-    labelled r c behind q ms as' bs' h =
-        let k : Closed script chars e.inside s.counts.nodes (tree_of ms as' bs' c) behind = rw q at h in (
+        Going script chars ms as' bs' (record { c = x.behind; parent = s.parent; counts = x.counts }) × (s.c.at < x.behind.at)
+    labelled r x q ms as' bs' h =
+        let k : Closed script chars e.inside s.counts.nodes (tree_of ms as' bs' x.counts) x.behind = rw q at h in (
           record {
             fit = k.fit;
             all = g.all;
@@ -150,36 +151,19 @@ module _ (script chars : List ℕ) (s : State) where
     pub behind-close : close ∷ events_at script chars c ≡ events_at script chars s.c → Lies chars (events_at script chars c)
     behind-close q = let h : Lies chars (close ∷ events_at script chars c) = subst (Lies chars) (sym q) l in h
 
--- What an element that was done is told to have come to.
-module _ (r : Parsed) (c : Counts) (behind : Cursor) (e : r ≡ parsed.Done c behind) where
-  pub done-told : (ms as' bs : List ℕ) (x : Out Tree) → parsed_of ms as' bs r ≡ x → done (tree_of ms as' bs c) ≡ x
-  done-told ms as' bs x h = rw e at h
-
-  pub behind-told : (script chars : List ℕ) (from : Cursor) → ParsedFit script chars from r → SameNodes script chars from behind
-  behind-told script chars from h = rw e at h
-
--- What check says of the lengths.
-both_small : (script chars : List ℕ) → check script chars ≡ 0 → (length script ≤ most_bytes) × (length chars ≤ most_bytes)
-unfolding check
-both_small script chars h = go (ltb most_bytes (length script)) (ltb most_bytes (length chars)) refl refl h
-  where
-    go : (a b : Bool) → ltb most_bytes (length script) ≡ a → ltb most_bytes (length chars) ≡ b →
-        pick (or a b) (λ u. 1) (λ u. check_from chars (length chars) C.starting (commands script)) ≡ 0 →
-        (length script ≤ most_bytes) × (length chars ≤ most_bytes)
-    go true b p q g = let z : ◌≡◌ {A = ℕ} 1 0 = g in absurd (omega arith)
-    go false true p q g = let z : ◌≡◌ {A = ℕ} 1 0 = g in absurd (omega arith)
-    go false false p q g = (ltb-false _ _ p, ltb-false _ _ q)
-
 first-lies : (script chars : List ℕ) → check script chars ≡ 0 → Lies chars (events_at script chars at_start)
 unfolding events commands_at
 first-lies script chars h = all-inside script chars h
 
 -- The first state.
-pub starting : (script chars : List ℕ) (n m b : ℕ) → check script chars ≡ 0 → (mid : List ℕ) → mid ≡ replicate n 0 → 8 ≤ length mid →
-    (c : Cursor) → c ≡ at_start → (ns ats bs : List ℕ) → ns ≡ set_word mid 0 0 1 → ats ≡ replicate m 0 → bs ≡ replicate b 0 →
+pub starting : (script chars : List ℕ) (n m b : ℕ) → check script chars ≡ 0 → (mid ats bs : List ℕ) →
+    tree_of mid ats bs nothing ≡ cleared n m b → 8 ≤ length mid → (c : Cursor) → c ≡ at_start → (ns : List ℕ) → ns ≡ set_word mid 0 0 1 →
     Going script chars ns ats bs (record { c = c; parent = 0; counts = record { nodes = 1; attributes = 0; text = 0 } })
 unfolding rooted cleared
-starting script chars n m b h mid z l c e ns ats bs p q r =
+starting script chars n m b h mid ats bs k l c e ns p =
+    let z : mid ≡ replicate n 0 = ap (λ (t : Tree). t.nodes) k in
+    let q : ats ≡ replicate m 0 = ap (λ (t : Tree). t.attributes) k in
+    let r : bs ≡ replicate b 0 = ap (λ (t : Tree). t.text) k in
     let long : length mid ≡ n = ap length z ∙ length-replicate n 0 in
     rw (e, p, q, r, z) (record {
       fit = placed_first script at_start refl (both_small script chars h).0;
@@ -191,23 +175,8 @@ starting script chars n m b h mid z l c e ns ats bs p q r =
       below = omega arith;
     })
 
--- A node's name is a code of the list.
-pub kept-code : (code space : ℕ) → is_kept code space ≡ true → is_element code ≡ true
-kept-code code space h = go (leb space 1) (not (eqb code EId.Style)) (is_element code) h
-  where
-    go : (a b c : Bool) → and a (and b c) ≡ true → c ≡ true
-    go true true c q = q
-    go true false c q = let z : ◌≡◌ {A = ℕ} 0 1 = cc in absurd (omega arith)
-    go false b c q = let z : ◌≡◌ {A = ℕ} 0 1 = cc in absurd (omega arith)
-
-pub kept-tag : (tag code space : ℕ) → tag ≡ tag_in code → is_kept code space ≡ true → is_element tag ≡ true
-unfolding is_element
-kept-tag tag code space q h = rw q (go (eqb code EId.A))
-  where
-    go : (b : Bool) → is_element (pick b (λ u. EId.G) (λ u. code)) ≡ true
-    go true = refl
-    go false = kept-code code space h
-
-pub turn-told : (script chars ns ats bs : List ℕ) (s : State) (r : Turn) (n : State) → r ≡ turn.On n →
-    TurnFit script chars ns ats bs s r → Going script chars ns ats bs n × (s.c.at < n.c.at)
-turn-told script chars ns ats bs s r n e h = rw e at h
+pub turn-told : (script chars ns ats bs : List ℕ) (s : State) (r : Result (Option State) Refusal) (x : Option State) (n : State) →
+    r ≡ Ok x → x ≡ Some n → TurnFit script chars ns ats bs s r → Going script chars ns ats bs n × (s.c.at < n.c.at)
+turn-told script chars ns ats bs s r x n e f h =
+    let k : TurnFit script chars ns ats bs s (Ok x) = subst (TurnFit script chars ns ats bs s) e h in
+    subst (λ (y : Option State). TurnFit script chars ns ats bs s (Ok y)) f k

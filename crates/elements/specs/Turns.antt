@@ -1,8 +1,5 @@
 -- What the loop over the elements keeps true.
-use Rattle.std.specs.Prelude.{ℕ, ◌<◌, Bool, not, List, eqb, leb, length}
-use Rattle.model.specs.Base.{pick, and}
-use Rattle.model.specs.EId
-use Rattle.model.specs.Names.{is_element}
+use Rattle.std.specs.Prelude.{ℕ, ◌<◌, List, length, Option, Some, None, Result, Ok, Err}
 use Rattle.model.specs.Theorems.Inside.{LiesElement}
 use Rattle.walk.specs.declared.node.Opened.{Opened}
 use Rattle.walk.specs.Nodes.{element_of, Further}
@@ -11,16 +8,7 @@ use Rattle.tree.specs.Lent.{tree_of}
 use Rattle.label.specs.Walk.{Lies}
 use Rattle.label.specs.Whole.{Underway}
 use Rattle.elements.specs.declared.State.{State}
-use Rattle.elements.specs.declared.Turn.{Turn}
-use Rattle.elements.specs.declared.Turn.TheVariants as turn
-
--- Does an element become a node: in no namespace or SVG's, with a code of the list, but `style`?
-abbrev pub is_kept : ℕ → ℕ → Bool
-is_kept code space = and (leb space 1) (and (not (eqb code EId.Style)) (is_element code))
-
--- Its name in the tree.
-abbrev pub tag_in : ℕ → ℕ
-tag_in code = pick (eqb code EId.A) (λ u. EId.G) (λ u. code)
+use Rattle.refusal.specs.declared.Refusal.{Refusal}
 
 -- The nodes from the place of the state on can be built below its node.
 abbrev pub Going : List ℕ → List ℕ → List ℕ → List ℕ → List ℕ → State → Type 0
@@ -33,7 +21,7 @@ pub record Opening (script chars : List ℕ) (s : State) (e : Opened) : Type 0 w
   pub lies : Lies chars (events_at script chars e.inside)
 
 -- The place behind a turn.
-abbrev pub TurnFit : List ℕ → List ℕ → List ℕ → List ℕ → List ℕ → State → Turn → Type 0
-TurnFit script chars ns ats bs s (turn.On n) = Going script chars ns ats bs n × (s.c.at < n.c.at)
-TurnFit script chars ns ats bs s (turn.Refused k) = Unit {0}
-TurnFit script chars ns ats bs s turn.End = Unit {0}
+abbrev pub TurnFit : List ℕ → List ℕ → List ℕ → List ℕ → List ℕ → State → Result (Option State) Refusal → Type 0
+TurnFit script chars ns ats bs s (Ok (Some n)) = Going script chars ns ats bs n × (s.c.at < n.c.at)
+TurnFit script chars ns ats bs s (Ok None) = Unit {0}
+TurnFit script chars ns ats bs s (Err r) = Unit {0}

@@ -6,17 +6,22 @@ ghost use Rattle.std.specs.Prelude.{◌≡◌, ◌+◌, ◌*◌, ◌≤◌, ◌<
 ghost use Rattle.model.specs.Check.{check};
 ghost use Rattle.model.specs.Tables.{word};
 ghost use Rattle.memo.specs.Table.{Memo};
-ghost use Rattle.elements.specs.Turns.{is_kept, tag_in, Going, Opening, TurnFit};
+ghost use Rattle.refusal.specs.Number.{answer_of};
+ghost use Rattle.elements.specs.Turns.{Going, Opening, TurnFit};
 
-use element::Parsed;
+use build::Built;
+use build::tables::clear;
 use element::parse::parse_svg_element;
 use label::whole::parse_svg_text_element;
 use memo::fill::fill;
-use names::{eid, is_element};
+use names::eid;
+use parse::name::{is_parsed, tag_of};
+use pieces::content::code_of;
+use refusal::Refusal;
 use script::check::check;
 use script::cursor::Cursor;
-use tree::word::node_word;
-use tree::write::{clear_bytes, clear_words, put_root};
+use tree::word::node_link;
+use tree::write::put_root;
 use tree::{Counts, word};
 use walk::node::{Item, Opened, next_item, past_element};
 
@@ -28,64 +33,13 @@ pub struct State {
     pub counts: Counts,
 }
 
-// What a turn comes to.
-#[derive(Clone, Copy)]
-pub enum Turn {
-    On(State),
-    Refused(u32),
-    End,
-}
-
-// A number, 0 where nothing stands against the drawing, and how many nodes, entries and bytes of texts there are.
-#[repr(C)]
-#[derive(Clone, Copy)]
-pub struct Built {
-    pub number: u32,
-    pub nodes: u32,
-    pub attributes: u32,
-    pub text: u32,
-}
-
-fn code_of(name: u8) -> u32
-    ensures { result ≡ name }
-{
-    name as u32
-}
-
-// Does an element with that code, in no namespace or SVG's, become a node?
-fn is_kept(code: u32, space: u8) -> bool
-    ensures { result ≡ is_kept code space }
-{
-    if space > 1 {
-        return false;
-    }
-    if code == eid::STYLE {
-        return false;
-    }
-    is_element(code)
-}
-
-// The name in the tree of an element: links are groups.
-fn tag_of(code: u32) -> u32
-    ensures { result ≡ tag_in code }
-{
-    if code == eid::A {
-        return eid::G;
-    }
-    code
-}
-
 // The parent of a node; the root's is the root.
 fn above(nodes: &[u32], parent: u32) -> u32
     requires parent_in_bounds { 8 * parent + 7 < length nodes.now }
     requires parent_bound { word nodes.now parent 1 ≤ parent }
     ensures { result ≤ parent }
 {
-    let w = node_word(nodes, parent, word::PARENT);
-    if w == 0 {
-        return 0;
-    }
-    w - 1
+    node_link(nodes, parent, word::PARENT).unwrap_or(0)
 }
 
 // A text element whole; what stands behind it comes next.
@@ -99,24 +53,21 @@ fn begin_text(
     ignored: bool,
     s: State,
     e: Opened,
-) -> Turn
+) -> Result<Option<State>, Refusal>
     requires going { Going script.now characters.now nodes.old attributes.old text.old s }
     requires opening { Opening script.now characters.now s e }
     requires memo { Memo script.now characters.now slots.now }
     ensures { TurnFit script.now characters.now nodes.new attributes.new
         text.new s result }
 {
-    let counts = s.counts;
-    match parse_svg_text_element(
-        script, characters, slots, nodes, attributes, text, counts, s.parent, ignored, e,
-    ) {
-        Parsed::Refused(k) => Turn::Refused(k),
-        Parsed::Done(taken, behind) => Turn::On(State {
-            c: behind,
-            parent: s.parent,
-            counts: taken,
-        }),
-    }
+    let parsed = parse_svg_text_element(
+        script, characters, slots, nodes, attributes, text, s.counts, s.parent, ignored, e,
+    )?;
+    Ok(Some(State {
+        c: parsed.behind,
+        parent: s.parent,
+        counts: parsed.counts,
+    }))
 }
 
 // An element: its node, and its inside comes next; one that becomes no node is passed over.
@@ -130,47 +81,39 @@ fn begin(
     ignored: bool,
     s: State,
     e: Opened,
-) -> Turn
+) -> Result<Option<State>, Refusal>
     requires going { Going script.now characters.now nodes.old attributes.old text.old s }
     requires opening { Opening script.now characters.now s e }
     requires memo { Memo script.now characters.now slots.now }
     ensures { TurnFit script.now characters.now nodes.new attributes.new
         text.new s result }
 {
-    let code = code_of(e.name);
-    let counts = s.counts;
-    let inside = e.inside;
-    if !is_kept(code, e.space) {
-        let behind = past_element(script, characters, inside);
-        return Turn::On(State {
-            c: behind,
-            parent: s.parent,
-            counts,
-        });
+    if !is_parsed(e.name, e.space) {
+        let behind = past_element(script, characters, e.inside);
+        return Ok(Some(State { c: behind, ..s }));
     }
+    let code = code_of(e.name);
     if code == eid::TEXT {
         return begin_text(
             script, characters, slots, nodes, attributes, text, ignored, s, e,
         );
     }
-    match parse_svg_element(
+    let parsed = parse_svg_element(
         script,
         characters,
         nodes,
         attributes,
-        counts,
+        s.counts,
         s.parent,
         tag_of(code),
         ignored,
         e,
-    ) {
-        Parsed::Refused(k) => Turn::Refused(k),
-        Parsed::Done(taken, behind) => Turn::On(State {
-            c: behind,
-            parent: counts.nodes,
-            counts: taken,
-        }),
-    }
+    )?;
+    Ok(Some(State {
+        c: parsed.behind,
+        parent: s.counts.nodes,
+        counts: parsed.counts,
+    }))
 }
 
 // What stands at the place of the state.
@@ -183,34 +126,23 @@ fn advance(
     text: &mut [u8],
     ignored: bool,
     s: State,
-) -> Turn
+) -> Result<Option<State>, Refusal>
     requires going { Going script.now characters.now nodes.old attributes.old text.old s }
     requires memo { Memo script.now characters.now slots.now }
     ensures { TurnFit script.now characters.now nodes.new attributes.new
         text.new s result }
 {
-    let c = s.c;
-    let counts = s.counts;
-    match next_item(script, characters, c) {
+    match next_item(script, characters, s.c) {
         Item::Begin(e) => begin(
             script, characters, slots, nodes, attributes, text, ignored, s, e,
         ),
-        Item::Text(_, _, n) => Turn::On(State {
-            c: n,
-            parent: s.parent,
-            counts,
-        }),
-        Item::Other(n) => Turn::On(State {
-            c: n,
-            parent: s.parent,
-            counts,
-        }),
-        Item::Close(n) => Turn::On(State {
-            c: n,
-            parent: above(nodes, s.parent),
-            counts,
-        }),
-        Item::End => Turn::End,
+        Item::Text(_, _, n) => Ok(Some(State { c: n, ..s })),
+        Item::Other(n) => Ok(Some(State { c: n, ..s })),
+        Item::Close(n) => {
+            let parent = above(nodes, s.parent);
+            Ok(Some(State { c: n, parent, ..s }))
+        }
+        Item::End => Ok(None),
     }
 }
 
@@ -224,37 +156,17 @@ fn run_by(
     text: &mut [u8],
     ignored: bool,
     first: State,
-) -> Built
+) -> Result<Counts, Refusal>
     requires going { Going script.now characters.now nodes.old attributes.old text.old first }
     requires memo { Memo script.now characters.now slots.now }
 {
     let mut s = first;
-    loop {
-        match advance(
-            script, characters, slots, nodes, attributes, text, ignored, s,
-        ) {
-            Turn::On(n) => {
-                s = n;
-            }
-            Turn::Refused(k) => {
-                return Built {
-                    number: k,
-                    nodes: 0,
-                    attributes: 0,
-                    text: 0,
-                };
-            }
-            Turn::End => {
-                let counts = s.counts;
-                return Built {
-                    number: 0,
-                    nodes: counts.nodes,
-                    attributes: counts.attributes,
-                    text: counts.text,
-                };
-            }
-        }
+    while let Some(n) = advance(
+        script, characters, slots, nodes, attributes, text, ignored, s,
+    )? {
+        s = n;
     }
+    Ok(s.counts)
 }
 
 // The elements from a state on.
@@ -266,7 +178,7 @@ fn run(
     text: &mut [u8],
     ignored: bool,
     first: State,
-) -> Built
+) -> Result<Counts, Refusal>
     requires { Going script.now characters.now nodes.old attributes.old text.old first }
 {
     let mut slots: [u16; 32768] = [0; 32768];
@@ -276,35 +188,19 @@ fn run(
     )
 }
 
-// A refusal's number.
-fn refused(number: u32) -> Built {
-    Built {
-        number,
-        nodes: 0,
-        attributes: 0,
-        text: 0,
-    }
-}
-
-// All elements and text elements of a drawing; their ids are ignored or not.
-#[unsafe(no_mangle)]
-pub extern "C" fn elements_build(
+// All of them, from cleared tables on.
+fn build_elements(
     script: &[u8],
     characters: &[u8],
     nodes: &mut [u32],
     attributes: &mut [u32],
     text: &mut [u8],
     ignored: bool,
-) -> Built {
-    let number = check(script, characters);
-    if number != 0 {
-        return refused(number);
-    }
-    clear_words(nodes);
-    clear_words(attributes);
-    clear_bytes(text);
+) -> Result<Counts, Refusal> {
+    check(script, characters)?;
+    clear(nodes, attributes, text);
     if nodes.len() < 8 {
-        return refused(22);
+        return Err(Refusal::NodesFull);
     }
     put_root(nodes);
     let first = State {
@@ -319,10 +215,26 @@ pub extern "C" fn elements_build(
     run(script, characters, nodes, attributes, text, ignored, first)
 }
 
+// All elements and text elements of a drawing; their ids are ignored or not.
+#[unsafe(no_mangle)]
+pub extern "C" fn elements_build(
+    script: &[u8],
+    characters: &[u8],
+    nodes: &mut [u32],
+    attributes: &mut [u32],
+    text: &mut [u8],
+    ignored: bool,
+) -> Built {
+    build_elements(script, characters, nodes, attributes, text, ignored).into()
+}
+
 // Check alone, for what it takes of the time.
 #[unsafe(no_mangle)]
 pub extern "C" fn elements_check(script: &[u8], characters: &[u8]) -> u32
     ensures { result ≡ check script.now characters.now }
 {
-    check(script, characters)
+    match check(script, characters) {
+        Ok(()) => 0,
+        Err(refusal) => refusal.into(),
+    }
 }

@@ -3,6 +3,9 @@ use Prim.Native.Nat.{ℕ, suc, ◌+◌, ◌-◌, ◌*◌}
 use mathlib.Core.Path.{◌≡◌, refl, sym, ap, ◌∙◌}
 use mathlib.Core.List.{List, [], ◌∷◌, ◌++◌}
 use mathlib.Core.Option.{Option}
+use Rattle.std.proofs.Common as std
+use Rattle.std.proofs.Common.{Some, None, Result, Ok}
+use Rattle.refusal.specs.declared.Refusal.{Refusal}
 use native.Mathlib.Omega.{arith}
 use borrow.Author.Tests.{eq-eqb, ne_eqb}
 use lib.ListN.{get_or, set}
@@ -16,11 +19,7 @@ use Rattle.tree.specs.Lent.{entry_of}
 use Rattle.tree.specs.declared.Entry as T
 use Rattle.entries.specs.declared.Place.{Place}
 use Rattle.entries.specs.declared.Value.{Value}
-use Rattle.entries.specs.declared.Appended.{Appended}
-use Rattle.entries.specs.declared.Appended.TheVariants.{Itself, Other, Nothing}
-use Rattle.entries.specs.declared.Stored.{Stored}
-use Rattle.entries.specs.declared.Stored.TheVariants.{Next}
-use Rattle.entries.specs.Space.{Space, Leaves, so_far, own_entry, appended_of, value_in, attribute_of}
+use Rattle.entries.specs.Space.{Space, Leaves, so_far, resolved_of, value_in, attribute_of}
 use Rattle.entries.proofs.Storing.{first-anew, same_entries}
 
 -- Two words that stand there already, and others behind them.
@@ -33,32 +32,27 @@ own-two ats vs p a b e f =
     ap (λ l. sets (set l (suc p) b) (suc (suc p)) vs) one ∙ ap (λ l. sets l (suc (suc p)) vs) two ∙ ap (λ k. sets ats k vs) t
 
 module _ (ats : List ℕ) (place : Place) (next : ℕ) (s : Space ats place next) where
-  module _ (w : ℕ) (found : w ≡ find_entry (table_of ats) AId.Href place.first (next - place.first)) (there : w ≡ 0 →
-      ⊥) (space : ℕ) (v : Value) where
+  module _ (j : ℕ) (found : j + 1 ≡ find_entry (table_of ats) AId.Href place.first (next - place.first)) (space : ℕ) (v : Value) where
     abbrev over : List Entry
     over = overwrite_href (attribute_of [] AId.Href space v) (so_far ats place next)
 
-    pub href-over : space ≡ 0 → (m : List ℕ) → m ≡ sets ats (5 * (w - 1) + 2) (v.start ∷ v.size ∷ v.command ∷ []) →
-        Leaves ats place over (Next next) m
+    pub href-over : space ≡ 0 → (m : List ℕ) → m ≡ sets ats (5 * j + 2) (v.start ∷ v.size ∷ v.command ∷ []) →
+        Leaves ats place over (Ok next) m
     unfolding entry_at part_at
     href-over z m h =
-        let q : 5 * (w - 1) + 0 ≡ 5 * (w - 1) = omega arith in
+        let q : 5 * j + 0 ≡ 5 * j = omega arith in
         rw (eq-eqb space 0 z)
-        (first-anew ats place next s AId.Href w found (with_value (value_in [] v)) there m
-        (h ∙ sym (own-two ats (v.start ∷ v.size ∷ v.command ∷ []) (5 * (w - 1)) _ _ (ap (λ k. get_or ats k 0) q) refl)))
+        (first-anew ats place next s AId.Href j found (with_value (value_in [] v)) m
+        (h ∙ sym (own-two ats (v.start ∷ v.size ∷ v.command ∷ []) (5 * j) _ _ (ap (λ k. get_or ats k 0) q) refl)))
 
-    pub href-skipped : (space ≡ 0 → ⊥) → Leaves ats place over (Next next) ats
+    pub href-skipped : (space ≡ 0 → ⊥) → Leaves ats place over (Ok next) ats
     href-skipped z = rw (ne_eqb space 0 z) (same_entries ats place next s)
 
-  module _ (name important : ℕ) (v : Value) (r : Appended) (o : Option Entry) (told : appended_of name important v r ≡ o) where
-    pub more-itself : r ≡ Itself → (e : T.Entry) → entry_of e ≡ own_entry name important v → (x : Stored) (m : List ℕ) →
-        Leaves ats place (so_far ats place next ++ (entry_of e ∷ [])) x m → Leaves ats place (with_more (so_far ats place next) o) x m
-    more-itself h e q x m l = rw (← told, h, ← q) l
-
-    pub more-other : (e : T.Entry) → r ≡ Other e → (x : Stored) (m : List ℕ) →
+  module _ (r : std.Option T.Entry) (o : Option Entry) (told : resolved_of r ≡ o) where
+    pub more-some : (e : T.Entry) → r ≡ Some e → (x : Result ℕ Refusal) (m : List ℕ) →
         Leaves ats place (so_far ats place next ++ (entry_of e ∷ [])) x m →
         Leaves ats place (with_more (so_far ats place next) o) x m
-    more-other e h x m l = rw (← told, h) l
+    more-some e h x m l = rw (← told, h) l
 
-    pub more-nothing : r ≡ Nothing → Leaves ats place (with_more (so_far ats place next) o) (Next next) ats
-    more-nothing h = rw (← told, h) (same_entries ats place next s)
+    pub more-none : r ≡ None → Leaves ats place (with_more (so_far ats place next) o) (Ok next) ats
+    more-none h = rw (← told, h) (same_entries ats place next s)

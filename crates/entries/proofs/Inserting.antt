@@ -4,6 +4,8 @@ use mathlib.Core.Path.{◌≡◌, ap, ◌∙◌}
 use mathlib.Core.Bool.{Bool, true, false}
 use mathlib.Core.List.{List, [], ◌∷◌, ◌++◌}
 use mathlib.Core.Option.{Option, none, some}
+use Rattle.std.proofs.Common as std
+use Rattle.std.proofs.Common.{Some, None, Result, Ok, Err}
 use native.Mathlib.Omega.{arith}
 use lib.ListN.{length, get_or, length-append}
 use Rattle.model.specs.Base.{pick}
@@ -15,12 +17,9 @@ use Rattle.tree.specs.Lent.{read_of, entry_of, Climbable}
 use Rattle.tree.specs.declared.Entry as T
 use Rattle.entries.specs.declared.Place.{Place}
 use Rattle.entries.specs.declared.Value.{Value}
-use Rattle.entries.specs.declared.Appended.{Appended}
-use Rattle.entries.specs.declared.Appended.TheVariants.{Itself, Other, Nothing}
-use Rattle.entries.specs.declared.Stored.{Stored}
-use Rattle.entries.specs.declared.Stored.TheVariants.{Next, Full}
-use Rattle.entries.specs.Space.{Space, Leaves, so_far, own_entry, appended_of, Above, becomes, inserted}
-use Rattle.entries.proofs.Storing.{first_count, same_entries, On, went_on, then-leaves, full-leaves}
+use Rattle.refusal.specs.declared.Refusal.{Refusal}
+use Rattle.entries.specs.Space.{Space, Leaves, so_far, resolved_of, Above, becomes}
+use Rattle.entries.proofs.Storing.{first_count, same_entries, On, went_on, full-leaves}
 
 -- The way up from the parent can be read.
 pub climbs : (ns ats : List ℕ) (place : Place) (next : ℕ) → Above ns place → Space ats place next →
@@ -44,9 +43,6 @@ inserts-more a es (some e) = go (has_entry a es)
     go true = omega (arith, first_count (standing e) a es)
     go false = rw length-append (omega arith)
 
-pub two-more : (a b : ℕ) (es : List Entry) (o p : Option Entry) → length es ≤ length (insert_entry b (insert_entry a es o) p)
-two-more a b es o p = omega (arith, inserts-more a es o, inserts-more b (insert_entry a es o) p)
-
 module _ (ns ats chars : List ℕ) (place : Place) (above : Above ns place) where
   -- The entries before the element's are as they were.
   pub agree_on : (new : List Entry) (n : ℕ) (m : List ℕ) → On ats place new n m → (q : ℕ) → q < 5 * place.first →
@@ -60,41 +56,29 @@ module _ (ns ats chars : List ℕ) (place : Place) (above : Above ns place) wher
   append-on new n m o =
       append-same (read_of ns ats) m [] 0 0 0 place.parent place.first (agree_on new n m o) above.falls above.range
 
-  becomes-same : (new : List Entry) (n : ℕ) (m : List ℕ) → On ats place new n m → (a i : ℕ) (v : Value) →
+  pub becomes-same : (new : List Entry) (n : ℕ) (m : List ℕ) → On ats place new n m → (a i : ℕ) (v : Value) →
       becomes ns m chars place a i v ≡ becomes ns ats chars place a i v
   becomes-same new n m o a i v =
       ap (λ f. f place.tag a i (part_at chars v.start v.size) v.command) (append-on new n m o)
 
-  -- The next value is inserted into the entries that the step before left.
-  pub then-inserted : (room : 5 * place.room ≤ length ats) (new : List Entry) (n : ℕ) (m : List ℕ) → On ats place new n m →
-      (a i : ℕ) (v : Value) (r : Stored) (l : List ℕ) → Leaves m place (inserted ns m chars place i v (so_far m place n) a) r l →
-      Leaves ats place (inserted ns ats chars place i v new a) r l
-  then-inserted room new n m o a i v r l h =
-      then-leaves ats place room new n m o (inserted ns ats chars place i v new a) (inserts-more a new (becomes ns ats chars place a i v))
-      r l
-      (rw (← o.entries, ← becomes-same new n m o a i v) h)
-
-module _ (ats : List ℕ) (place : Place) (next : ℕ) (s : Space ats place next) (a i : ℕ) (v : Value) (r : Appended) (o : Option Entry)
-    (told : appended_of a i v r ≡ o) where
-  pub insert-itself : r ≡ Itself → (e : T.Entry) → entry_of e ≡ own_entry a i v → (x : Stored) (m : List ℕ) →
+module _ (ats : List ℕ) (place : Place) (next : ℕ) (s : Space ats place next) (a : ℕ) (r : std.Option T.Entry) (o : Option Entry)
+    (told : resolved_of r ≡ o) where
+  pub insert-some : (e : T.Entry) → r ≡ Some e → (x : Result ℕ Refusal) (m : List ℕ) →
       Leaves ats place (insert_entry a (so_far ats place next) (some (entry_of e))) x m →
       Leaves ats place (insert_entry a (so_far ats place next) o) x m
-  insert-itself h e q x m l = rw (← told, h, ← q) l
+  insert-some e h x m l = rw (← told, h) l
 
-  pub insert-other : (e : T.Entry) → r ≡ Other e → (x : Stored) (m : List ℕ) →
-      Leaves ats place (insert_entry a (so_far ats place next) (some (entry_of e))) x m →
-      Leaves ats place (insert_entry a (so_far ats place next) o) x m
-  insert-other e h x m l = rw (← told, h) l
-
-  pub insert-nothing : r ≡ Nothing → Leaves ats place (insert_entry a (so_far ats place next) o) (Next next) ats
+  pub insert-none : r ≡ None → Leaves ats place (insert_entry a (so_far ats place next) o) (Ok next) ats
   unfolding insert_entry
-  insert-nothing h = rw (← told, h) (same_entries ats place next s)
+  insert-none h = rw (← told, h) (same_entries ats place next s)
 
 -- A step that was told to have gone on, or to have had no room.
-module _ (ats : List ℕ) (place : Place) (room : 5 * place.room ≤ length ats) (new : List Entry) (r : Stored) (m : List ℕ)
+module _ (ats : List ℕ) (place : Place) (room : 5 * place.room ≤ length ats) (new : List Entry) (r : Result ℕ Refusal) (m : List ℕ)
     (h : Leaves ats place new r m) where
-  pub on-told : (n : ℕ) → r ≡ Next n → On ats place new n m
+  pub on-told : (n : ℕ) → r ≡ Ok n → On ats place new n m
   on-told n e = went_on ats place room new n m (rw e at h)
 
-  pub full-told : r ≡ Full → (more : List Entry) → length new ≤ length more → Leaves ats place more Full m
-  full-told e more f = full-leaves ats place room new m (rw e at h) more f
+  -- A refusal that is passed on.
+  pub full-told : (x y : Refusal) (o : Result ℕ Refusal) → r ≡ Err x → o ≡ Err y → y ≡ x → (more : List Entry) → length new ≤ length more →
+      Leaves ats place more o m
+  full-told x y o e p q more f = rw (p, q) (full-leaves ats place room new x m (rw e at h) more f)

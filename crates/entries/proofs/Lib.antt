@@ -1,4 +1,4 @@
 pub mod Adding
 pub mod Inserting
-pub mod Resolving
 pub mod Storing
+pub mod Steps

@@ -1,21 +1,19 @@
 -- The entries of one element, behind those that are taken: what the steps require and what they leave.
-use Rattle.std.specs.Prelude.{ℕ, ◌+◌, ◌-◌, ◌*◌, ◌≤◌, ◌<◌, ◌≡◌, List, [], leb, length}
+use Rattle.std.specs.Prelude as std
+use Rattle.std.specs.Prelude.{ℕ, ◌+◌, ◌-◌, ◌*◌, ◌≤◌, ◌<◌, ◌≡◌, List, [], leb, length, Some, None, Result, Ok, Err}
 use Rattle.std.proofs.Math.Option.{Option, none, some}
 use Rattle.model.specs.Base.{pick}
 use Rattle.model.specs.Drawing as model
 use Rattle.model.specs.Drawing.{Attribute, part_at}
 use Rattle.model.specs.Tables.{Entry, ELEMENT, word}
 use Rattle.model.specs.Element.{append_attribute, insert_entry}
+use Rattle.refusal.specs.declared.Refusal.{Refusal}
+use Rattle.refusal.specs.declared.Refusal.TheVariants.{AttributesFull}
+use Rattle.tree.specs.declared.Entry as T
 use Rattle.tree.specs.Lent.{read_of, entry_of}
 use Rattle.model.specs.Theorems.Runs.{entries_from, with_run}
 use Rattle.entries.specs.declared.Place.{Place}
 use Rattle.entries.specs.declared.Value.{Value}
-use Rattle.entries.specs.declared.Resolved.{Resolved}
-use Rattle.entries.specs.declared.Resolved.TheVariants.{Kept, Dropped}
-use Rattle.entries.specs.declared.Appended.{Appended}
-use Rattle.entries.specs.declared.Appended.TheVariants as appended
-use Rattle.entries.specs.declared.Stored.{Stored}
-use Rattle.entries.specs.declared.Stored.TheVariants.{Next, Full}
 
 -- The element's entries so far end at `next`, within the room, and the room within the table.
 pub record Space (ats : List ℕ) (place : Place) (next : ℕ) : Type 0 where
@@ -23,13 +21,13 @@ pub record Space (ats : List ℕ) (place : Place) (next : ℕ) : Type 0 where
   pub high : next ≤ place.room
   pub room : 5 * place.room ≤ length ats
 
--- What a step answers that makes these the element's entries.
-abbrev pub reached : Place → List Entry → Stored
-reached place es = pick (leb (place.first + length es) place.room) (λ u. Next (place.first + length es)) (λ u. Full)
+-- What a step answers that makes these the element's entries: where the next goes, or that there is no room for them.
+abbrev pub reached : Place → List Entry → Result ℕ Refusal
+reached place es = pick (leb (place.first + length es) place.room) (λ u. Ok (place.first + length es)) (λ u. Err AttributesFull)
 
 -- What a step answers and leaves in the table that makes `new` the element's entries. Where there is no room for them it has the table
 -- as long as it was; the build is refused then, and all tables are cleared.
-pub record Leaves (ats : List ℕ) (place : Place) (new : List Entry) (r : Stored) (m : List ℕ) : Type 0 where
+pub record Leaves (ats : List ℕ) (place : Place) (new : List Entry) (r : Result ℕ Refusal) (m : List ℕ) : Type 0 where
   pub answer : r ≡ reached place new
   pub table : place.first + length new ≤ place.room → m ≡ with_run ats place.first new
   pub long : length m ≡ length ats
@@ -39,20 +37,14 @@ abbrev pub so_far : List ℕ → Place → ℕ → List Entry
 so_far ats place next = entries_from ats place.first (next - place.first)
 
 -- What becomes of a value, as the model has it.
-abbrev pub resolved_of : Resolved → Option Entry
-resolved_of (Kept e) = some (entry_of e)
-resolved_of Dropped = none
+abbrev pub resolved_of : std.Option T.Entry → Option Entry
+resolved_of (Some e) = some (entry_of e)
+resolved_of None = none
 
 -- The entry with a value itself.
 abbrev pub own_entry : ℕ → ℕ → Value → Entry
 own_entry name important v =
     record { name = name; important = important; start = v.start; size = v.size; command = v.command }
-
--- What `append_attribute` makes of a value, as the model has it.
-abbrev pub appended_of : ℕ → ℕ → Value → Appended → Option Entry
-appended_of name important v appended.Itself = some (own_entry name important v)
-appended_of name important v (appended.Other e) = some (entry_of e)
-appended_of name important v appended.Nothing = none
 
 -- A value, an attribute with it. What is read in the value does not matter to an attribute.
 abbrev pub value_in : List ℕ → Value → model.Value

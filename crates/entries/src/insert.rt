@@ -6,8 +6,9 @@ ghost use Rattle.entries.specs.Space.{Space, Leaves, so_far, Above, inserted};
 
 use crate::entry::insert_entry;
 use crate::inherit::append_attribute;
-use crate::{Appended, Place, Stored, Value, own_entry};
+use crate::{Place, Value};
 use names::aid;
+use refusal::Refusal;
 
 // `insert_attribute`: the value under that name replaces the first entry of that name or is one more, unless it is dropped.
 pub fn insert_attribute(
@@ -19,7 +20,7 @@ pub fn insert_attribute(
     name: u32,
     important: u32,
     value: Value,
-) -> Stored
+) -> Result<u32, Refusal>
     requires space { Space attributes.old place next }
     requires above { Above nodes.now place }
     requires size_in_bounds { value.start + value.size ≤ length characters.now }
@@ -27,24 +28,9 @@ pub fn insert_attribute(
         (inserted nodes.now attributes.old characters.now place important value
         (so_far attributes.old place next) name) result attributes.new }
 {
-    match append_attribute(
-        nodes,
-        attributes,
-        characters,
-        place,
-        name,
-        value.start,
-        value.size,
-    ) {
-        Appended::Itself => insert_entry(
-            attributes,
-            place,
-            next,
-            name,
-            own_entry(name, important, value),
-        ),
-        Appended::Other(e) => insert_entry(attributes, place, next, name, e),
-        Appended::Nothing => Stored::Next(next),
+    match append_attribute(nodes, attributes, characters, place, name, important, value) {
+        Some(e) => insert_entry(attributes, place, next, name, e),
+        None => Ok(next),
     }
 }
 
@@ -57,7 +43,7 @@ pub fn insert_marker(
     next: u32,
     important: u32,
     value: Value,
-) -> Stored
+) -> Result<u32, Refusal>
     requires space { Space attributes.old place next }
     requires above { Above nodes.now place }
     requires size_in_bounds { value.start + value.size ≤ length characters.now }
@@ -66,40 +52,11 @@ pub fn insert_marker(
         (so_far attributes.old place next) (AId.MarkerStart ∷ AId.MarkerMid ∷ AId.MarkerEnd ∷ [])) result
         attributes.new }
 {
-    let first = insert_attribute(
-        nodes,
-        attributes,
-        characters,
-        place,
-        next,
-        aid::MARKER_START,
-        important,
-        value,
-    );
-    let Stored::Next(second) = first else {
-        return Stored::Full;
-    };
-    let mid = insert_attribute(
-        nodes,
-        attributes,
-        characters,
-        place,
-        second,
-        aid::MARKER_MID,
-        important,
-        value,
-    );
-    let Stored::Next(third) = mid else {
-        return Stored::Full;
-    };
-    insert_attribute(
-        nodes,
-        attributes,
-        characters,
-        place,
-        third,
-        aid::MARKER_END,
-        important,
-        value,
-    )
+    let mut n = next;
+    for name in [aid::MARKER_START, aid::MARKER_MID, aid::MARKER_END] {
+        n = insert_attribute(
+            nodes, attributes, characters, place, n, name, important, value,
+        )?;
+    }
+    Ok(n)
 }

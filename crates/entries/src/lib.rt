@@ -1,8 +1,10 @@
 // The entries of one element, stored in the lent table behind those that are taken: what one attribute becomes, and one value of a
 // declaration.
+// `place` and `next` stay two parameters: the place is the same for all entries of an element, and each step answers the next `next`.
 #![tactic(auto)]
 
-ghost use Rattle.std.specs.Prelude.{◌≡◌};
+ghost use Rattle.std.specs.Prelude.{◌≡◌, ◌+◌, ◌≤◌, length};
+ghost use Rattle.std.proofs.Math.Seq.{slice};
 ghost use Rattle.tree.specs.Lent.{entry_of};
 ghost use Rattle.entries.specs.Space.{own_entry};
 
@@ -13,34 +15,23 @@ pub mod entry;
 pub mod inherit;
 pub mod insert;
 
-// Where a step left the entries of the element: behind the last one, or there is no room for one.
-#[derive(Clone, Copy)]
-pub enum Stored {
-    Next(u32),
-    Full,
-}
-
-// What becomes of a value: the entry for it, or it is dropped.
-#[derive(Clone, Copy)]
-pub enum Resolved {
-    Kept(Entry),
-    Dropped,
-}
-
-// What `append_attribute` makes of a value: an entry with the value itself, the entry that it inherits, or none.
-#[derive(Clone, Copy)]
-pub enum Appended {
-    Itself,
-    Other(Entry),
-    Nothing,
-}
-
 // A value: its place in the characters, and the number of its command.
 #[derive(Clone, Copy)]
 pub struct Value {
     pub start: u32,
     pub size: u32,
     pub command: u32,
+}
+
+impl Value {
+    pub fn bytes<'a>(&self, characters: &'a [u8]) -> &'a [u8]
+        requires { self.now.start + self.now.size ≤ length characters.now }
+        ensures { result.now ≡ slice self.now.start (self.now.start + self.now.size) characters.now }
+    {
+        let from = self.start as usize;
+        let to = from + self.size as usize;
+        &characters[from..to]
+    }
 }
 
 // Where an element's entries go: its parent's index, its name in the tree, its first entry, and how many entries there is room for.

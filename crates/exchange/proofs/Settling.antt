@@ -1,7 +1,7 @@
 -- What an exchange leaves, by what the build of the changed drawing gives. Assumes nothing.
 use Prim.Native.Nat.{ℕ, zero, suc}
 use mathlib.Core.Path.{◌≡◌, refl, sym, ap, ◌∙◌, subst}
-use mathlib.Core.Bool.{Bool, false}
+use mathlib.Core.Bool.{Bool, true, false}
 use mathlib.Core.List.{List}
 use borrow.Author.Tests.{eq-eqb, ne_eqb}
 use lib.ListN.{length}
@@ -12,8 +12,24 @@ use Rattle.model.specs.Tables.{cleared, refused}
 use Rattle.model.specs.Build.{Result, answered, build, exchange_fault, settled, exchange}
 use Rattle.model.proofs.Refusals.{build-refused}
 use Rattle.build.specs.declared.Built.{Built}
-use Rattle.build.specs.Results.{result_of, left_by}
+use Rattle.std.specs.Prelude as std
+use Rattle.std.specs.Prelude.{Ok, Err}
+use Rattle.std.specs.Result.{is_err}
+use Rattle.refusal.specs.declared.Refusal.{Refusal}
+use Rattle.refusal.specs.Number.{number_of}
+use Rattle.refusal.proofs.Number.{number_nonzero}
+use Rattle.tree.specs.declared.Counts.{Counts}
+use Rattle.build.specs.Results.{built_of, result_of, left_by}
 use Rattle.exchange.specs.Changes.{Changeable, Granted}
+
+-- The number of an answer.
+pub not-refused : (r : std.Result Counts Refusal) → is_err r ≡ false → (built_of r).number ≡ 0
+not-refused (Ok c) e = refl
+not-refused (Err k) e = cc
+
+pub is-refused : (r : std.Result Counts Refusal) → is_err r ≡ true → (built_of r).number ≡ 0 → ⊥
+is-refused (Ok c) e = cc
+is-refused (Err k) e = number_nonzero k
 
 -- The same answer with other characters.
 abbrev with_characters : List ℕ → Result → Result
@@ -89,10 +105,10 @@ as_long script chars x n m b n' m' b' p q s e = e ∙ (λ i. build script chars 
 
 module _ (script chars : List ℕ) (t : ℕ) (new ns es bs : List ℕ) where
   -- A fault of the call touches nothing.
-  pub fault-told : (k : ℕ) → (exchange_fault script chars t new ≡ k) × (k ≡ 0 → ⊥) → (x : Result) →
-      x ≡ answered chars (left_by false ns es bs) (refused k) → x ≡ exchange script chars t new ns es bs
+  pub fault-told : (k : Refusal) → exchange_fault script chars t new ≡ number_of k → (x : Result) →
+      x ≡ answered chars (left_by false ns es bs) (refused (number_of k)) → x ≡ exchange script chars t new ns es bs
   unfolding exchange
-  fault-told k h x e = e ∙ rw (h.0, ne_eqb k 0 h.1) refl
+  fault-told k h x e = e ∙ rw (h, ne_eqb (number_of k) 0 (number_nonzero k)) refl
 
   -- The changed drawing is built.
   pub change-told : (start : ℕ) → Granted script chars t new start → (chars' ns' es' bs' : List ℕ) (r : Built) →

@@ -1,10 +1,10 @@
 -- What is known of a drawing in which one text may become other bytes.
-use Rattle.std.specs.Prelude.{◌≡◌, ℕ, ◌+◌, ◌≤◌, List, length}
+use Rattle.std.specs.Prelude.{◌≡◌, ℕ, ◌+◌, ◌≤◌, List, length, Result, Ok, Err}
 use Rattle.std.proofs.lemmas.List.Edits.{sets}
 use Rattle.model.specs.Check.{check}
 use Rattle.model.specs.Build.{build, exchange_fault, changed}
-use Rattle.exchange.specs.declared.fault.Target.{Target}
-use Rattle.exchange.specs.declared.fault.Target.TheVariants as target
+use Rattle.refusal.specs.declared.Refusal.{Refusal}
+use Rattle.refusal.specs.Number.{number_of}
 
 -- The bytes have their place in the characters from `start` on, check takes the drawing without and with them, and with any tables the
 -- two builds give the same number.
@@ -21,6 +21,6 @@ pub record Granted (script chars : List ℕ) (t : ℕ) (new : List ℕ) (start :
   pub change : Changeable script chars start new
 
 -- What is told of the exchange of text t: its fault, or where it begins.
-abbrev pub TargetFit : List ℕ → List ℕ → ℕ → List ℕ → Target → Type 0
-TargetFit script chars t new (target.Fault k) = (exchange_fault script chars t new ≡ k) × (k ≡ 0 → ⊥)
-TargetFit script chars t new (target.At start) = Granted script chars t new start
+abbrev pub TargetFit : List ℕ → List ℕ → ℕ → List ℕ → Result ℕ Refusal → Type 0
+TargetFit script chars t new (Err r) = exchange_fault script chars t new ≡ number_of r
+TargetFit script chars t new (Ok start) = Granted script chars t new start

@@ -2,52 +2,44 @@
 ghost use Rattle.std.specs.Prelude.{◌≡◌, not, [], ◌∷◌, eqb, length};
 ghost use Rattle.model.specs.Utf8.{is_utf8};
 ghost use Rattle.model.specs.Check.{◌if◌, first_of};
+ghost use Rattle.refusal.specs.Number.{answer_of};
 ghost use Rattle.exchange.specs.Changes.{TargetFit};
 
-use places::seek::{FoundText, find_text};
+use places::seek::find_text;
+use refusal::Refusal;
 use script::check::check;
 use utf8::is_utf8;
 
-// The number of a fault, or where the text begins.
-#[derive(Clone, Copy)]
-pub enum Target {
-    Fault(u32),
-    At(usize),
-}
-
-// The numbers that a text of that length gives, inside style or not: 0 where it may become these bytes.
-fn text_fault(len: u32, in_style: bool, new: &[u8]) -> u32
-    ensures { result ≡ first_of (31 if in_style ∷ 32 if not (eqb (length new.now) len)
+// The fault of an exchange of a text of that length, inside style or not, for these bytes.
+fn text_fault(len: u32, in_style: bool, new: &[u8]) -> Result<(), Refusal>
+    ensures { answer_of result ≡ first_of (31 if in_style ∷ 32 if not (eqb (length new.now) len)
         ∷ 33 if not (is_utf8 new.now) ∷ []) }
 {
     if in_style {
-        return 31;
+        return Err(Refusal::InStyle);
     }
     if new.len() != len as usize {
-        return 32;
+        return Err(Refusal::OtherLength);
     }
-    if is_utf8(new) {
-        return 0;
+    if !is_utf8(new) {
+        return Err(Refusal::NewNotUtf8);
     }
-    33
+    Ok(())
 }
 
-// The faults of an exchange, in their order: check's, no such text, and the text's.
-pub fn target_of(script: &[u8], characters: &[u8], number: u32, new: &[u8]) -> Target
+// Where the text begins that is to become these bytes. The faults in their order: check's, no such text, and the text's.
+pub fn target_of(
+    script: &[u8],
+    characters: &[u8],
+    number: u32,
+    new: &[u8],
+) -> Result<usize, Refusal>
     ensures { TargetFit script.now characters.now number new.now result }
 {
-    let k = check(script, characters);
-    if k != 0 {
-        return Target::Fault(k);
-    }
-    match find_text(script, characters, number as usize) {
-        FoundText::Nothing => Target::Fault(30),
-        FoundText::At(own, len, in_style) => {
-            let fault = text_fault(len, in_style, new);
-            if fault != 0 {
-                return Target::Fault(fault);
-            }
-            Target::At(own.chars)
-        }
-    }
+    check(script, characters)?;
+    let Some(found) = find_text(script, characters, number as usize) else {
+        return Err(Refusal::NoSuchText);
+    };
+    text_fault(found.len, found.in_style, new)?;
+    Ok(found.own.chars)
 }

@@ -2,14 +2,14 @@
 ghost use Rattle.std.specs.Prelude.{◌≡◌, ◌≤◌, length};
 ghost use Rattle.std.proofs.lemmas.List.Edits.{sets};
 ghost use Rattle.model.specs.Build.{build, settled, exchange};
-ghost use Rattle.build.specs.Results.{result_of};
+ghost use Rattle.build.specs.Results.{built_of, result_of};
 ghost use Rattle.exchange.specs.Changes.{Changeable};
 
-use crate::fault::{Target, target_of};
-use crate::put::put_bytes;
-use build::Built;
+use crate::fault::target_of;
 use build::tables::refuse;
 use build::whole::build_checked;
+use refusal::Refusal;
+use tree::Counts;
 
 // A text of at most 256 bytes: the old ones are kept, and put back where the build is refused.
 fn exchange_short(
@@ -20,22 +20,22 @@ fn exchange_short(
     nodes: &mut [u32],
     attributes: &mut [u32],
     text: &mut [u8],
-) -> Built
+) -> Result<Counts, Refusal>
     requires changeable { Changeable script.now characters.old start new.now }
     requires len_bound { length new.now ≤ 256 }
-    ensures { result_of characters.new nodes.new attributes.new text.new result
+    ensures { result_of characters.new nodes.new attributes.new text.new (built_of result)
         ≡ settled characters.old (build script.now (sets characters.old start new.now)
         (length nodes.old) (length attributes.old) (length text.old)) }
 {
     let size = new.len();
     let end = start + size;
     let mut old: [u8; 256] = [0; 256];
-    put_bytes(&mut old, 0, &characters[start..end]);
-    put_bytes(characters, start, new);
+    old[..size].copy_from_slice(&characters[start..end]);
+    characters[start..end].copy_from_slice(new);
     let built = build_checked(script, characters, nodes, attributes, text);
-    let is_refused = built.number != 0;
+    let is_refused = built.is_err();
     if is_refused {
-        put_bytes(characters, start, &old[0..size]);
+        characters[start..end].copy_from_slice(&old[..size]);
     }
     built
 }
@@ -49,18 +49,19 @@ fn exchange_long(
     nodes: &mut [u32],
     attributes: &mut [u32],
     text: &mut [u8],
-) -> Built
+) -> Result<Counts, Refusal>
     requires { Changeable script.now characters.old start new.now }
-    ensures { result_of characters.new nodes.new attributes.new text.new result
+    ensures { result_of characters.new nodes.new attributes.new text.new (built_of result)
         ≡ settled characters.old (build script.now (sets characters.old start new.now)
         (length nodes.old) (length attributes.old) (length text.old)) }
 {
     let before = build_checked(script, characters, nodes, attributes, text);
-    let is_refused = before.number != 0;
+    let is_refused = before.is_err();
     if is_refused {
         return before;
     }
-    put_bytes(characters, start, new);
+    let end = start + new.len();
+    characters[start..end].copy_from_slice(new);
     build_checked(script, characters, nodes, attributes, text)
 }
 
@@ -74,14 +75,14 @@ pub fn exchange(
     nodes: &mut [u32],
     attributes: &mut [u32],
     text: &mut [u8],
-) -> Built
-    ensures { result_of characters.new nodes.new attributes.new text.new result
+) -> Result<Counts, Refusal>
+    ensures { result_of characters.new nodes.new attributes.new text.new (built_of result)
         ≡ exchange script.now characters.old number new.now nodes.old
         attributes.old text.old }
 {
     match target_of(script, characters, number, new) {
-        Target::Fault(k) => refuse(nodes, attributes, text, k, false),
-        Target::At(start) => {
+        Err(refusal) => refuse(nodes, attributes, text, refusal, false),
+        Ok(start) => {
             let is_short = new.len() <= 256;
             if is_short {
                 return exchange_short(script, characters, start, new, nodes, attributes, text);

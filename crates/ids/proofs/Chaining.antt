@@ -20,7 +20,8 @@ use Rattle.tree.specs.declared.Counts.{Counts}
 use Rattle.tree.specs.Lent.{tree_of, read_of}
 use Rattle.tree.proofs.Alike.{id_same}
 use Rattle.ids.specs.Chains.{bucket_from, bucket_of, is_in, last_in, Chained, Indexed, next_set, Turned, Like}
-use Rattle.ids.proofs.Values.{read-part, own-id}
+use Rattle.tree.proofs.Entries.{one-less}
+use Rattle.ids.proofs.Values.{read-part, id-entry}
 use Rattle.ids.proofs.Likeness.{like-next, like-id, like-element, like-tidy}
 
 module _ (chars : List ℕ) (t : Tree) (i : ℕ) where
@@ -61,23 +62,25 @@ module _ (chars : List ℕ) (t u : Tree) (ids : (i : ℕ) → attribute_id u i A
 
 -- ONE TURN
 
-module _ (chars ns es hs : List ℕ) (i j : ℕ) (e : j ≡ attribute_id (read_of ns es) i AId.Id) where
-  pub turned_none : j ≡ 0 → Turned chars ns es hs i es hs true
-  turned_none z = record { stop = λ f. (refl, refl); none = λ y. (refl, refl); some = λ f y. absurd (y (sym e ∙ z)) }
+module _ (chars ns es hs : List ℕ) (i : ℕ) where
+  pub turned_none : 0 ≡ attribute_id (read_of ns es) i AId.Id → Turned chars ns es hs i es hs true
+  turned_none e = record { stop = λ f. (refl, refl); none = λ y. (refl, refl); some = λ f y. absurd (y (sym e)) }
 
-  pub turned-some : (j ≡ 0 → ⊥) → (n : ℕ) → n ≡ entry_word (read_of ns es) (j - 1) 4 → (n ≡ 0 → ⊥)
-      → (s : ℕ) → s ≡ entry_word (read_of ns es) (j - 1) 2 → (l : ℕ) → l ≡ entry_word (read_of ns es) (j - 1) 3
+  pub turned-some : (j : ℕ) → j + 1 ≡ attribute_id (read_of ns es) i AId.Id
+      → (n : ℕ) → n ≡ entry_word (read_of ns es) j 4 → (n ≡ 0 → ⊥)
+      → (s : ℕ) → s ≡ entry_word (read_of ns es) j 2 → (l : ℕ) → l ≡ entry_word (read_of ns es) j 3
       → (p : List ℕ) → p ≡ slice s (s + l) chars → (b : ℕ) → b ≡ bucket_of p
-      → (es' : List ℕ) → es' ≡ next_set es (j - 1) (get_or hs b 0) → Turned chars ns es hs i es' (set hs b (i + 1)) true
-  turned-some z n c y s a l d p q b f es' g =
+      → (es' : List ℕ) → es' ≡ next_set es j (get_or hs b 0) → Turned chars ns es hs i es' (set hs b (i + 1)) true
+  turned-some j e n c y s a l d p q b f es' g =
       let own : p ≡ element_id chars (read_of ns es) i =
-      read-part chars (read_of ns es) (j - 1) n c s a y l d p q ∙ sym (own-id chars (read_of ns es) i j e z) in
+      read-part chars (read_of ns es) j n c s a y l d p q ∙ sym (id-entry chars (read_of ns es) i j e) in
       let k : b ≡ bucket_of (element_id chars (read_of ns es) i) = f ∙ ap bucket_of own in
+      let m : j ≡ attribute_id (read_of ns es) i AId.Id - 1 = sym (one-less j e) in
       record {
         stop = λ x. absurd (true≢false x);
-        none = λ x. absurd (z (e ∙ x));
+        none = λ x. absurd (let z : j + 1 ≡ 0 = e ∙ x in omega (arith, z));
         some = λ h x. (
-          g ∙ ap (λ (y : ℕ). next_set es (y - 1) (get_or hs b 0)) e
+          g ∙ ap (λ (y : ℕ). next_set es y (get_or hs b 0)) m
               ∙ ap (λ (y : ℕ). next_set es (attribute_id (read_of ns es) i AId.Id - 1) (get_or hs y 0)) k,
           ap (λ (y : ℕ). set hs y (i + 1)) k,
         );

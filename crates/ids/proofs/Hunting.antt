@@ -1,5 +1,5 @@
 -- The search for an id along the chain of its bucket. Assumes nothing.
-use mathlib.Core.Path.{◌≡◌, refl, sym, ap, ◌∙◌}
+use mathlib.Core.Path.{◌≡◌, refl, sym, ap, ◌∙◌, subst}
 use mathlib.Core.Bool.{Bool, true, false, false≢true}
 use mathlib.Core.List.{List}
 use Prim.Native.Nat.{ℕ, zero, suc, ◌+◌, ◌-◌, ◌/◌, ◌<◌, ◌≤◌}
@@ -8,13 +8,22 @@ use native.Mathlib.Decide.{ℕ_discrete}
 use borrow.Author.Tests.{eqb-true, eq-eqb, ne_eqb}
 use lib.Dec.{eqb}
 use lib.ListN.{get_or}
+use Rattle.std.proofs.Common.{Option, Some, None, IsSome, SomeIff}
 use Rattle.model.specs.Base.{pick, same_bytes}
 use Rattle.model.specs.AId
-use Rattle.model.specs.Tables.{Tree, entry_word, value_at_entry, attribute_id, has_id_bytes, last_with_id}
+use Rattle.model.specs.Tables.{Tree, entry_word, entry_at, value_of, value_at_entry, attribute_id, has_id_bytes, last_with_id}
 use Rattle.model.specs.Repair.{element_id}
-use Rattle.tree.proofs.Alike.{last_step, last_end}
+use Rattle.tree.specs.Lent.{plus_one}
+use Rattle.tree.proofs.Alike.{id-some}
+use Rattle.tree.proofs.Entries.{one-less}
 use Rattle.ids.specs.Chains.{bucket_of, is_in, last_in, Chained}
 use Rattle.ids.proofs.Values.{same-eq, own-id}
+
+-- A word that is an index plus 1, 0 for none.
+pub minus-one : (x : ℕ) (o : Option ℕ) → SomeIff o (1 ≤ x) (x - 1) → plus_one o ≡ x
+minus-one zero None h = refl
+minus-one (suc x) None h = absurd (h (omega arith))
+minus-one x (Some i) h = omega (arith, h.0, h.1)
 
 module _ (chars : List ℕ) (t : Tree) where
   pub last-low : (b n : ℕ) → last_in chars t b n ≤ n
@@ -94,34 +103,51 @@ module _ (chars : List ℕ) (t : Tree) (hs : List ℕ) (count : ℕ) (k : Chaine
         same = sym (jump chars t id n) ∙ e;
       }
 
-  pub hunt-first : (b : ℕ) → b ≡ bucket_of id → b < 2048 → Hunting chars t id count (get_or hs b 0)
-  hunt-first b e l = rw (k.heads b l, e) (from count (omega arith) refl)
+  pub hunt-first : (b : ℕ) → b ≡ bucket_of id → b < 2048 → (o : Option ℕ) → plus_one o ≡ get_or hs b 0
+      → Hunting chars t id count (plus_one o)
+  hunt-first b e l o f = rw (f, k.heads b l, e) (from count (omega arith) refl)
 
-  module _ (n : ℕ) (w : Hunting chars t id count n) (some : 0 < n) (j : ℕ) (e : j ≡ attribute_id t (n - 1) AId.Id) where
+  pub hunting-at : (o x : Option ℕ) → o ≡ x → Hunting chars t id count (plus_one o) → Hunting chars t id count (plus_one x)
+  hunting-at o x e w = subst (λ (y : Option ℕ). Hunting chars t id count (plus_one y)) e w
+
+  -- At node n.
+  module _ (n : ℕ) (w : Hunting chars t id count (n + 1)) where
+    less : n + 1 - 1 ≡ n
+    less = omega arith
+
+    own : (attribute_id t n AId.Id ≡ 0 → ⊥) × (bucket_of (element_id chars t n) ≡ bucket_of id)
+    own = in-own chars t (bucket_of id) n (sym (ap (is_in chars t (bucket_of id)) less) ∙ w.here (λ x. omega (arith, x)))
+
+    pub hunt-low : n < count
+    hunt-low = let high : n + 1 ≤ count = w.high in omega arith
+
     -- A node of a bucket has an id.
-    pub hunt-id : j ≡ 0 → ⊥
-    hunt-id z = (in-own chars t (bucket_of id) (n - 1) (w.here (λ x. omega arith))).0 (sym e ∙ z)
+    pub hunt-id : (o : Option ℕ) → plus_one o ≡ attribute_id t n AId.Id → IsSome o
+    hunt-id None e = absurd (own.0 (sym e))
+    hunt-id (Some j) e = refl
 
-    module _ (r : Bool) (h : r ≡ same_bytes (value_at_entry chars t j) id) where
-      has : has_id_bytes chars t id (n - 1) ≡ r
-      unfolding has_id_bytes
-      has = rw (ne_eqb (attribute_id t (n - 1) AId.Id) 0 (λ z. hunt-id (e ∙ z)), ← e) (sym h)
+    turn : last_with_id chars t id (n + 1) ≡ pick (has_id_bytes chars t id n) (λ u. n + 1) (λ u. last_with_id chars t id n)
+    unfolding last_with_id
+    turn = let e : n + 1 ≡ suc n = omega arith in ap (last_with_id chars t id) e
 
-      pub hunt-hit : r ≡ true → n ≡ last_with_id chars t id count
-      hunt-hit z =
-          let f : last_with_id chars t id n ≡ n - 1 + 1 = last_step chars t id n some ∙ rw (has ∙ z) refl in
-          omega (arith, f, w.same)
+    module _ (j : ℕ) (e : j + 1 ≡ attribute_id t n AId.Id) (r : Bool) (h : r ≡ same_bytes (value_of chars (entry_at t j)) id) where
+      has : has_id_bytes chars t id n ≡ r
+      has = id-some chars t id n j e ∙ sym h
 
-      pub hunt-on : r ≡ false → (x : ℕ) → x ≡ entry_word t (j - 1) 1 → Hunting chars t id count (x / 2) × (x / 2 < n)
-      hunt-on z x q =
-          let own = in-own chars t (bucket_of id) (n - 1) (w.here (λ y. omega arith)) in
-          let high : n ≤ count = w.high in
-          let p : x / 2 ≡ last_in chars t (bucket_of id) (n - 1) =
-          ap (λ (y : ℕ). y / 2) (q ∙ ap (λ (y : ℕ). entry_word t (y - 1) 1) e) ∙ k.next (n - 1) (omega arith) own.0
-          ∙ ap (λ (b : ℕ). last_in chars t b (n - 1)) own.1 in
-          let s : last_with_id chars t id n ≡ last_with_id chars t id (n - 1) = last_step chars t id n some ∙ rw (has ∙ z) refl in
-          let low : last_in chars t (bucket_of id) (n - 1) ≤ n - 1 = last-low chars t (bucket_of id) (n - 1) in
-          (rw p (from (n - 1) (omega arith) (sym s ∙ w.same)), omega arith)
+      pub hunt-hit : r ≡ true → n + 1 ≡ last_with_id chars t id count
+      hunt-hit z = sym (turn ∙ rw (has ∙ z)) ∙ w.same
 
-  pub hunt-none : (n : ℕ) → Hunting chars t id count n → n ≤ 0 → 0 ≡ last_with_id chars t id count
-  hunt-none n w l = last_end chars t id n l ∙ w.same
+      pub hunt-on : r ≡ false → (x : ℕ) → x ≡ entry_word t j 1 → (o : Option ℕ) → plus_one o ≡ x / 2
+          → Hunting chars t id count (plus_one o) × (plus_one o < n + 1)
+      hunt-on z x q o f =
+          let high : n + 1 ≤ count = w.high in
+          let p : plus_one o ≡ last_in chars t (bucket_of id) n =
+          f ∙ ap (λ (y : ℕ). y / 2) (q ∙ ap (λ (y : ℕ). entry_word t y 1) (sym (one-less j e))) ∙ k.next n (omega arith) own.0
+          ∙ ap (λ (b : ℕ). last_in chars t b n) own.1 in
+          let s : last_with_id chars t id n ≡ last_with_id chars t id count = sym (turn ∙ rw (has ∙ z)) ∙ w.same in
+          let low : last_in chars t (bucket_of id) n ≤ n = last-low chars t (bucket_of id) n in
+          (rw p (from n (omega arith) s), omega (arith, p, low))
+
+  pub hunt-none : Hunting chars t id count 0 → 0 ≡ last_with_id chars t id count
+  unfolding last_with_id
+  hunt-none w = w.same

@@ -2,8 +2,9 @@
 use mathlib.Core.Path.{◌≡◌, refl, sym, ap, ◌∙◌}
 use mathlib.Core.Bool.{Bool, true, false, false≢true}
 use mathlib.Core.List.{List, [], ◌∷◌}
-use Prim.Native.Nat.{ℕ, ◌+◌}
+use Prim.Native.Nat.{ℕ, ◌+◌, ◌-◌}
 use native.Mathlib.Decide.{ℕ_discrete}
+use native.Mathlib.Omega.{arith}
 use borrow.Author.Tests.{eqb-true, eq-eqb, ne_eqb}
 use lib.Dec.{eqb}
 use lib.Seq.{slice}
@@ -73,3 +74,10 @@ pub own-id : (chars : List ℕ) (t : Tree) (i j : ℕ) → j ≡ attribute_id t 
     → element_id chars t i ≡ value_at_entry chars t j
 unfolding element_id
 own-id chars t i j e h = rw (ne_eqb (attribute_id t i AId.Id) 0 (λ z. h (e ∙ z)), ← e) refl
+
+-- The same, by the entry.
+pub id-entry : (chars : List ℕ) (t : Tree) (i j : ℕ) → j + 1 ≡ attribute_id t i AId.Id
+    → element_id chars t i ≡ value_of chars (entry_at t j)
+id-entry chars t i j e =
+    own-id chars t i (j + 1) e (λ z. omega (arith, z))
+    ∙ ap (λ (n : ℕ). value_of chars (entry_at t n)) (let z : j + 1 - 1 ≡ j = omega arith in z)

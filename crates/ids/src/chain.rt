@@ -34,21 +34,20 @@ fn chain_one(
     ensures { Turned characters.now nodes.now attributes.old heads.old i
         attributes.new heads.new result }
 {
-    let j = attribute_id(nodes, attributes, i, aid::ID);
-    if j == 0 {
+    let Some(j) = attribute_id(nodes, attributes, i, aid::ID) else {
         return true;
-    }
-    if entry_word(attributes, j - 1, word::COMMAND) == 0 {
+    };
+    if entry_word(attributes, j, word::COMMAND) == 0 {
         return false;
     }
-    let start = entry_word(attributes, j - 1, word::START);
-    let size = entry_word(attributes, j - 1, word::SIZE);
+    let start = entry_word(attributes, j, word::START);
+    let size = entry_word(attributes, j, word::SIZE);
     let b = bucket(part_at(characters, start as usize, size));
     let next = heads[b];
     if next >= 2147483648 {
         return false;
     }
-    set_next(attributes, j - 1, next);
+    set_next(attributes, j, next);
     heads[b] = i + 1;
     true
 }
@@ -67,12 +66,10 @@ pub fn chain(
     ensures indexed { Indexed characters.now (read_of nodes.now attributes.new) heads.new
         counts.nodes }
 {
-    let mut i = 0;
-    while i < counts.nodes {
+    for i in 0..counts.nodes {
         if !chain_one(nodes, attributes, characters, heads, i) {
             return;
         }
-        i += 1;
     }
     heads[2048] = 1;
 }

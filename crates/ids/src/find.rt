@@ -1,7 +1,7 @@
 // The last element with an id, by the chain of its bucket.
-ghost use Rattle.std.specs.Prelude.{◌≡◌, ℕ, ◌<◌, ◌≤◌, length};
+ghost use Rattle.std.specs.Prelude.{◌≡◌, ℕ, ◌<◌, length, IfSome};
 ghost use Rattle.model.specs.Tables.{last_with_id};
-ghost use Rattle.tree.specs.Lent.{read_of, ReadableIn};
+ghost use Rattle.tree.specs.Lent.{plus_one, read_of, ReadableIn};
 ghost use Rattle.ids.specs.Chains.{bucket_of, Chained, Indexed};
 
 use crate::bucket::bucket;
@@ -18,23 +18,22 @@ fn find_chained(
     heads: &[u32; 2049],
     id: &[u8],
     count: u32,
-) -> u32
+) -> Option<u32>
     requires by_index { (k : ℕ) → k < count → ReadableIn (length characters.now) (read_of nodes.now attributes.now) k }
     requires chained { Chained characters.now (read_of nodes.now attributes.now) heads.now count }
-    ensures found { result
+    ensures found { plus_one result
         ≡ last_with_id characters.now (read_of nodes.now attributes.now) id.now count }
-    ensures within { result ≤ count }
+    ensures within { IfSome result (λ k. k < count) }
 {
-    let b = bucket(id);
-    let mut n = heads[b];
-    while n > 0 {
-        let j = attribute_id(nodes, attributes, n - 1, aid::ID);
-        if has_value(attributes, characters, j - 1, id) {
-            return n;
+    let mut last = heads[bucket(id)].checked_sub(1);
+    while let Some(n) = last {
+        let j = attribute_id(nodes, attributes, n, aid::ID).unwrap();
+        if has_value(attributes, characters, j, id) {
+            return last;
         }
-        n = entry_word(attributes, j - 1, word::IMPORTANT) / 2;
+        last = (entry_word(attributes, j, word::IMPORTANT) / 2).checked_sub(1);
     }
-    0
+    None
 }
 
 // The same where there may be no chains: then every node is looked at.
@@ -45,12 +44,12 @@ pub fn find_id(
     heads: &[u32; 2049],
     id: &[u8],
     count: u32,
-) -> u32
+) -> Option<u32>
     requires by_index { (k : ℕ) → k < count → ReadableIn (length characters.now) (read_of nodes.now attributes.now) k }
     requires indexed { Indexed characters.now (read_of nodes.now attributes.now) heads.now count }
-    ensures found { result
+    ensures found { plus_one result
         ≡ last_with_id characters.now (read_of nodes.now attributes.now) id.now count }
-    ensures within { result ≤ count }
+    ensures within { IfSome result (λ k. k < count) }
 {
     if heads[2048] == 0 {
         return last_with_id(nodes, attributes, characters, id, count);

@@ -10,12 +10,10 @@ pub fn is_plain(attributes: &[u32], count: u32) -> bool
     requires { 5 * count ≤ length attributes.now }
     ensures { result ≡ true → (j : ℕ) → j < count → get_or attributes.now (5 * j + 1) 0 ≤ 1 }
 {
-    let mut j = 0;
-    while j < count {
+    for j in 0..count {
         if entry_word(attributes, j, word::IMPORTANT) > 1 {
             return false;
         }
-        j += 1;
     }
     true
 }
@@ -25,10 +23,8 @@ pub fn unchain(attributes: &mut [u32], count: u32)
     requires { 5 * count ≤ length attributes.old }
     ensures { Unmarked attributes.old attributes.new count }
 {
-    let mut j: u32 = 0;
-    while j < count {
+    for j in 0..count {
         let at = 5 * (j as usize) + word::IMPORTANT;
-        attributes[at] = attributes[at] % 2;
-        j += 1;
+        attributes[at] %= 2;
     }
 }

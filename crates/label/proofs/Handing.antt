@@ -8,6 +8,9 @@ use native.Mathlib.Decide.{ℕ_discrete}
 use borrow.Author.Tests.{eq-eqb, ne_eqb, eqb-false}
 use lib.Dec.{eqb}
 use lib.ListN.{get_or}
+use Rattle.std.specs.Prelude.{Option, Some, None}
+use Rattle.std.specs.Option.{is_some}
+use Rattle.tree.specs.Lent.{plus_one}
 use Rattle.model.specs.Base.{pick, same_bytes}
 use Rattle.model.specs.AId
 use Rattle.model.specs.Tables.{Tree, ELEMENT, kind_of, parent_of, from_of, to_of, find_entry, attribute_id, has_attribute}
@@ -52,8 +55,7 @@ space-step chars t i falls = go (eqb (attribute_id t i AId.Space) 0) refl
         ≡ pick (has i) (λ v. i + 1) (λ v. holder_from t AId.Space (parent_of t i) (parent_of t i))
     held =
         holder-climbs t AId.Space (i + 1) (i + 1)
-        ∙ climb-step has (parent_of t) (i + 1) (omega arith) (λ k l. falls k (omega arith))
-        ∙ ap (λ k. pick (has k) (λ v. i + 1) (λ v. climb has (parent_of t) (parent_of t k) (parent_of t k))) one
+        ∙ climb-step has (parent_of t) i falls
         ∙ ap (λ k. pick (has i) (λ v. i + 1) (λ v. k)) (sym (holder-climbs t AId.Space (parent_of t i) (parent_of t i)))
 
     go : (b : Bool) → eqb (attribute_id t i AId.Space) 0 ≡ b →
@@ -68,11 +70,15 @@ space-step chars t i falls = go (eqb (attribute_id t i AId.Space) 0) refl
         let h : holder_from t AId.Space (i + 1) (i + 1) ≡ i + 1 = held ∙ rw e refl in
         rw (h, ne_eqb (i + 1) 0 (λ z. omega arith), one) (said chars t i default (space_from chars t (parent_of t i)) e)
 
+unset : (o : Option ℕ) → is_some o ≡ false → plus_one o ≡ 0
+unset None e = refl
+unset (Some i) e = cc
+
 -- Where a node says no space itself, its parent hands down the same.
 pub parent-space : (chars : List ℕ) (t : Tree) (p q : ℕ) → ((k : ℕ) → k ≤ p → parent_of t k ≤ k) → parent_of t p ≡ q + 1 → (w : XmlSpace) →
-    w ≡ space_of chars t p → (j : ℕ) → j ≡ attribute_id t p AId.Space → j ≡ 0 → w ≡ space_of chars t q
-parent-space chars t p q falls e w told j found none =
-    told ∙ space-step chars t p falls ∙ unsaid chars t p _ (eq-eqb _ 0 (sym found ∙ none)) ∙ ap (space_from chars t) e
+    w ≡ space_of chars t p → (o : Option ℕ) → plus_one o ≡ attribute_id t p AId.Space → is_some o ≡ false → w ≡ space_of chars t q
+parent-space chars t p q falls e w told o found none =
+    told ∙ space-step chars t p falls ∙ unsaid chars t p _ (eq-eqb _ 0 (sym found ∙ unset o none)) ∙ ap (space_from chars t) e
     ∙ sym (space-from chars t q)
 
 -- IN TABLES THAT GROW

@@ -17,13 +17,11 @@ use Rattle.model.specs.Theorems.Kept.{with_attributes}
 use Rattle.model.proofs.Theorems.Kept.{last_within}
 use Rattle.walk.specs.declared.node.Opened.{Opened}
 use Rattle.walk.specs.Nodes.{Standing}
-use Rattle.memo.specs.declared.plain.FoundElement.{FoundElement}
-use Rattle.memo.specs.declared.plain.FoundElement.TheVariants as found
+use Rattle.std.specs.Prelude.{Option, Some, None, Result, Ok, Err}
+use Rattle.refusal.specs.declared.Refusal.{Refusal}
 use Rattle.memo.specs.Plain.{NodeFit}
 use Rattle.links.specs.Links.{texts_of}
 use Rattle.tree.specs.declared.Counts.{Counts}
-use Rattle.tree.specs.declared.Outcome.{Outcome}
-use Rattle.tree.specs.declared.Outcome.TheVariants as outcome
 use Rattle.tree.specs.Lent.{tree_of, read_of, out_of, ReadableIn, Climbable}
 use Rattle.tree.proofs.Facts.{readable-in, climbable}
 use Rattle.text.specs.Append.{Appendable, append_in}
@@ -55,9 +53,9 @@ abbrev wide : List ℕ → Out Tree → Out Tree
 wide ats (refused k) = refused k
 wide ats (done t) = done (with_attributes ats t)
 
-wide-out : (ns ats bs : List ℕ) (r : Outcome) → out_of ns ats bs r ≡ wide ats (out_of ns [] bs r)
-wide-out ns ats bs (outcome.Refused k) = refl
-wide-out ns ats bs (outcome.Done c) = refl
+wide-out : (ns ats bs : List ℕ) (r : Result Counts Refusal) → out_of ns ats bs r ≡ wide ats (out_of ns [] bs r)
+wide-out ns ats bs (Ok c) = refl
+wide-out ns ats bs (Err r) = refl
 
 wide-rooms : (ats : List ℕ) (a b : Bool) (x y : Tree) → with_attributes ats x ≡ y →
     wide ats (pick a (λ u. pick b (λ v. done x) (λ v. refused 22)) (λ u. refused 24))
@@ -85,7 +83,7 @@ module _ (chars : List ℕ) (from : List Source) (p : ℕ) (ns ats bs : List ℕ
         ap (λ v. append_in v chars from p (tree_of ns ats bs c)) (told ∙ space-same chars (tree_of ns ats bs c) p)
         ∙ sym (append-in chars from p (tree_of ns ats bs c))
 
-    module _ (ns' bs' : List ℕ) (r : Outcome) where
+    module _ (ns' bs' : List ℕ) (r : Result Counts Refusal) where
       pub text-node : out_of ns' [] bs' r ≡ append_in w chars from p (tree_of ns [] bs c) →
           out_of ns' ats bs' r ≡ append_text chars from p (tree_of ns ats bs c)
       text-node e = wide-out ns' ats bs' r ∙ ap (wide ats) e ∙ wide-append ∙ append-same
@@ -100,10 +98,10 @@ module _ (chars : List ℕ) (from : List Source) (p : ℕ) (ns ats bs : List ℕ
 
 -- WHAT A TREF LEADS TO
 
-module _ (script chars : List ℕ) (r : FoundElement) (x : Element) (told : texts_of script chars r ≡ quoted (events script chars) x) where
-  module _ (l : Opened) (e : r ≡ found.At l) where
+module _ (script chars : List ℕ) (r : Option Opened) (x : Element) (told : texts_of script chars r ≡ quoted (events script chars) x) where
+  module _ (l : Opened) (e : r ≡ Some l) where
     pub found-texts : texts_from script chars l.inside ≡ quoted (events script chars) x
-    found-texts = subst (λ (f : FoundElement). texts_of script chars f ≡ quoted (events script chars) x) e told
+    found-texts = subst (λ (f : Option Opened). texts_of script chars f ≡ quoted (events script chars) x) e told
 
     pub found-quotes : NodeFit script r → Lies chars (events script chars) → Quotable script chars l.inside
     found-quotes f h =
@@ -114,11 +112,11 @@ module _ (script chars : List ℕ) (r : FoundElement) (x : Element) (told : text
               (texts-quoted (LiesElement (length chars)) (LiesText (length chars)) (events script chars) x h);
         }
 
-  pub found_nothing : r ≡ found.Nothing → (p : ℕ) (t : Tree) → done t ≡ quote_of chars (quoted (events script chars) x) p t
+  pub found_nothing : r ≡ None → (p : ℕ) (t : Tree) → done t ≡ quote_of chars (quoted (events script chars) x) p t
   unfolding total_size
   found_nothing e p t =
       let z : [] ≡ quoted (events script chars) x =
-      subst (λ (f : FoundElement). texts_of script chars f ≡ quoted (events script chars) x) e told in
+      subst (λ (f : Option Opened). texts_of script chars f ≡ quoted (events script chars) x) e told in
       subst (λ (l : List Source). done t ≡ quote_of chars l p t) z refl
 
 -- THE PARENT

@@ -9,32 +9,32 @@ use Rattle.walk.specs.declared.node.Opened.{Opened}
 use Rattle.walk.specs.Nodes.{element_of, Standing, Further}
 use Rattle.walk.specs.Values.{events_at, SameNodes}
 use Rattle.tree.specs.declared.Counts.{Counts}
-use Rattle.tree.specs.declared.Outcome.{Outcome}
-use Rattle.tree.specs.declared.Outcome.TheVariants as outcome
+use Rattle.refusal.specs.declared.Refusal.{Refusal}
+use Rattle.refusal.specs.Number.{number_of}
 use Rattle.tree.specs.Lent.{tree_of, out_of}
 use Rattle.element.specs.declared.Parsed.{Parsed}
-use Rattle.element.specs.declared.Parsed.TheVariants as parsed
+use Rattle.std.specs.Prelude.{Result, Ok, Err}
 use Rattle.element.specs.Runs.{parsed_of, ParsedFit}
 use Rattle.label.specs.declared.State.{State}
 use Rattle.label.specs.Walk.{Lies, Opening}
 
-module _ (r : Parsed) (ns ats bs : List ℕ) (x : Out Tree) (h : parsed_of ns ats bs r ≡ x) where
-  pub element-done : (k : Counts) (behind : Cursor) → r ≡ parsed.Done k behind → done (tree_of ns ats bs k) ≡ x
-  element-done k behind e = subst (λ (y : Parsed). parsed_of ns ats bs y ≡ x) e h
+module _ (r : Result Parsed Refusal) (ns ats bs : List ℕ) (o : Out Tree) (h : parsed_of ns ats bs r ≡ o) where
+  pub element-done : (x : Parsed) → r ≡ Ok x → done (tree_of ns ats bs x.counts) ≡ o
+  element-done x e = subst (λ (y : Result Parsed Refusal). parsed_of ns ats bs y ≡ o) e h
 
-  pub element-none : (k : ℕ) → r ≡ parsed.Refused k → refused k ≡ x
-  element-none k e = subst (λ (y : Parsed). parsed_of ns ats bs y ≡ x) e h
+  pub element-none : (j : Refusal) → r ≡ Err j → refused (number_of j) ≡ o
+  element-none j e = subst (λ (y : Result Parsed Refusal). parsed_of ns ats bs y ≡ o) e h
 
-pub element-behind : (r : Parsed) (script chars : List ℕ) (from : Cursor) → ParsedFit script chars from r → (k : Counts) (behind : Cursor) →
-    r ≡ parsed.Done k behind → SameNodes script chars from behind
-element-behind r script chars from h k behind e = subst (ParsedFit script chars from) e h
+pub element-behind : (r : Result Parsed Refusal) (script chars : List ℕ) (from : Cursor) → ParsedFit script chars from r →
+    (x : Parsed) → r ≡ Ok x → SameNodes script chars from x.behind
+element-behind r script chars from h x e = subst (ParsedFit script chars from) e h
 
-module _ (r : Outcome) (ns ats bs : List ℕ) (x : Out Tree) (h : out_of ns ats bs r ≡ x) where
-  pub append-done : (k : Counts) → r ≡ outcome.Done k → done (tree_of ns ats bs k) ≡ x
-  append-done k e = subst (λ (y : Outcome). out_of ns ats bs y ≡ x) e h
+module _ (r : Result Counts Refusal) (ns ats bs : List ℕ) (o : Out Tree) (h : out_of ns ats bs r ≡ o) where
+  pub append-done : (k : Counts) → r ≡ Ok k → done (tree_of ns ats bs k) ≡ o
+  append-done k e = subst (λ (y : Result Counts Refusal). out_of ns ats bs y ≡ o) e h
 
-  pub append-none : (k : ℕ) → r ≡ outcome.Refused k → refused k ≡ x
-  append-none k e = subst (λ (y : Outcome). out_of ns ats bs y ≡ x) e h
+  pub append-none : (j : Refusal) → r ≡ Err j → refused (number_of j) ≡ o
+  append-none j e = subst (λ (y : Result Counts Refusal). out_of ns ats bs y ≡ o) e h
 
 -- An element opens.
 pub opening : (script chars : List ℕ) (s : State) (x : Opened) →

@@ -23,7 +23,9 @@ use Rattle.walk.specs.Values.{events_at, SameNodes}
 use Rattle.tree.specs.declared.Counts.{Counts}
 use Rattle.tree.specs.Lent.{tree_of, read_of}
 use Rattle.element.specs.declared.Parsed.{Parsed}
-use Rattle.element.specs.declared.Parsed.TheVariants as parsed
+use Rattle.refusal.specs.declared.Refusal.{Refusal}
+use Rattle.refusal.specs.Number.{number_of}
+use Rattle.std.specs.Prelude.{Result, Ok, Err}
 use Rattle.element.specs.Runs.{InAttributes, InDeclarations, Ready}
 use Rattle.element.proofs.Keeping.{Grown, kept-ready, element-grown}
 use Rattle.text.specs.declared.XmlSpace.{XmlSpace}
@@ -176,10 +178,10 @@ module _ (script chars ns ats bs : List ℕ) (k : Counts) (p : ℕ) (x : Opened)
             }
 
 -- What the walk inside comes to.
-module _ (script chars : List ℕ) (e : ℕ) (ns ats bs : List ℕ) (s : State) (ns' ats' bs' : List ℕ) (r : Parsed)
+module _ (script chars : List ℕ) (e : ℕ) (ns ats bs : List ℕ) (s : State) (ns' ats' bs' : List ℕ) (r : Result Parsed Refusal)
     (h : InsideFit script chars e ns ats bs s ns' ats' bs' r) where
-  pub inside-done : (k : Counts) (c : Cursor) → r ≡ parsed.Done k c → Ends script chars e ns ats bs s ns' ats' bs' k c
-  inside-done k c q = subst (InsideFit script chars e ns ats bs s ns' ats' bs') q h
+  pub inside-done : (x : Parsed) → r ≡ Ok x → Ends script chars e ns ats bs s ns' ats' bs' x.counts x.behind
+  inside-done x q = subst (InsideFit script chars e ns ats bs s ns' ats' bs') q h
 
-  pub inside-none : (k : ℕ) → r ≡ parsed.Refused k → refused k ≡ whole script chars e ns ats bs s ns' ats' bs'
+  pub inside-none : (k : Refusal) → r ≡ Err k → refused (number_of k) ≡ whole script chars e ns ats bs s ns' ats' bs'
   inside-none k q = subst (InsideFit script chars e ns ats bs s ns' ats' bs') q h

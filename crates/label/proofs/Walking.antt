@@ -30,11 +30,14 @@ use Rattle.text.proofs.Seen.{space-same}
 use Rattle.element.specs.Runs.{InAttributes, InDeclarations, Ready}
 use Rattle.element.proofs.Keeping.{kept-ready}
 use Rattle.label.specs.declared.State.{State}
-use Rattle.label.specs.declared.Turn.{Turn}
+use Rattle.element.specs.declared.Parsed.{Parsed}
+use Rattle.refusal.specs.declared.Refusal.{Refusal}
+use Rattle.refusal.specs.Number.{number_of}
+use Rattle.std.specs.declared.ops.ControlFlow.{ControlFlow}
+use Rattle.std.specs.Prelude.{Some, Result, Ok, Err}
 use Rattle.pieces.specs.declared.Levels.{Levels}
-use Rattle.pieces.specs.declared.Above.TheVariants as above
 use Rattle.pieces.specs.Levels.{Pushed, AboveFit, space_above, Recalled}
-use Rattle.label.specs.Walk.{Holding, quote_of, Lies, Within, Up, Way, inside_of, Opening, whole, Goes, Ends, TurnFit}
+use Rattle.label.specs.Walk.{Holding, quote_of, Lies, Within, Up, Way, inside_of, Opening, whole, Goes, Ends, FlowFit, TurnFit}
 use Rattle.pieces.proofs.Contents.{tag-element}
 use Rattle.label.proofs.Handing.{space_from, space-from, space-step, old-space}
 use Rattle.label.proofs.Remembering.{recalled-on, recalled-in}
@@ -206,7 +209,7 @@ module _ (script chars : List ℕ) (e : ℕ) (ns ats bs : List ℕ) (s : State) 
 
       -- The space of the parent is remembered.
       pub goes-known : (s.p ≡ e → ⊥) → (m : ℕ) → m ≡ word ns s.p 1 → (ws : List ℕ) (v : Levels) → Recalled chars t ws s.p v →
-          (sp : XmlSpace) (r : Levels) → AboveFit ws v (above.Known sp r) →
+          (sp : XmlSpace) (r : Levels) → AboveFit ws v (Some (sp, r)) →
           Goes script chars e ns ats bs s ns ats bs (record { c = c; p = m - 1; counts = s.counts; space = sp }) × (s.c.at < c.at)
           × Recalled chars t ws (m - 1) r
       goes-known h m z ws v told sp r fit =
@@ -462,6 +465,11 @@ module _ (script chars : List ℕ) (e : ℕ) (ns₀ ats₀ bs₀ : List ℕ) (fi
     behind = λ rest v. h.behind rest (g.way rest v);
   }
 
-pub turn-told : (script chars : List ℕ) (e : ℕ) (ns ats bs : List ℕ) (s : State) (ns' ats' bs' ws : List ℕ) (r x : Turn) → r ≡ x →
-    TurnFit script chars e ns ats bs s ns' ats' bs' ws r → TurnFit script chars e ns ats bs s ns' ats' bs' ws x
-turn-told script chars e ns ats bs s ns' ats' bs' ws r x q h = subst (TurnFit script chars e ns ats bs s ns' ats' bs' ws) q h
+module _ (script chars : List ℕ) (e : ℕ) (ns ats bs : List ℕ) (s : State) (ns' ats' bs' ws : List ℕ)
+    (r : Result (ControlFlow Parsed (State × Levels)) Refusal) (h : TurnFit script chars e ns ats bs s ns' ats' bs' ws r) where
+  pub turn-flow : (x y : ControlFlow Parsed (State × Levels)) → r ≡ Ok x → x ≡ y → FlowFit script chars e ns ats bs s ns' ats' bs' ws y
+  turn-flow x y q p =
+      subst (FlowFit script chars e ns ats bs s ns' ats' bs' ws) p (subst (TurnFit script chars e ns ats bs s ns' ats' bs' ws) q h)
+
+  pub turn-none : (k : Refusal) → r ≡ Err k → refused (number_of k) ≡ whole script chars e ns ats bs s ns' ats' bs'
+  turn-none k q = subst (TurnFit script chars e ns ats bs s ns' ats' bs' ws) q h

@@ -1,5 +1,7 @@
 -- The walk inside a text element: its state, and what each turn keeps true.
-use Rattle.std.specs.Prelude.{ℕ, zero, suc, ◌+◌, ◌-◌, ◌≤◌, ◌<◌, ◌≡◌, List, ◌∷◌, eqb, length}
+use Rattle.std.specs.Prelude.{ℕ, zero, suc, ◌+◌, ◌-◌, ◌≤◌, ◌<◌, ◌≡◌, List, ◌∷◌, eqb, length, Result, Ok, Err}
+use Rattle.std.specs.declared.ops.ControlFlow.{ControlFlow}
+use Rattle.std.specs.declared.ops.ControlFlow.TheVariants.{Continue, Break}
 use Rattle.model.specs.Base.{pick}
 use Rattle.model.specs.Check.{most_bytes}
 use Rattle.model.specs.Drawing.{Event, Source, begin, events}
@@ -18,11 +20,11 @@ use Rattle.tree.specs.declared.Counts.{Counts}
 use Rattle.tree.specs.Lent.{tree_of}
 use Rattle.text.specs.Spaces.{space_in}
 use Rattle.element.specs.declared.Parsed.{Parsed}
-use Rattle.element.specs.declared.Parsed.TheVariants as parsed
-use Rattle.label.specs.declared.State.{State}
-use Rattle.label.specs.declared.Turn.{Turn}
-use Rattle.label.specs.declared.Turn.TheVariants as turn
+use Rattle.refusal.specs.declared.Refusal.{Refusal}
+use Rattle.refusal.specs.Number.{number_of}
+use Rattle.pieces.specs.declared.Levels.{Levels}
 use Rattle.pieces.specs.Levels.{Recalled}
+use Rattle.label.specs.declared.State.{State}
 
 -- A TEXT NODE
 
@@ -106,13 +108,17 @@ module _ (script chars : List ℕ) (e : ℕ) (ns ats bs : List ℕ) (s : State) 
     pub same : done (tree_of ns' ats' bs' k) ≡ whole
     pub behind : (rest : List Event) → Way ns e s.p (events_at script chars s.c) rest → events_at script chars c ≡ rest
 
-  -- A turn, behind which the words ws have what is remembered.
-  abbrev pub TurnFit : List ℕ → Turn → Type 0
-  TurnFit ws (turn.On n v) = Goes n × (s.c.at < n.c.at) × Recalled chars (tree_of ns' ats' bs' n.counts) ws n.p v
-  TurnFit ws (turn.Refused k) = refused k ≡ whole
-  TurnFit ws (turn.End k c) = Ends k c
+  -- Where a turn goes on, the words ws have what is remembered.
+  abbrev pub FlowFit : List ℕ → ControlFlow Parsed (State × Levels) → Type 0
+  FlowFit ws (Continue x) = Goes x.0 × (s.c.at < x.0.c.at) × Recalled chars (tree_of ns' ats' bs' x.0.counts) ws x.0.p x.1
+  FlowFit ws (Break x) = Ends x.counts x.behind
+
+  -- A turn.
+  abbrev pub TurnFit : List ℕ → Result (ControlFlow Parsed (State × Levels)) Refusal → Type 0
+  TurnFit ws (Ok flow) = FlowFit ws flow
+  TurnFit ws (Err r) = refused (number_of r) ≡ whole
 
   -- What the whole walk comes to.
-  abbrev pub InsideFit : Parsed → Type 0
-  InsideFit (parsed.Refused k) = refused k ≡ whole
-  InsideFit (parsed.Done k c) = Ends k c
+  abbrev pub InsideFit : Result Parsed Refusal → Type 0
+  InsideFit (Ok x) = Ends x.counts x.behind
+  InsideFit (Err r) = refused (number_of r) ≡ whole

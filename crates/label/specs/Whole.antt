@@ -1,5 +1,5 @@
 -- A text element whole: what it asks, and what it leaves.
-use Rattle.std.specs.Prelude.{ℕ, ◌≤◌, ◌<◌, ◌≡◌, List, length}
+use Rattle.std.specs.Prelude.{ℕ, ◌≤◌, ◌<◌, ◌≡◌, List, length, Result, Ok, Err}
 use Rattle.model.specs.Check.{most_bytes}
 use Rattle.model.specs.Drawing.{events}
 use Rattle.model.specs.Tables.{Tree, most}
@@ -12,7 +12,7 @@ use Rattle.walk.specs.Nodes.{element_of, leave}
 use Rattle.walk.specs.Values.{events_at}
 use Rattle.tree.specs.Lent.{tree_of}
 use Rattle.element.specs.declared.Parsed.{Parsed}
-use Rattle.element.specs.declared.Parsed.TheVariants as parsed
+use Rattle.refusal.specs.declared.Refusal.{Refusal}
 use Rattle.label.specs.Walk.{Lies}
 
 -- The counts are words.
@@ -43,6 +43,6 @@ pub record Closed (script chars : List ℕ) (from : Cursor) (n : ℕ) (t : Tree)
   pub few : Counted t
   pub more : n ≤ t.node_count
 
-abbrev pub ClosedFit : List ℕ → List ℕ → Cursor → ℕ → List ℕ → List ℕ → List ℕ → Parsed → Type 0
-ClosedFit script chars from n ns ats bs (parsed.Refused k) = Unit {0}
-ClosedFit script chars from n ns ats bs (parsed.Done k c) = Closed script chars from n (tree_of ns ats bs k) c
+abbrev pub ClosedFit : List ℕ → List ℕ → Cursor → ℕ → List ℕ → List ℕ → List ℕ → Result Parsed Refusal → Type 0
+ClosedFit script chars from n ns ats bs (Ok x) = Closed script chars from n (tree_of ns ats bs x.counts) x.behind
+ClosedFit script chars from n ns ats bs (Err r) = Unit {0}

@@ -18,11 +18,3 @@ pub struct State {
     pub counts: Counts,
     pub space: XmlSpace,
 }
-
-// What a turn of the walk comes to; at the end, how much of the tables is taken, and the cursor behind the text element.
-#[derive(Clone, Copy)]
-pub enum Turn {
-    On(State, Levels),
-    Refused(u32),
-    End(Counts, Cursor),
-}

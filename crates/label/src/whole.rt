@@ -14,6 +14,7 @@ use crate::within::inside;
 use element::Parsed;
 use element::parse::parse_svg_element;
 use names::eid;
+use refusal::Refusal;
 use text::space::space_of;
 use tree::Counts;
 use trimming::nodes::trim_text_nodes;
@@ -31,7 +32,7 @@ pub fn parse_svg_text_element(
     parent: u32,
     ignored: bool,
     x: Opened,
-) -> Parsed
+) -> Result<Parsed, Refusal>
     requires beginning { Beginning script.now characters.now (tree_of nodes.old attributes.old text.old counts) parent x }
     requires memo { Memo script.now characters.now slots.now }
     ensures outcome { parsed_of nodes.new attributes.new text.new result
@@ -43,7 +44,7 @@ pub fn parse_svg_text_element(
         nodes.new attributes.new text.new result }
 {
     let e = counts.nodes;
-    match parse_svg_element(
+    let opened = parse_svg_element(
         script,
         characters,
         nodes,
@@ -53,23 +54,15 @@ pub fn parse_svg_text_element(
         eid::TEXT,
         ignored,
         x,
-    ) {
-        Parsed::Refused(k) => Parsed::Refused(k),
-        Parsed::Done(taken, behind) => {
-            let space = space_of(nodes, attributes, characters, e);
-            let first = State {
-                c: behind,
-                p: e,
-                counts: taken,
-                space,
-            };
-            match inside(script, characters, slots, nodes, attributes, text, e, first) {
-                Parsed::Refused(k) => Parsed::Refused(k),
-                Parsed::Done(all, c) => {
-                    trim_text_nodes(nodes, attributes, text, characters, all, e);
-                    Parsed::Done(all, c)
-                }
-            }
-        }
-    }
+    )?;
+    let space = space_of(nodes, attributes, characters, e);
+    let first = State {
+        c: opened.behind,
+        p: e,
+        counts: opened.counts,
+        space,
+    };
+    let all = inside(script, characters, slots, nodes, attributes, text, e, first)?;
+    trim_text_nodes(nodes, attributes, text, characters, all.counts, e);
+    Ok(all)
 }

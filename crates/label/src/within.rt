@@ -12,23 +12,24 @@ ghost use Rattle.text.specs.Spaces.{space_in};
 ghost use Rattle.pieces.specs.Levels.{Recalled};
 ghost use Rattle.label.specs.Walk.{Holding, quote_of, Lies, Within, Opening, TurnFit, InsideFit};
 
-use crate::{State, Turn};
+use crate::State;
 use element::Parsed;
 use element::parse::parse_svg_element;
 use links::link::quoted;
-use memo::plain::FoundElement;
 use names::{aid, eid};
+use pieces::Levels;
 use pieces::content::{code_of, is_text_content, text_tag_of};
 use pieces::quote::append_quoted;
 use pieces::remember::{nothing, pop, push};
-use pieces::{Above, Levels};
+use refusal::Refusal;
 use script::cursor::Cursor;
+use std::ops::ControlFlow;
 use text::append::append_text;
 use text::space::{get_xmlspace, space_of};
 use text::{Source, XmlSpace};
 use tree::read::attribute_id;
 use tree::word::node_word;
-use tree::{Counts, Outcome, word};
+use tree::{Counts, word};
 use walk::node::{Item, Opened, next_item, past_element};
 
 // The space that the parent q of node p hands down, where p hands down `space` and nothing is remembered: it is looked for only where p
@@ -47,7 +48,7 @@ fn space_above(
     requires space_value { space_in space ≡ space_of characters.now (read_of nodes.now attributes.now) p }
     ensures { space_in result ≡ space_of characters.now (read_of nodes.now attributes.now) q }
 {
-    let is_unset = attribute_id(nodes, attributes, p, aid::SPACE) == 0;
+    let is_unset = attribute_id(nodes, attributes, p, aid::SPACE).is_none();
     if is_unset {
         return space;
     }
@@ -65,7 +66,7 @@ fn add_text(
     own: Cursor,
     size: u32,
     space: XmlSpace,
-) -> Outcome
+) -> Result<Counts, Refusal>
     requires holding { Holding (length characters.now) (tree_of nodes.old attributes.now text.old counts) p }
     requires space_value { space_in space ≡ space_of characters.now (read_of nodes.old attributes.now) p }
     requires size_in_bounds { own.chars + size ≤ length characters.now }
@@ -95,7 +96,7 @@ fn add_quoted(
     p: u32,
     x: Opened,
     space: XmlSpace,
-) -> Outcome
+) -> Result<Counts, Refusal>
     requires holding { Holding (length characters.now) (tree_of nodes.old attributes.now text.old counts) p }
     requires space_value { space_in space ≡ space_of characters.now (read_of nodes.old attributes.now) p }
     requires standing { Standing script.now x }
@@ -107,10 +108,8 @@ fn add_quoted(
         (tree_of nodes.old attributes.now text.old counts) }
 {
     match quoted(script, characters, slots, x) {
-        FoundElement::At(l) => {
-            append_quoted(script, characters, nodes, text, counts, p, l.inside, space)
-        }
-        FoundElement::Nothing => Outcome::Done(counts),
+        Some(l) => append_quoted(script, characters, nodes, text, counts, p, l.inside, space),
+        None => Ok(counts),
     }
 }
 
@@ -128,7 +127,7 @@ fn begin(
     s: State,
     levels: Levels,
     x: Opened,
-) -> Turn
+) -> Result<ControlFlow<Parsed, (State, Levels)>, Refusal>
     requires within { Within script.now characters.now nodes.old attributes.old text.old e s }
     requires opening { Opening script.now characters.now s x }
     requires recalled { Recalled characters.now (tree_of nodes.old attributes.old text.old s.counts) words.old s.p levels }
@@ -139,20 +138,11 @@ fn begin(
     let code = code_of(x.name);
     let counts = s.counts;
     let handed = s.space;
-    let inside = x.inside;
     if !is_text_content(x.name, x.space, s.p == e) {
-        let behind = past_element(script, characters, inside);
-        return Turn::On(
-            State {
-                c: behind,
-                p: s.p,
-                counts,
-                space: handed,
-            },
-            levels,
-        );
+        let behind = past_element(script, characters, x.inside);
+        return Ok(ControlFlow::Continue((State { c: behind, ..s }, levels)));
     }
-    match parse_svg_element(
+    let opened = parse_svg_element(
         script,
         characters,
         nodes,
@@ -162,51 +152,39 @@ fn begin(
         text_tag_of(code),
         false,
         x,
-    ) {
-        Parsed::Refused(k) => Turn::Refused(k),
-        Parsed::Done(taken, behind) => {
-            let space = get_xmlspace(nodes, attributes, characters, counts.nodes, handed);
-            let is_read = code != eid::TREF;
-            if is_read {
-                let more = push(words, levels, handed);
-                return Turn::On(
-                    State {
-                        c: behind,
-                        p: counts.nodes,
-                        counts: taken,
-                        space,
-                    },
-                    more,
-                );
-            }
-            match add_quoted(
-                script,
-                characters,
-                slots,
-                nodes,
-                attributes,
-                text,
-                taken,
-                counts.nodes,
-                x,
-                space,
-            ) {
-                Outcome::Refused(k) => Turn::Refused(k),
-                Outcome::Done(more) => {
-                    let past = past_element(script, characters, behind);
-                    Turn::On(
-                        State {
-                            c: past,
-                            p: s.p,
-                            counts: more,
-                            space: handed,
-                        },
-                        levels,
-                    )
-                }
-            }
-        }
+    )?;
+    let node = counts.nodes;
+    let space = get_xmlspace(nodes, attributes, characters, node, handed);
+    let is_read = code != eid::TREF;
+    if is_read {
+        let more = push(words, levels, handed);
+        let next = State {
+            c: opened.behind,
+            p: node,
+            counts: opened.counts,
+            space,
+        };
+        return Ok(ControlFlow::Continue((next, more)));
     }
+    let all = add_quoted(
+        script,
+        characters,
+        slots,
+        nodes,
+        attributes,
+        text,
+        opened.counts,
+        node,
+        x,
+        space,
+    )?;
+    let past = past_element(script, characters, opened.behind);
+    let next = State {
+        c: past,
+        counts: all,
+        ..s
+    };
+    Ok(ControlFlow::Continue((next, levels)))
 }
 
 // What stands at the place of the state.
@@ -221,76 +199,45 @@ fn advance(
     e: u32,
     s: State,
     levels: Levels,
-) -> Turn
+) -> Result<ControlFlow<Parsed, (State, Levels)>, Refusal>
     requires within { Within script.now characters.now nodes.old attributes.old text.old e s }
     requires recalled { Recalled characters.now (tree_of nodes.old attributes.old text.old s.counts) words.old s.p levels }
     requires memo { Memo script.now characters.now slots.now }
     ensures { TurnFit script.now characters.now e nodes.old attributes.old
         text.old s nodes.new attributes.new text.new words.new result }
 {
-    let c = s.c;
-    let counts = s.counts;
-    let handed = s.space;
-    match next_item(script, characters, c) {
+    match next_item(script, characters, s.c) {
         Item::Begin(x) => begin(
             script, characters, slots, nodes, attributes, text, words, e, s, levels, x,
         ),
         Item::Text(own, len, n) => {
-            match add_text(
-                nodes, attributes, text, characters, counts, s.p, own, len, handed,
-            ) {
-                Outcome::Refused(k) => Turn::Refused(k),
-                Outcome::Done(more) => Turn::On(
-                    State {
-                        c: n,
-                        p: s.p,
-                        counts: more,
-                        space: handed,
-                    },
-                    levels,
-                ),
-            }
+            let counts = add_text(
+                nodes, attributes, text, characters, s.counts, s.p, own, len, s.space,
+            )?;
+            Ok(ControlFlow::Continue((State { c: n, counts, ..s }, levels)))
         }
-        Item::Other(n) => Turn::On(
-            State {
-                c: n,
-                p: s.p,
-                counts,
-                space: handed,
-            },
-            levels,
-        ),
+        Item::Other(n) => Ok(ControlFlow::Continue((State { c: n, ..s }, levels))),
         Item::Close(n) => {
             if s.p == e {
-                return Turn::End(counts, n);
+                return Ok(ControlFlow::Break(Parsed {
+                    counts: s.counts,
+                    behind: n,
+                }));
             }
-            let parent = node_word(nodes, s.p, word::PARENT);
-            let up = parent - 1;
+            let up = node_word(nodes, s.p, word::PARENT) - 1;
+            let above = State { c: n, p: up, ..s };
             match pop(words, levels) {
-                Above::Known(space, less) => Turn::On(
-                    State {
-                        c: n,
-                        p: up,
-                        counts,
-                        space,
-                    },
-                    less,
-                ),
-                Above::Unknown => {
-                    let space = space_above(nodes, attributes, characters, s.p, up, handed);
-                    Turn::On(
-                        State {
-                            c: n,
-                            p: up,
-                            counts,
-                            space,
-                        },
-                        nothing(),
-                    )
+                Some((space, less)) => Ok(ControlFlow::Continue((State { space, ..above }, less))),
+                None => {
+                    let space = space_above(nodes, attributes, characters, s.p, up, s.space);
+                    Ok(ControlFlow::Continue((State { space, ..above }, nothing())))
                 }
             }
         }
-        Item::End => Turn::End(counts, c),
+        Item::End => Ok(ControlFlow::Break(Parsed {
+            counts: s.counts,
+            behind: s.c,
+        })),
     }
 }
 
@@ -304,7 +251,7 @@ pub fn inside(
     text: &mut [u8],
     e: u32,
     first: State,
-) -> Parsed
+) -> Result<Parsed, Refusal>
     requires within { Within script.now characters.now nodes.old attributes.old text.old e first }
     requires memo { Memo script.now characters.now slots.now }
     ensures { InsideFit script.now characters.now e nodes.old attributes.old
@@ -314,19 +261,15 @@ pub fn inside(
     let mut levels = nothing();
     let mut s = first;
     loop {
-        match advance(
+        let turn = advance(
             script, characters, slots, nodes, attributes, text, &mut words, e, s, levels,
-        ) {
-            Turn::On(n, l) => {
+        )?;
+        match turn {
+            ControlFlow::Continue((n, l)) => {
                 s = n;
                 levels = l;
             }
-            Turn::Refused(k) => {
-                return Parsed::Refused(k);
-            }
-            Turn::End(counts, c) => {
-                return Parsed::Done(counts, c);
-            }
+            ControlFlow::Break(parsed) => return Ok(parsed),
         }
     }
 }

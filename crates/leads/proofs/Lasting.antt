@@ -2,7 +2,7 @@
 use mathlib.Core.Path.{◌≡◌, refl, sym, ap, ◌∙◌}
 use mathlib.Core.Bool.{Bool, true, false, not, false≢true}
 use mathlib.Core.List.{List, []}
-use Prim.Native.Nat.{ℕ, zero, suc, ◌+◌, ◌-◌, ◌*◌, ◌<◌, ◌≤◌}
+use Prim.Native.Nat.{ℕ, zero, suc, ◌+◌, ◌*◌, ◌<◌, ◌≤◌}
 use native.Mathlib.Omega.{arith}
 use native.Mathlib.Decide.{ℕ_discrete}
 use borrow.Author.Tests.{eq-eqb, ne_eqb}
@@ -12,15 +12,14 @@ use lib.Seq.{slice}
 use Rattle.model.specs.Base.{pick, and, same_bytes}
 use Rattle.model.specs.AId
 use Rattle.model.specs.Names.{fixed_bytes, fixed_values}
-use Rattle.model.specs.Tables.{Tree, ELEMENT, kind_of, to_of, entry_word, entry_at, value_of, value_at_entry, attribute_id, has_id_bytes}
+use Rattle.model.specs.Tables.{Tree, to_of, entry_word, entry_at, value_of, value_at_entry, attribute_id, has_id_bytes}
 use Rattle.model.specs.Tables.{last_with_id, element_by_id}
 use Rattle.model.specs.Questions.{all_below}
 use Rattle.model.specs.Repair.{element_id}
 use Rattle.tree.specs.Lent.{entries_of, ReadableIn, HeldBy}
-use Rattle.tree.proofs.Alike.{last_step}
 use Rattle.tree.proofs.Bools.{and-false}
 use Rattle.leads.specs.Links.{Known, KnownIn}
-use Rattle.ids.proofs.Values.{same-swap, same-eq, same-itself, read-fixed, read-part, own-id}
+use Rattle.ids.proofs.Values.{same-swap, same-eq, same-itself, read-fixed, read-part, id-entry}
 
 -- FIXED VALUES
 
@@ -128,45 +127,31 @@ module _ (chars : List ℕ) (t : Tree) (i : ℕ) where
   last-absent h id n =
       sym (ne_eqb (last_with_id chars t id n) (i + 1) (λ z. false≢true (sym (has-none h id) ∙ found-has chars t id n i z)))
 
--- The search from the last node down: n nodes are left.
-module _ (chars : List ℕ) (t : Tree) (id : List ℕ) (n count : ℕ) (same : last_with_id chars t id n ≡ last_with_id chars t id count) where
-  pub seek_found : 0 < n → has_id_bytes chars t id (n - 1) ≡ true → n ≡ last_with_id chars t id count
-  seek_found l h =
-      let f : last_with_id chars t id n ≡ n - 1 + 1 = last_step chars t id n l ∙ rw h refl in
-      omega (arith, f, same)
-
-  pub seek-on : 0 < n → has_id_bytes chars t id (n - 1) ≡ false → last_with_id chars t id (n - 1) ≡ last_with_id chars t id count
-  seek-on l h = sym (last_step chars t id n l ∙ rw h refl) ∙ same
-
--- The entry of an attribute that is there.
-pub known-entry : (size : ℕ) (t : Tree) (i j : ℕ) → KnownIn size t i → HeldBy t i j → (j ≡ 0 → ⊥)
-    → Known size (entries_of t.attributes) (j - 1)
+-- The entry of an attribute.
+pub known-entry : (size : ℕ) (t : Tree) (i j : ℕ) → KnownIn size t i → HeldBy t i j → Known size (entries_of t.attributes) j
 unfolding entry_at
-known-entry size t i j r h z =
-    let e : kind_of t i ≡ ELEMENT = h.element z in
-    let l : j ≤ to_of t i = h.last in
-    let m : 5 * to_of t i ≤ length t.attributes = r.readable.range e in
-    record { inside = omega arith; kept = r.entries e (j - 1) (omega arith) }
+known-entry size t i j r h =
+    let m : 5 * to_of t i ≤ length t.attributes = r.readable.range h.element in
+    record { inside = omega (arith, h.inside); kept = r.entries h.element j h.inside }
 
 pub known-readable : (size : ℕ) (t : Tree) (i : ℕ) → KnownIn size t i → ReadableIn size t i
 known-readable size t i r = record { readable = r.readable; values = λ e j l. (r.entries e j l).inside }
 
 -- The search for an element's id, where that is a part of the characters, a fixed value, or not there.
-module _ (chars : List ℕ) (t : Tree) (i j count : ℕ) (e : j ≡ attribute_id t i AId.Id) where
-  pub last-part : (j ≡ 0 → ⊥)
-      → (n : ℕ) → n ≡ entry_word t (j - 1) 4 → (n ≡ 0 → ⊥) → (s : ℕ) → s ≡ entry_word t (j - 1) 2 → (l : ℕ) → l ≡ entry_word t (j - 1) 3
-      → (p : List ℕ) → p ≡ slice s (s + l) chars → (w : ℕ) → w ≡ last_with_id chars t p count
-      → w ≡ last_with_id chars t (element_id chars t i) count
-  last-part z n c y s a l d p q w f =
-      f ∙ ap (λ (id : List ℕ). last_with_id chars t id count)
-      (read-part chars t (j - 1) n c s a y l d p q ∙ sym (own-id chars t i j e z))
+module _ (chars : List ℕ) (t : Tree) (i count w : ℕ) where
+  module _ (j : ℕ) (e : j + 1 ≡ attribute_id t i AId.Id) where
+    pub last-part : (n : ℕ) → n ≡ entry_word t j 4 → (n ≡ 0 → ⊥) → (s : ℕ) → s ≡ entry_word t j 2 → (l : ℕ) → l ≡ entry_word t j 3
+        → (p : List ℕ) → p ≡ slice s (s + l) chars → w ≡ last_with_id chars t p count
+        → w ≡ last_with_id chars t (element_id chars t i) count
+    last-part n c y s a l d p q f =
+        f ∙ ap (λ (id : List ℕ). last_with_id chars t id count)
+        (read-part chars t j n c s a y l d p q ∙ sym (id-entry chars t i j e))
 
-  pub last_entry : (j ≡ 0 → ⊥) → (w : ℕ) → w ≡ last_with_id chars t (value_at_entry chars t j) count
-      → w ≡ last_with_id chars t (element_id chars t i) count
-  last_entry z w f = f ∙ ap (λ (id : List ℕ). last_with_id chars t id count) (sym (own-id chars t i j e z))
+    pub last_entry : w ≡ last_with_id chars t (value_of chars (entry_at t j)) count
+        → w ≡ last_with_id chars t (element_id chars t i) count
+    last_entry f = f ∙ ap (λ (id : List ℕ). last_with_id chars t id count) (sym (id-entry chars t i j e))
 
-  pub last_none : j ≡ 0 → (p : List ℕ) → p ≡ slice 0 0 chars → (w : ℕ) → w ≡ last_with_id chars t p count
+  pub last_none : 0 ≡ attribute_id t i AId.Id → (p : List ℕ) → p ≡ slice 0 0 chars → w ≡ last_with_id chars t p count
       → w ≡ last_with_id chars t (element_id chars t i) count
   unfolding element_id
-  last_none z p q w f =
-      f ∙ ap (λ (id : List ℕ). last_with_id chars t id count) (q ∙ rw (eq-eqb (attribute_id t i AId.Id) 0 (sym e ∙ z)) refl)
+  last_none e p q f = f ∙ ap (λ (id : List ℕ). last_with_id chars t id count) (q ∙ rw (sym e) refl)

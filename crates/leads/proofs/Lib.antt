@@ -1,3 +1,2 @@
 pub mod Lasting
 pub mod Linking
-pub mod Looking

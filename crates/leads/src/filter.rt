@@ -1,21 +1,20 @@
 // The filter links of a node: every one is compared with an id.
-ghost use Rattle.std.specs.Prelude.{◌≡◌, ◌≤◌, length};
+ghost use Rattle.std.specs.Prelude.{◌≡◌, ℕ, ◌≤◌, Option, length};
 ghost use Rattle.model.specs.AId;
 ghost use Rattle.model.specs.Repair.{any_reading, readings_of_attribute};
 ghost use Rattle.script.specs.Step.{Fit, most_place};
 ghost use Rattle.walk.specs.Values.{readings_in};
 ghost use Rattle.places.specs.Seeks.{readings_here};
 ghost use Rattle.tree.specs.Lent.{read_of, entries_of, ReadableIn};
-ghost use Rattle.leads.specs.Links.{Drawn, values_of, Stands, id_at, Looked};
+ghost use Rattle.leads.specs.Links.{Drawn, values_of, Stands, id_at};
 
 use crate::id::is_id;
+use crate::link::value_place;
 use names::aid;
-use places::marks::seek_near;
-use script::cursor::{Cursor, Step};
-use tree::read::attribute_of;
-use tree::word;
-use tree::word::entry_word;
-use walk::value::{NextReading, next_reading, part_at};
+use places::marks::Marks;
+use places::seek::behind_value;
+use script::cursor::Cursor;
+use walk::value::{next_reading, part_at};
 
 // Do filters lead to an id? And a place in the script from which to look for the next link.
 #[derive(Clone, Copy)]
@@ -24,52 +23,14 @@ pub struct Filtered {
     pub hint: Cursor,
 }
 
-// What one reading of a value tells of its filter links: one leads to an id, more readings follow, or there are none.
-#[derive(Clone, Copy)]
-pub enum Look {
-    Back,
-    On(Cursor),
-    Out,
-}
-
-// The next reading of a value that begins at start: is it a filter link with the id in the entry whose number plus 1 is j?
-fn look_at(
-    script: &[u8],
-    characters: &[u8],
-    attributes: &[u32],
-    c: Cursor,
-    start: usize,
-    j: u32,
-) -> Look
-    requires fit { Fit script.now c }
-    requires start_le_most_place { start ≤ most_place }
-    requires stands { Stands (length characters.now) (entries_of attributes.now) j }
-    ensures { Looked script.now characters.now
-        (id_at characters.now (entries_of attributes.now) j) start c result }
-{
-    match next_reading(script, characters, c, start) {
-        NextReading::At(k, o, len, n) => {
-            let is_other = k != 4;
-            if is_other {
-                return Look::On(n);
-            }
-            if is_id(attributes, characters, j, part_at(characters, o, len)) {
-                return Look::Back;
-            }
-            Look::On(n)
-        }
-        NextReading::End => Look::Out,
-    }
-}
-
-// Has a value that begins at start, from behind it, a filter link with the id in the entry whose number plus 1 is j?
+// Has a value that begins at start, from behind it, a filter link with the id in entry j?
 fn any_id(
     script: &[u8],
     characters: &[u8],
     attributes: &[u32],
     from: Cursor,
     start: usize,
-    j: u32,
+    j: Option<u32>,
 ) -> bool
     requires fit { Fit script.now from }
     requires start_le_most_place { start ≤ most_place }
@@ -78,51 +39,51 @@ fn any_id(
         (readings_in script.now characters.now start from) }
 {
     let mut c = from;
-    loop {
-        match look_at(script, characters, attributes, c, start, j) {
-            Look::Back => {
-                return true;
-            }
-            Look::On(next) => {
-                c = next;
-            }
-            Look::Out => {
-                return false;
-            }
+    while let Some(x) = next_reading(script, characters, c, start) {
+        let is_filter = x.kind == 4;
+        if is_filter
+            && is_id(
+                attributes,
+                characters,
+                j,
+                part_at(characters, x.part.start, x.part.len),
+            )
+        {
+            return true;
         }
+        c = x.behind;
     }
+    false
 }
 
 // The same of the value whose command stands at the cursor.
-fn any_id_at(script: &[u8], characters: &[u8], attributes: &[u32], c: Cursor, j: u32) -> bool
+fn any_id_at(
+    script: &[u8],
+    characters: &[u8],
+    attributes: &[u32],
+    c: Cursor,
+    j: Option<u32>,
+) -> bool
     requires fit { Fit script.now c }
     requires stands { Stands (length characters.now) (entries_of attributes.now) j }
     ensures { result ≡ any_reading 4 (id_at characters.now (entries_of attributes.now) j)
         (readings_here script.now characters.now c) }
 {
-    let start = c.chars;
-    match c.next(script, characters) {
-        Step::Attribute(_, _, _, n) => any_id(script, characters, attributes, n, start, j),
-        Step::Declaration(_, _, _, n) => any_id(script, characters, attributes, n, start, j),
-        Step::Open(_, _, _) => false,
-        Step::Reading(_, _, _, _) => false,
-        Step::Text(_, _) => false,
-        Step::Other(_) => false,
-        Step::Close(_) => false,
-        Step::Broken(_) => false,
-        Step::End => false,
+    match behind_value(script, characters, c) {
+        Some(behind) => any_id(script, characters, attributes, behind, c.chars, j),
+        None => false,
     }
 }
 
-// Does one of the filters of node m lead to the id in the entry whose number plus 1 is j? Every filter link is compared.
+// Does one of the filters of node m lead to the id in entry j? Every filter link is compared.
 pub fn has_filter(
     script: &[u8],
     characters: &[u8],
-    marks: &[usize; 1025],
+    marks: &Marks,
     nodes: &[u32],
     attributes: &[u32],
     m: u32,
-    j: u32,
+    j: Option<u32>,
     hint: Cursor,
 ) -> Filtered
     requires drawn { Drawn script.now characters.now marks.now hint }
@@ -133,16 +94,18 @@ pub fn has_filter(
         (read_of nodes.now attributes.now) AId.Filter m) }
     ensures fit { Fit script.now result.hint }
 {
-    let e = attribute_of(nodes, attributes, characters, m, aid::FILTER);
-    if e == 0 {
+    let Some(c) = value_place(
+        script,
+        characters,
+        marks,
+        nodes,
+        attributes,
+        m,
+        aid::FILTER,
+        hint,
+    ) else {
         return Filtered { back: false, hint };
-    }
-    let command = entry_word(attributes, e - 1, word::COMMAND);
-    if command == 0 {
-        return Filtered { back: false, hint };
-    }
-    let number = (command - 1) as usize;
-    let c = seek_near(script, characters, marks, number, hint);
+    };
     let back = any_id_at(script, characters, attributes, c, j);
     Filtered { back, hint: c }
 }

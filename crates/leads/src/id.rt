@@ -6,14 +6,14 @@ ghost use Rattle.leads.specs.Links.{Stands, id_at};
 
 use tree::read::has_value;
 
-// Is it the id in the entry whose number plus 1 is j? Where there is none, the id is empty.
-pub fn is_id(attributes: &[u32], characters: &[u8], j: u32, value: &[u8]) -> bool
+// Is it the id in entry j? Where there is none, the id is empty.
+pub fn is_id(attributes: &[u32], characters: &[u8], j: Option<u32>, value: &[u8]) -> bool
     requires { Stands (length characters.now) (entries_of attributes.now) j }
     ensures { result
         ≡ same_bytes value.now (id_at characters.now (entries_of attributes.now) j) }
 {
-    if j == 0 {
-        return value.len() == 0;
+    match j {
+        Some(j) => has_value(attributes, characters, j, value),
+        None => value.len() == 0,
     }
-    has_value(attributes, characters, j - 1, value)
 }

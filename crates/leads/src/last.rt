@@ -1,9 +1,9 @@
 // The last element with the id of an element: the one to which links with that id lead.
-ghost use Rattle.std.specs.Prelude.{◌≡◌, ℕ, ◌+◌, ◌<◌, ◌≤◌, eqb, length};
+ghost use Rattle.std.specs.Prelude.{◌≡◌, ℕ, ◌+◌, ◌<◌, IfSome, length};
 ghost use Rattle.model.specs.Base.{same_bytes};
 ghost use Rattle.model.specs.Tables.{entry_at, value_of, has_id_bytes, last_with_id};
 ghost use Rattle.model.specs.Repair.{element_id};
-ghost use Rattle.tree.specs.Lent.{read_of, entries_of};
+ghost use Rattle.tree.specs.Lent.{plus_one, read_of, entries_of};
 ghost use Rattle.ids.specs.Chains.{Indexed};
 ghost use Rattle.leads.specs.Links.{Known, KnownIn};
 
@@ -46,33 +46,36 @@ fn has_same_id(nodes: &[u32], attributes: &[u32], characters: &[u8], m: u32, j: 
     ensures { result ≡ has_id_bytes characters.now (read_of nodes.now attributes.now)
         (value_of characters.now (entry_at (entries_of attributes.now) j)) m }
 {
-    let k = attribute_id(nodes, attributes, m, aid::ID);
-    if k == 0 {
-        return false;
+    match attribute_id(nodes, attributes, m, aid::ID) {
+        Some(k) => same_value(attributes, characters, k, j),
+        None => false,
     }
-    same_value(attributes, characters, k - 1, j)
 }
 
-// The last of the first `count` nodes whose id is the value of entry j, as its index plus 1; 0 for none. Each is compared.
-fn last_same(nodes: &[u32], attributes: &[u32], characters: &[u8], count: u32, j: u32) -> u32
+// The last of the first `count` nodes whose id is the value of entry j. Each is compared.
+fn last_same(
+    nodes: &[u32],
+    attributes: &[u32],
+    characters: &[u8],
+    count: u32,
+    j: u32,
+) -> Option<u32>
     requires by_index { (k : ℕ) → k < count → KnownIn (length characters.now) (read_of nodes.now attributes.now) k }
     requires known { Known (length characters.now) (entries_of attributes.now) j }
-    ensures same { result ≡ last_with_id characters.now (read_of nodes.now attributes.now)
+    ensures same { plus_one result ≡ last_with_id characters.now (read_of nodes.now attributes.now)
         (value_of characters.now (entry_at (entries_of attributes.now) j)) count }
-    ensures low { result ≤ count }
+    ensures low { IfSome result (λ k. k < count) }
 {
-    let mut n = count;
-    while n > 0 {
-        if has_same_id(nodes, attributes, characters, n - 1, j) {
-            return n;
+    for n in (0..count).rev() {
+        if has_same_id(nodes, attributes, characters, n, j) {
+            return Some(n);
         }
-        n -= 1;
     }
-    0
+    None
 }
 
-// The last of the first `count` nodes with the id of element i, as its index plus 1; 0 for none. An element without an id asks for the
-// empty one. By the chains of ids; an id that is a fixed value stands in none.
+// The last of the first `count` nodes with the id of element i. An element without an id asks for the empty one. By the chains of ids; an
+// id that is a fixed value stands in none.
 pub fn last_of(
     nodes: &[u32],
     attributes: &[u32],
@@ -80,24 +83,23 @@ pub fn last_of(
     heads: &[u32; 2049],
     count: u32,
     i: u32,
-) -> u32
+) -> Option<u32>
     requires by_index { (k : ℕ) → k < count → KnownIn (length characters.now) (read_of nodes.now attributes.now) k }
     requires indexed { Indexed characters.now (read_of nodes.now attributes.now) heads.now count }
     requires i_lt_count { i < count }
-    ensures same { result ≡ last_with_id characters.now (read_of nodes.now attributes.now)
+    ensures same { plus_one result ≡ last_with_id characters.now (read_of nodes.now attributes.now)
         (element_id characters.now (read_of nodes.now attributes.now) i) count }
-    ensures low { result ≤ count }
+    ensures low { IfSome result (λ k. k < count) }
 {
-    let j = attribute_id(nodes, attributes, i, aid::ID);
-    if j == 0 {
+    let Some(j) = attribute_id(nodes, attributes, i, aid::ID) else {
         let none = part_at(characters, 0, 0);
         return find_id(nodes, attributes, characters, heads, none, count);
+    };
+    if entry_word(attributes, j, word::COMMAND) == 0 {
+        return last_same(nodes, attributes, characters, count, j);
     }
-    if entry_word(attributes, j - 1, word::COMMAND) == 0 {
-        return last_same(nodes, attributes, characters, count, j - 1);
-    }
-    let start = entry_word(attributes, j - 1, word::START);
-    let size = entry_word(attributes, j - 1, word::SIZE);
+    let start = entry_word(attributes, j, word::START);
+    let size = entry_word(attributes, j, word::SIZE);
     let id = part_at(characters, start as usize, size);
     find_id(nodes, attributes, characters, heads, id, count)
 }

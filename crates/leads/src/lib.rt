@@ -1,4 +1,4 @@
-// Where the links of nodes lead (document 01, section 5): their ids are compared with those of elements.
+// Where the links of nodes lead: their ids are compared with those of elements.
 #![tactic(auto)]
 
 pub mod filter;

@@ -1,30 +1,58 @@
 // The links of nodes: the id that an attribute's value leads to.
-ghost use Rattle.std.specs.Prelude.{◌≡◌, length};
-ghost use Rattle.model.specs.Repair.{link_of};
+ghost use Rattle.std.specs.Prelude.{◌≡◌, [], IfSome, IfNone, length};
+ghost use Rattle.model.specs.Repair.{readings_of_attribute, link_of};
+ghost use Rattle.script.specs.Step.{Fit};
+ghost use Rattle.walk.specs.Values.{part_of, PartFit};
+ghost use Rattle.places.specs.Seeks.{readings_here};
 ghost use Rattle.tree.specs.Lent.{read_of, ReadableIn};
-ghost use Rattle.leads.specs.Links.{Drawn, values_of, link_in, LinkFit};
+ghost use Rattle.leads.specs.Links.{Drawn, values_of};
 
-use places::marks::seek_near;
+use places::marks::{Marks, seek_near};
 use places::seek::reading_at;
 use script::cursor::Cursor;
 use tree::read::attribute_of;
 use tree::word;
 use tree::word::entry_word;
-use walk::value::FoundPart;
+use walk::value::Part;
 
-// A link that is looked for: where its id stands in the characters, start and length. Either way a place in the script from which to
-// look for the next link.
+// A link that is looked for: where its id stands in the characters. Either way a place in the script from which to look for the next link.
 #[derive(Clone, Copy)]
-pub enum FoundLink {
-    At(usize, u32, Cursor),
-    Nothing(Cursor),
+pub struct FoundLink {
+    pub part: Option<Part>,
+    pub hint: Cursor,
+}
+
+// The place of the command that has the value of attribute a of node i; none where the attribute is absent or has a fixed value. The hint
+// only saves time.
+pub fn value_place(
+    script: &[u8],
+    characters: &[u8],
+    marks: &Marks,
+    nodes: &[u32],
+    attributes: &[u32],
+    i: u32,
+    a: u32,
+    hint: Cursor,
+) -> Option<Cursor>
+    requires drawn { Drawn script.now characters.now marks.now hint }
+    requires readable_in { ReadableIn (length characters.now) (read_of nodes.now attributes.now) i }
+    ensures some { IfSome result (λ c. readings_here script.now characters.now c
+        ≡ readings_of_attribute characters.now (values_of script.now characters.now) (read_of nodes.now attributes.now) a i) }
+    ensures none { IfNone result
+        (readings_of_attribute characters.now (values_of script.now characters.now) (read_of nodes.now attributes.now) a i ≡ []) }
+    ensures fit { IfSome result (Fit script.now) }
+{
+    let j = attribute_of(nodes, attributes, characters, i, a)?;
+    let number = entry_word(attributes, j, word::COMMAND).checked_sub(1)?;
+    let c = seek_near(script, characters, marks, number as usize, hint);
+    Some(c)
 }
 
 // The link of node i by its attribute a: the first reading of that kind, asked for by the command of its entry. The hint only saves time.
 pub fn link_of(
     script: &[u8],
     characters: &[u8],
-    marks: &[usize; 1025],
+    marks: &Marks,
     nodes: &[u32],
     attributes: &[u32],
     i: u32,
@@ -34,23 +62,15 @@ pub fn link_of(
 ) -> FoundLink
     requires drawn { Drawn script.now characters.now marks.now hint }
     requires readable_in { ReadableIn (length characters.now) (read_of nodes.now attributes.now) i }
-    ensures same { link_in characters.now result
+    ensures same { part_of characters.now result.part
         ≡ link_of characters.now (values_of script.now characters.now) kind
         (read_of nodes.now attributes.now) a i }
-    ensures fit { LinkFit script.now result }
+    ensures part { PartFit result.part }
+    ensures fit { Fit script.now result.hint }
 {
-    let j = attribute_of(nodes, attributes, characters, i, a);
-    if j == 0 {
-        return FoundLink::Nothing(hint);
-    }
-    let command = entry_word(attributes, j - 1, word::COMMAND);
-    if command == 0 {
-        return FoundLink::Nothing(hint);
-    }
-    let number = (command - 1) as usize;
-    let c = seek_near(script, characters, marks, number, hint);
-    match reading_at(script, characters, c, kind) {
-        FoundPart::At(start, len) => FoundLink::At(start, len, c),
-        FoundPart::Nothing => FoundLink::Nothing(c),
-    }
+    let Some(c) = value_place(script, characters, marks, nodes, attributes, i, a, hint) else {
+        return FoundLink { part: None, hint };
+    };
+    let part = reading_at(script, characters, c, kind);
+    FoundLink { part, hint: c }
 }

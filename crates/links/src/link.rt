@@ -12,53 +12,44 @@ ghost use Rattle.memo.specs.Plain.{node_of, NodeFit};
 ghost use Rattle.memo.specs.Table.{Memo};
 ghost use Rattle.links.specs.Links.{texts_of, same_parts, leading_id};
 
-use super::uses::{NextUse, next_use};
-use memo::plain::{FoundElement, first_id};
+use super::uses::next_use;
+use memo::plain::first_id;
 use memo::table::find;
 use names::{aid, same};
 use script::cursor::Cursor;
 use walk::node::{Opened, has_tag_name};
-use walk::value::{FoundPart, FoundValue, attribute_in, part_at, reading_of};
+use walk::value::{Part, ValueAt, attribute_in, part_at, reading_of};
 
 // The codes of the names that links ask for.
 const HREF: u8 = aid::HREF as u8;
 
 // The IRI that the host has read in a value.
-fn iri_of(script: &[u8], characters: &[u8], value: FoundValue) -> FoundPart
+fn iri_of(script: &[u8], characters: &[u8], value: Result<ValueAt, Cursor>) -> Option<Part>
     requires { Readable script.now value }
     ensures same { part_of characters.now result
         ≡ iri_of (value_in script.now characters.now value) }
     ensures fit { PartFit result }
 {
-    match value {
-        FoundValue::At(v) => {
-            let start = v.own.chars;
-            reading_of(script, characters, v.behind, start, 1)
-        }
-        FoundValue::Nothing(_) => FoundPart::Nothing,
-    }
+    let v = value.ok()?;
+    reading_of(script, characters, v.behind, v.own.chars, 1)
 }
 
 // The IRI of the first href in one namespace; where there is none, of the first in the other.
-fn href_of(script: &[u8], characters: &[u8], inside: Cursor, first: u8, second: u8) -> FoundPart
+fn href_of(script: &[u8], characters: &[u8], inside: Cursor, first: u8, second: u8) -> Option<Part>
     requires { Fit script.now inside }
     ensures same { part_of characters.now result
         ≡ iri_of (or_else (attribute_in first AId.Href (attributes_in script.now characters.now inside))
         (attribute_in second AId.Href (attributes_in script.now characters.now inside))) }
     ensures fit { PartFit result }
 {
-    let value = attribute_in(script, characters, inside, first, HREF);
-    match value {
-        FoundValue::At(_) => iri_of(script, characters, value),
-        FoundValue::Nothing(_) => {
-            let other = attribute_in(script, characters, inside, second, HREF);
-            iri_of(script, characters, other)
-        }
-    }
+    let value = attribute_in(script, characters, inside, first, HREF).or_else(|_| attribute_in(
+        script, characters, inside, second, HREF,
+    ));
+    iri_of(script, characters, value)
 }
 
 // The link of a use.
-pub fn use_href(script: &[u8], characters: &[u8], e: Opened) -> FoundPart
+pub fn use_href(script: &[u8], characters: &[u8], e: Opened) -> Option<Part>
     requires { Standing script.now e }
     ensures same { part_of characters.now result
         ≡ use_href (element_of script.now characters.now e) }
@@ -68,7 +59,7 @@ pub fn use_href(script: &[u8], characters: &[u8], e: Opened) -> FoundPart
 }
 
 // The link of a tref.
-pub fn tref_href(script: &[u8], characters: &[u8], e: Opened) -> FoundPart
+pub fn tref_href(script: &[u8], characters: &[u8], e: Opened) -> Option<Part>
     requires { Standing script.now e }
     ensures same { part_of characters.now result
         ≡ tref_href (element_of script.now characters.now e) }
@@ -78,7 +69,7 @@ pub fn tref_href(script: &[u8], characters: &[u8], e: Opened) -> FoundPart
 }
 
 // The element that a link leads to: the first with that id.
-pub fn linked(script: &[u8], characters: &[u8], slots: &[u16], link: FoundPart) -> FoundElement
+pub fn linked(script: &[u8], characters: &[u8], slots: &[u16], link: Option<Part>) -> Option<Opened>
     requires script_len_bound { length script.now ≤ most_bytes }
     requires part_fit { PartFit link }
     requires memo { Memo script.now characters.now slots.now }
@@ -86,38 +77,33 @@ pub fn linked(script: &[u8], characters: &[u8], slots: &[u16], link: FoundPart) 
         ≡ linked_by (events script.now characters.now) (part_of characters.now link) }
     ensures fit { NodeFit script.now result }
 {
-    match link {
-        FoundPart::At(start, len) => find(
-            script,
-            characters,
-            slots,
-            part_at(characters, start, len),
-        ),
-        FoundPart::Nothing => FoundElement::Nothing,
-    }
+    let p = link?;
+    find(
+        script,
+        characters,
+        slots,
+        part_at(characters, p.start, p.len),
+    )
 }
 
 // Are both parts there, with the same bytes?
-fn same_parts(characters: &[u8], a: FoundPart, b: FoundPart) -> bool
+fn same_parts(characters: &[u8], a: Option<Part>, b: Option<Part>) -> bool
     requires part_fit { PartFit a }
     requires part_fit_2 { PartFit b }
     ensures { result ≡ same_parts (part_of characters.now a) (part_of characters.now b) }
 {
-    match a {
-        FoundPart::At(start, len) => match b {
-            FoundPart::At(other, size) => {
-                let p = part_at(characters, start, len);
-                let q = part_at(characters, other, size);
-                same(p, q)
-            }
-            FoundPart::Nothing => false,
-        },
-        FoundPart::Nothing => false,
+    match (a, b) {
+        (Some(p), Some(q)) => {
+            let first = part_at(characters, p.start, p.len);
+            let second = part_at(characters, q.start, q.len);
+            same(first, second)
+        }
+        _ => false,
     }
 }
 
 // The id by which links lead to an element: its first unprefixed one, if it is the first element with it.
-pub fn leading_id(script: &[u8], characters: &[u8], slots: &[u16], e: Opened) -> FoundPart
+pub fn leading_id(script: &[u8], characters: &[u8], slots: &[u16], e: Opened) -> Option<Part>
     requires standing { Standing script.now e }
     requires memo { Memo script.now characters.now slots.now }
     ensures same { part_of characters.now result
@@ -125,22 +111,21 @@ pub fn leading_id(script: &[u8], characters: &[u8], slots: &[u16], e: Opened) ->
         (element_of script.now characters.now e) }
     ensures fit { PartFit result }
 {
-    match first_id(script, characters, e) {
-        FoundValue::At(v) => {
-            let start = v.own.chars;
-            let len = v.len;
-            match find(script, characters, slots, part_at(characters, start, len)) {
-                FoundElement::At(f) => {
-                    if f.own.number == e.own.number {
-                        return FoundPart::At(start, len);
-                    }
-                    FoundPart::Nothing
-                }
-                FoundElement::Nothing => FoundPart::Nothing,
-            }
-        }
-        FoundValue::Nothing(_) => FoundPart::Nothing,
+    let v = first_id(script, characters, e).ok()?;
+    let part = Part {
+        start: v.own.chars,
+        len: v.len,
+    };
+    let f = find(
+        script,
+        characters,
+        slots,
+        part_at(characters, part.start, part.len),
+    )?;
+    if f.own.number == e.own.number {
+        return Some(part);
     }
+    None
 }
 
 // Does a use inside the element l, to which the link of the use e leads, lead to e or to l? Links are compared with the ids of these two.
@@ -150,7 +135,7 @@ fn leads_back_by(
     slots: &[u16],
     e: Opened,
     l: Opened,
-    link: FoundPart,
+    link: Option<Part>,
 ) -> bool
     requires standing { Standing script.now e }
     requires standing_2 { Standing script.now l }
@@ -166,24 +151,15 @@ fn leads_back_by(
     let id = leading_id(script, characters, slots, e);
     let mut c = l.inside;
     let mut level: usize = 0;
-    loop {
-        match next_use(script, characters, c, level) {
-            NextUse::At(u, open_elements) => {
-                let href = use_href(script, characters, u);
-                if same_parts(characters, href, id) {
-                    return true;
-                }
-                if same_parts(characters, href, link) {
-                    return true;
-                }
-                level = open_elements;
-                c = u.inside;
-            }
-            NextUse::End => {
-                return false;
-            }
+    while let Some(u) = next_use(script, characters, c, level) {
+        let href = use_href(script, characters, u.element);
+        if same_parts(characters, href, id) || same_parts(characters, href, link) {
+            return true;
         }
+        level = u.open_elements;
+        c = u.element.inside;
     }
+    false
 }
 
 // The same, where there may be no use inside l: then nothing is looked for.
@@ -193,7 +169,7 @@ pub fn leads_back(
     slots: &[u16],
     e: Opened,
     l: Opened,
-    link: FoundPart,
+    link: Option<Part>,
 ) -> bool
     requires standing { Standing script.now e }
     requires standing_2 { Standing script.now l }
@@ -206,10 +182,8 @@ pub fn leads_back(
         (element_of script.now characters.now l).number
         (uses_in 0 (events_at script.now characters.now l.inside)) }
 {
-    match next_use(script, characters, l.inside, 0) {
-        NextUse::At(_, _) => leads_back_by(script, characters, slots, e, l, link),
-        NextUse::End => false,
-    }
+    next_use(script, characters, l.inside, 0).is_some()
+        && leads_back_by(script, characters, slots, e, l, link)
 }
 
 // The element that a use, met with that origin, copies; nothing where it copies none.
@@ -219,7 +193,7 @@ pub fn use_target(
     slots: &[u16],
     e: Opened,
     origin: usize,
-) -> FoundElement
+) -> Option<Opened>
     requires standing { Standing script.now e }
     requires memo { Memo script.now characters.now slots.now }
     ensures same { node_of script.now characters.now result
@@ -228,44 +202,35 @@ pub fn use_target(
     ensures fit { NodeFit script.now result }
 {
     let link = use_href(script, characters, e);
-    let node = linked(script, characters, slots, link);
-    match node {
-        FoundElement::At(l) => {
-            if !has_tag_name(l.name, l.space) {
-                return FoundElement::Nothing;
-            }
-            let number = l.own.number + 1;
-            if number == e.own.number + 1 {
-                return FoundElement::Nothing;
-            }
-            let is_origin = number == origin;
-            if is_origin {
-                return FoundElement::Nothing;
-            }
-            if leads_back(script, characters, slots, e, l, link) {
-                return FoundElement::Nothing;
-            }
-            FoundElement::At(l)
-        }
-        FoundElement::Nothing => FoundElement::Nothing,
+    let l = linked(script, characters, slots, link)?;
+    if !has_tag_name(l.name, l.space) {
+        return None;
     }
+    let number = l.own.number + 1;
+    if number == e.own.number + 1 {
+        return None;
+    }
+    let is_origin = number == origin;
+    if is_origin {
+        return None;
+    }
+    if leads_back(script, characters, slots, e, l, link) {
+        return None;
+    }
+    Some(l)
 }
 
 // The element whose texts a tref quotes; nothing where it quotes none.
-pub fn quoted(script: &[u8], characters: &[u8], slots: &[u16], e: Opened) -> FoundElement
+pub fn quoted(script: &[u8], characters: &[u8], slots: &[u16], e: Opened) -> Option<Opened>
     requires standing { Standing script.now e }
     requires memo { Memo script.now characters.now slots.now }
     ensures same { texts_of script.now characters.now result
         ≡ quoted (events script.now characters.now) (element_of script.now characters.now e) }
     ensures fit { NodeFit script.now result }
 {
-    match linked(script, characters, slots, tref_href(script, characters, e)) {
-        FoundElement::At(l) => {
-            if has_tag_name(l.name, l.space) {
-                return FoundElement::At(l);
-            }
-            FoundElement::Nothing
-        }
-        FoundElement::Nothing => FoundElement::Nothing,
+    let l = linked(script, characters, slots, tref_href(script, characters, e))?;
+    if has_tag_name(l.name, l.space) {
+        return Some(l);
     }
+    None
 }

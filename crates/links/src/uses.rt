@@ -11,11 +11,11 @@ use names::eid;
 use script::cursor::Cursor;
 use walk::node::{Item, Opened, next_item, past_others};
 
-// The next use in the SVG namespace inside an element, at any depth, and how many elements are open inside it, itself among them.
+// A use in the SVG namespace inside an element, at any depth, and how many elements are open inside it, itself among them.
 #[derive(Clone, Copy)]
-pub enum NextUse {
-    At(Opened, usize),
-    End,
+pub struct InnerUse {
+    pub element: Opened,
+    pub open_elements: usize,
 }
 
 // The code of the element use.
@@ -25,14 +25,16 @@ const USE: u8 = eid::USE as u8;
 fn is_use(name: u8, space: u8) -> bool
     ensures { result ≡ and (eqb name EId.Use) (eqb space 1) }
 {
-    if name != USE {
-        return false;
-    }
-    space == 1
+    name == USE && space == 1
 }
 
 // The next use from the cursor on, with that many elements open inside the element that is walked.
-pub fn next_use(script: &[u8], characters: &[u8], from: Cursor, open_elements: usize) -> NextUse
+pub fn next_use(
+    script: &[u8],
+    characters: &[u8],
+    from: Cursor,
+    open_elements: usize,
+) -> Option<InnerUse>
     requires fit_2 { Fit script.now from }
     requires open_elements_le_at { open_elements ≤ from.at }
     ensures same { uses_of script.now characters.now result
@@ -46,26 +48,23 @@ pub fn next_use(script: &[u8], characters: &[u8], from: Cursor, open_elements: u
             Item::Begin(e) => {
                 level += 1;
                 if is_use(e.name, e.space) {
-                    return NextUse::At(e, level);
+                    return Some(InnerUse {
+                        element: e,
+                        open_elements: level,
+                    });
                 }
                 c = e.inside;
             }
-            Item::Text(_, _, n) => {
-                c = n;
-            }
-            Item::Other(n) => {
-                c = past_others(script, characters, n);
-            }
+            Item::Text(_, _, n) => c = n,
+            Item::Other(n) => c = past_others(script, characters, n),
             Item::Close(n) => {
                 if level == 0 {
-                    return NextUse::End;
+                    return None;
                 }
                 level -= 1;
                 c = n;
             }
-            Item::End => {
-                return NextUse::End;
-            }
+            Item::End => return None,
         }
     }
 }

@@ -2,7 +2,8 @@
 use mathlib.Core.Path.{◌≡◌, refl, sym, ap, ◌∙◌, subst}
 use mathlib.Core.List.{List, [], ◌∷◌}
 use mathlib.Core.Bool.{Bool, true, false, false≢true}
-use Prim.Native.Nat.{ℕ, zero, suc, ◌+◌, ◌-◌, ◌*◌, ◌<◌, ◌≤◌}
+use Prim.Native.Nat.{ℕ, ◌+◌, ◌*◌, ◌<◌, ◌≤◌}
+use Rattle.std.specs.Prelude.{Option, Some, None, Result, Ok, Err}
 use native.Mathlib.Omega.{arith}
 use lib.ListN.{length}
 use lib.Seq.{slice}
@@ -11,9 +12,7 @@ use Rattle.model.specs.Drawing.{Event, has_id}
 use Rattle.script.specs.declared.cursor.Cursor.{Cursor}
 use Rattle.walk.specs.declared.node.Opened.{Opened}
 use Rattle.walk.specs.declared.value.ValueAt.{ValueAt}
-use Rattle.walk.specs.declared.value.FoundPart.{FoundPart}
-use Rattle.walk.specs.declared.value.FoundValue.{FoundValue}
-use Rattle.walk.specs.declared.value.FoundValue.TheVariants as found
+use Rattle.walk.specs.declared.value.Part.{Part}
 use Rattle.walk.specs.Values.{events_at, SameNodes, PartFit}
 use Rattle.walk.specs.Nodes.{element_of, node_at}
 use Rattle.memo.specs.Words.{unit, spacing, mark_in, slot_in, mark_of, print_in, print_of, probes, start_of, step_of, next_slot}
@@ -68,7 +67,7 @@ module _ (s chars slots : List ℕ) (next m : ℕ) (e : Opened) (r : Ready s cha
   )
 
   -- A slot is taken.
-  module _ (i : ℕ) (o : is_open slots (key_of id) ≡ true) (q : free_for slots (key_of id) ≡ i + 1) where
+  module _ (i : ℕ) (o : is_open slots (key_of id) ≡ true) (q : free_for slots (key_of id) ≡ Some i) where
     v : ℕ
     v = m + 2048 * print_of (key_of id) + 1
 
@@ -127,22 +126,22 @@ module _ (s chars slots : List ℕ) (next m : ℕ) (e : Opened) (r : Ready s cha
   pub id-entered : Kept slots slots' × Known s chars slots' next (events_at s chars e.inside)
   id-entered = go (is_open slots (key_of id)) refl (free_for slots (key_of id)) refl
     where
-      go : (b : Bool) → is_open slots (key_of id) ≡ b → (n : ℕ) → free_for slots (key_of id) ≡ n
+      go : (b : Bool) → is_open slots (key_of id) ≡ b → (n : Option ℕ) → free_for slots (key_of id) ≡ n
           → Kept slots slots' × Known s chars slots' next (events_at s chars e.inside)
       go false o n q = stays (h.shut o) (λ f. subst IsFree (probed-shut s chars slots id o) f)
-      go true o zero q =
+      go true o None q =
           stays (h.full o q)
           (λ f. none_free (slot_in slots) (next_slot (unit slots) (step_of (unit slots) (key_of id))) (sees s chars slots id)
           (λ n k. seen-taken s chars slots id n k) probes (start_of (unit slots) (key_of id)) q
           (subst IsFree (probed-open s chars slots id o) f))
-      go true o (suc n) q = taken n o (q ∙ (let a : suc n ≡ n + 1 = omega arith in a))
+      go true o (Some n) q = taken n o q
 
 -- AN ELEMENT ENTERED
 
-module _ (s chars : List ℕ) (e : Opened) (r : FoundValue) (h : IdIs s chars e r) (slots : List ℕ) (next m : ℕ)
+module _ (s chars : List ℕ) (e : Opened) (r : Result ValueAt Cursor) (h : IdIs s chars e r) (slots : List ℕ) (next m : ℕ)
     (y : Ready s chars slots next m e) where
   -- One with an id.
-  module _ (v : ValueAt) (t : r ≡ found.At v) (p : List ℕ) (g : p ≡ slice v.own.chars (v.own.chars + v.len) chars)
+  module _ (v : ValueAt) (t : r ≡ Ok v) (p : List ℕ) (g : p ≡ slice v.own.chars (v.own.chars + v.len) chars)
       (few : m < 2047) (slots' : List ℕ) (i : IdEntered slots m p slots') where
     named : Named s chars e p
     named x = sym (compared s chars x e r h v t p g (same_bytes p x) refl)
@@ -159,7 +158,7 @@ module _ (s chars : List ℕ) (e : Opened) (r : FoundValue) (h : IdIs s chars e 
         }
 
   -- One without.
-  pub entered-none : (n : Cursor) → r ≡ found.Nothing n → Entered s chars slots next e slots n
+  pub entered-none : (n : Cursor) → r ≡ Err n → Entered s chars slots next e slots n
   entered-none n t =
       let a : SameNodes s chars e.inside n = (has-none s chars [] e r h n t).nodes in
       record {
@@ -180,25 +179,26 @@ module _ (slots : List ℕ) (m key : ℕ) (id : List ℕ) (k : key ≡ key_of id
       let f : is_open slots (key_of id) ≡ false = sym (ap (is_open slots) k) ∙ o in
       record { shut = λ a. refl; full = λ a b. refl; put = λ i a b. absurd (false≢true (sym f ∙ a)) }
 
-  module _ (o : is_open slots key ≡ true) (n : ℕ) (q : n ≡ free_for slots key) where
-    free-by : free_for slots (key_of id) ≡ n
-    free-by = sym (ap (free_for slots) k) ∙ sym q
+  module _ (o : is_open slots key ≡ true) where
+    free-by : (n : Option ℕ) → n ≡ free_for slots key → free_for slots (key_of id) ≡ n
+    free-by n q = sym (ap (free_for slots) k) ∙ sym q
 
-    pub id-full : n ≡ 0 → IdEntered slots m id slots
-    id-full z = record {
+    pub id-full : None ≡ free_for slots key → IdEntered slots m id slots
+    id-full q = record {
       shut = λ a. refl;
       full = λ a b. refl;
-      put = λ i a b. absurd (let c : 0 ≡ i + 1 = sym z ∙ sym free-by ∙ b in omega (arith, c));
+      put = λ i a b. let c : free_for slots (key_of id) ≡ None = free-by None q in absurd (cc);
     }
 
-    pub id-put : (n ≡ 0 → ⊥) → (slots' : List ℕ) → SlotPut slots (n - 1) (m + 2048 * print_of key + 1) slots' → IdEntered slots m id slots'
-    id-put z slots' p = record {
+    pub id-put : (n : ℕ) → Some n ≡ free_for slots key → (slots' : List ℕ) → SlotPut slots n (m + 2048 * print_of key + 1) slots'
+        → IdEntered slots m id slots'
+    id-put n q slots' p = record {
       shut = λ a. absurd (false≢true (sym a ∙ sym (ap (is_open slots) k) ∙ o));
-      full = λ a b. absurd (z (sym free-by ∙ b));
+      full = λ a b. let c : free_for slots (key_of id) ≡ Some n = free-by (Some n) q in absurd (cc);
       put = λ i a b. subst (λ j. SlotPut slots j (m + 2048 * print_of (key_of id) + 1) slots')
-          (let c : n ≡ i + 1 = sym free-by ∙ b in let d : n - 1 ≡ i = omega (arith, c) in d)
-          (subst (λ x. SlotPut slots (n - 1) (m + 2048 * print_of x + 1) slots') k p);
+          (let c : free_for slots (key_of id) ≡ Some n = free-by (Some n) q in let d : n ≡ i = cc in d)
+          (subst (λ x. SlotPut slots n (m + 2048 * print_of x + 1) slots') k p);
     }
 
-pub part-told : (r x : FoundPart) → r ≡ x → PartFit r → PartFit x
+pub part-told : (r x : Option Part) → r ≡ x → PartFit r → PartFit x
 part-told r x t h = subst PartFit t h

@@ -13,9 +13,9 @@ use Rattle.model.specs.Drawing.{Event, begin, events, events_from, element_at, a
 use Rattle.script.specs.declared.cursor.Cursor.{Cursor}
 use Rattle.script.specs.Step.{Fit, at_start, commands_at}
 use Rattle.script.proofs.Commands.{placed_first}
+use Rattle.std.specs.Prelude.{Result, Err}
 use Rattle.walk.specs.declared.node.Opened.{Opened}
-use Rattle.walk.specs.declared.value.FoundValue.{FoundValue}
-use Rattle.walk.specs.declared.value.FoundValue.TheVariants as found
+use Rattle.walk.specs.declared.value.ValueAt.{ValueAt}
 use Rattle.walk.specs.Values.{events_at, SameNodes}
 use Rattle.walk.specs.Nodes.{element_of, node_at, Standing}
 use Rattle.walk.proofs.Walks.{stepped}
@@ -87,8 +87,8 @@ module _ (s chars slots : List ℕ) (next left : ℕ) (e : Opened) (h : Filling 
 -- AN ELEMENT WITHOUT AN ID
 
 pub passed-bare : (s chars slots : List ℕ) (next left : ℕ) (e : Opened) → Filling s chars slots next left (node_at s chars e)
-    → (r : FoundValue)
-    → IdIs s chars e r → (n : Cursor) → r ≡ found.Nothing n → Filling s chars slots next (left - 1) (events_at s chars n)
+    → (r : Result ValueAt Cursor)
+    → IdIs s chars e r → (n : Cursor) → r ≡ Err n → Filling s chars slots next (left - 1) (events_at s chars n)
 passed-bare s chars slots next left e h r i n t = record {
   long = h.long;
   few = h.few;
@@ -377,7 +377,7 @@ pub filling-at : (s chars slots : List ℕ) (next left : ℕ) (xs ys : List Even
     → Filling s chars slots next left xs
 filling-at s chars slots next left xs ys e h = subst (Filling s chars slots next left) (sym e) h
 
-pub bare-nodes : (s chars : List ℕ) (e : Opened) (r : FoundValue) → IdIs s chars e r → (n : Cursor) → r ≡ found.Nothing n
+pub bare-nodes : (s chars : List ℕ) (e : Opened) (r : Result ValueAt Cursor) → IdIs s chars e r → (n : Cursor) → r ≡ Err n
     → SameNodes s chars e.inside n
 bare-nodes s chars e r i n t = (has-none s chars [] e r i n t).nodes
 

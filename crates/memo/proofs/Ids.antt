@@ -14,10 +14,7 @@ use Rattle.walk.specs.declared.node.Opened.{Opened}
 use Rattle.walk.specs.declared.node.Item.{Item}
 use Rattle.walk.specs.declared.node.Item.TheVariants as item
 use Rattle.walk.specs.declared.value.ValueAt.{ValueAt}
-use Rattle.walk.specs.declared.value.FoundValue.{FoundValue}
-use Rattle.walk.specs.declared.value.FoundValue.TheVariants as found
-use Rattle.memo.specs.declared.plain.Asked.{Asked}
-use Rattle.memo.specs.declared.plain.Asked.TheVariants.{Has, HasNot}
+use Rattle.std.specs.Prelude.{Result, Ok, Err}
 use Rattle.walk.specs.Values.{attributes_in, events_at, value_in, ValueFit, Attributed}
 use Rattle.walk.specs.Nodes.{element_of, node_at, Further}
 use Rattle.memo.specs.Plain.{Without, Tested}
@@ -27,36 +24,36 @@ use Rattle.walk.proofs.Along.{Along, at_item, over}
 -- AN ELEMENT'S ID
 
 -- What attribute_in ensures of the unprefixed id.
-abbrev pub IdIs : List ℕ → List ℕ → Opened → FoundValue → Type 0
+abbrev pub IdIs : List ℕ → List ℕ → Opened → Result ValueAt Cursor → Type 0
 IdIs s chars e r = (value_in s chars r ≡ attribute_in 0 AId.Id (attributes_in s chars e.inside)) × ValueFit s chars e.inside r
 
-id-told : (s chars : List ℕ) (e : Opened) (r x : FoundValue) → r ≡ x → IdIs s chars e r → IdIs s chars e x
+id-told : (s chars : List ℕ) (e : Opened) (r x : Result ValueAt Cursor) → r ≡ x → IdIs s chars e r → IdIs s chars e x
 id-told s chars e r x t h = subst (IdIs s chars e) t h
 
-module _ (s chars id : List ℕ) (e : Opened) (r : FoundValue) (h : IdIs s chars e r) where
-  module _ (v : ValueAt) (t : r ≡ found.At v) (p : List ℕ) (g : p ≡ slice v.own.chars (v.own.chars + v.len) chars) (q : Bool)
+module _ (s chars id : List ℕ) (e : Opened) (r : Result ValueAt Cursor) (h : IdIs s chars e r) where
+  module _ (v : ValueAt) (t : r ≡ Ok v) (p : List ℕ) (g : p ≡ slice v.own.chars (v.own.chars + v.len) chars) (q : Bool)
       (k : q ≡ same_bytes p id) where
     pub compared : q ≡ has_id id (element_of s chars e)
     unfolding has_id value_at model.part_at
     compared =
         k ∙ ap (λ b. same_bytes b id) g
-        ∙ ap (λ w. given w (λ y. same_bytes y.part.bytes id) (λ u. false)) (id-told s chars e r (found.At v) t h).0
+        ∙ ap (λ w. given w (λ y. same_bytes y.part.bytes id) (λ u. false)) (id-told s chars e r (Ok v) t h).0
 
-    pub has : q ≡ true → Tested s chars id e Has
+    pub has : q ≡ true → Tested s chars id e (Ok tt)
     has z = sym compared ∙ z
 
-    pub has-not : q ≡ false → Tested s chars id e (HasNot v.behind)
-    has-not z = record { has-not = sym compared ∙ z; nodes = (id-told s chars e r (found.At v) t h).1.rest.nodes }
+    pub has-not : q ≡ false → Tested s chars id e (Err v.behind)
+    has-not z = record { has-not = sym compared ∙ z; nodes = (id-told s chars e r (Ok v) t h).1.rest.nodes }
 
-  pub has-none : (n : Cursor) → r ≡ found.Nothing n → Tested s chars id e (HasNot n)
+  pub has-none : (n : Cursor) → r ≡ Err n → Tested s chars id e (Err n)
   unfolding has_id
   has-none n t = record {
     has-not = sym (ap (λ w. given w (λ (y : model.Value). same_bytes y.part.bytes id) (λ u. false))
-        (id-told s chars e r (found.Nothing n) t h).0);
-    nodes = (id-told s chars e r (found.Nothing n) t h).1.rest.nodes;
+        (id-told s chars e r (Err n) t h).0);
+    nodes = (id-told s chars e r (Err n) t h).1.rest.nodes;
   }
 
-pub value-fit : (s chars : List ℕ) (from : Cursor) (r : FoundValue) (v : ValueAt) → r ≡ found.At v → ValueFit s chars from r
+pub value-fit : (s chars : List ℕ) (from : Cursor) (r : Result ValueAt Cursor) (v : ValueAt) → r ≡ Ok v → ValueFit s chars from r
     → Attributed s chars from v
 value-fit s chars from r v t f = subst (ValueFit s chars from) t f
 
@@ -66,7 +63,7 @@ value-fit s chars from r v t f = subst (ValueFit s chars from) t f
 abbrev pub first_id : List ℕ → ℕ → List Event → List Event
 first_id id k xs = first_with_id id xs
 
-pub tested : (s chars id : List ℕ) (e : Opened) (r x : Asked) → r ≡ x → Tested s chars id e r → Tested s chars id e x
+pub tested : (s chars id : List ℕ) (e : Opened) (r x : Result (Unit {0}) Cursor) → r ≡ x → Tested s chars id e r → Tested s chars id e x
 tested s chars id e r x t h = subst (Tested s chars id e) t h
 
 module _ (id : List ℕ) (xs : List Event) where

@@ -15,7 +15,7 @@ use Rattle.walk.specs.declared.node.Opened.{Opened}
 use Rattle.walk.specs.Values.{events_at}
 use Rattle.walk.specs.Nodes.{element_of, node_at}
 use Rattle.script.specs.declared.cursor.Cursor.{Cursor}
-use Rattle.memo.specs.declared.plain.FoundElement.{FoundElement}
+use Rattle.std.specs.Prelude.{Option}
 use Rattle.memo.specs.declared.table.Look.{Look}
 use Rattle.memo.specs.declared.table.Probe.{Probe}
 use Rattle.memo.specs.Plain.{node_of, NodeFit}
@@ -305,7 +305,7 @@ module _ (s chars slots : List ℕ) (next : ℕ) (xs : List Event) (h : Known s 
 -- ONE LOOK, AND THE SEARCH
 
 -- What the code finds, told.
-pub found-told : (s chars : List ℕ) (v : List Event) (r x : FoundElement) → r ≡ x → (node_of s chars r ≡ v) × NodeFit s r
+pub found-told : (s chars : List ℕ) (v : List Event) (r x : Option Opened) → r ≡ x → (node_of s chars r ≡ v) × NodeFit s r
     → (node_of s chars x ≡ v) × NodeFit s x
 found-told s chars v r x t h = subst (λ y. (node_of s chars y ≡ v) × NodeFit s y) t h
 

@@ -6,3 +6,4 @@ pub mod Probing
 pub mod Knowing
 pub mod Entering
 pub mod Filling
+pub mod Passing

@@ -1,13 +1,14 @@
 -- The words of the table of ids. Assumes nothing.
 use mathlib.Core.Path.{◌≡◌, refl, sym, ap, ◌∙◌, subst}
 use mathlib.Core.List.{List, [], ◌∷◌}
-use mathlib.Core.Bool.{Bool, false, not}
+use mathlib.Core.Bool.{not}
+use Rattle.std.specs.Int.{bit_at}
 use Prim.Native.Nat.{ℕ, ◌+◌, ◌-◌, ◌*◌, ◌/◌, ◌%◌, ◌<◌, ◌≤◌}
-use native.Mathlib.Nat.{mod-lt, div-le_self}
+use native.Mathlib.Nat.{mod-lt}
 use native.Mathlib.Decide.{ℕ_discrete}
 use native.Mathlib.Numerals.{add-one}
 use native.Mathlib.Omega.{arith}
-use borrow.Author.Tests.{ne_eqb, eq-eqb, lt-ltb, le-ltb, lt-leb, le-leb}
+use borrow.Author.Tests.{lt-ltb, le-ltb}
 use lib.Dec.{eqb, leb}
 use lib.ListN.{length, get_or, set, drop, length-set, drop_of_length-le}
 use lib.Seq.{get_or-set_same, get_or-set_other, drop-cons}
@@ -28,7 +29,7 @@ use Rattle.memo.specs.Words.{
   is_wanted,
   is_open,
 }
-use Rattle.memo.specs.Words.{powers, bit_of, has_bit, next_slot, Apart, RoomFor, MarkPut, SlotPut}
+use Rattle.memo.specs.Words.{bit_of, next_slot, Apart, RoomFor, MarkPut}
 
 -- KEYS
 
@@ -118,12 +119,8 @@ module _ (s t : List ℕ) (k n : ℕ) (x : Apart s k n t) where
 
       wanted : is_wanted t key ≡ is_wanted s key
       wanted =
-          ap (λ b. has_bit_in (get_or t (b / 16) 0) b) same_bit
-          ∙ ap (λ w. has_bit_in w (bit_of s key)) (x.same (bit_of s key / 16) (λ c d. omega (arith, c, h, bit-low)))
-        where
-          has_bit_in : ℕ → ℕ → Bool
-          has_bit_in w b = pick (eqb (get_or powers (b % 16) 0) 0) (λ u. false)
-              (λ u. eqb (w / get_or powers (b % 16) 0 % 2) 1)
+          ap (λ b. eqb (bit_at (get_or t (b / 16) 0) (b % 16)) 1) same_bit
+          ∙ ap (λ w. eqb (bit_at w (bit_of s key % 16)) 1) (x.same (bit_of s key / 16) (λ c d. omega (arith, c, h, bit-low)))
 
 -- ONE FUNCTION EACH
 
@@ -205,23 +202,6 @@ module _ (s a b d e t : List ℕ) (m k upper : ℕ) (c : Cursor) (room : RoomFor
         ∙ rw (first, word 1 (omega arith), word 2 (omega arith), word 3 (omega arith), word 4 (omega arith)) whole;
   }
 
-pub slot-put : (s t : List ℕ) (i v k : ℕ) → k ≡ 4 * unit s + i → i < slot_count s → t ≡ set s k v → SlotPut s i v t
-slot-put s t i v k q h e = record {
-  apart = subst (λ j. Apart s j 1 t) q apart;
-  here = ap (λ j. get_or t j 0) (ap (λ u. 4 * u + i) (same-unit s t k 1 apart) ∙ sym q)
-      ∙ ap (λ x. get_or x k 0) e ∙ get_or-set_same s k v 0 (omega (arith, q, h, unit-low s));
-}
-  where
-    apart : Apart s k 1 t
-    apart = subst (Apart s k 1) (sym e) (apart-set s k v)
-
--- A store among the bits.
-pub want-apart : (s t : List ℕ) (k v : ℕ) → k < unit s → t ≡ set s k v → Apart s 0 (unit s) t
-want-apart s t k v h e = record {
-  long = ap length e ∙ length-set s k v;
-  same = λ p n. ap (λ x. get_or x p 0) e ∙ get_or-set_other s k p v 0 (λ q. n (omega arith) (omega (arith, q, h)));
-}
-
 module _ (slots : List ℕ) (step i u : ℕ) (e : u ≡ unit slots) where
   pub next-first : i + step < 12 * u → (i + step ≡ next_slot (unit slots) step i) × (i + step < slot_count slots)
   next-first h =
@@ -236,27 +216,3 @@ module _ (slots : List ℕ) (step i u : ℕ) (e : u ≡ unit slots) where
             ∙ sym (ap (λ t. pick t (λ u. i + step) (λ u. i + step - slot_count slots)) (le-ltb (i + step) (slot_count slots) l)),
         omega (arith, h, e, a, b),
       )
-
-module _ (slots : List ℕ) (key : ℕ) where
-  pub open-short : length slots < 16 → false ≡ is_open slots key
-  unfolding is_open
-  open-short h = rw (lt-leb 16 (length slots) h) refl
-
-  pub open_none : 16 ≤ length slots → spacing slots ≡ 0 → false ≡ is_open slots key
-  unfolding is_open
-  open_none h e = rw (le-leb 16 (length slots) h, eq-eqb (spacing slots) 0 e) refl
-
-  pub open-wanted : 16 ≤ length slots → (spacing slots ≡ 0 → ⊥) → is_wanted slots key ≡ is_open slots key
-  unfolding is_open
-  open-wanted h e = rw (le-leb 16 (length slots) h, ne_eqb (spacing slots) 0 e) refl
-
-  pub open-bit : (b w p : ℕ) (r : Bool) → b ≡ bit_of slots key → w ≡ get_or slots (b / 16) 0 → p ≡ get_or powers (b % 16) 0
-      → r ≡ has_bit w p
-      → 16 ≤ length slots → (spacing slots ≡ 0 → ⊥) → r ≡ is_open slots key
-  open-bit b w p r e f g t h n =
-      t ∙ ap (λ x. has_bit x p) f ∙ ap (λ x. has_bit (get_or slots (b / 16) 0) x) g
-      ∙ ap (λ x. has_bit (get_or slots (x / 16) 0) (get_or powers (x % 16) 0)) e ∙ open-wanted h n
-
--- A quotient is no greater than what is divided.
-pub over-low : (n d : ℕ) → n / d ≤ n
-over-low n d = div-le_self n d

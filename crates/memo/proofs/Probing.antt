@@ -2,10 +2,11 @@
 use mathlib.Core.Path.{◌≡◌, refl, sym, ap, ◌∙◌, subst}
 use mathlib.Core.List.{List}
 use mathlib.Core.Bool.{Bool, true, false}
-use Prim.Native.Nat.{ℕ, zero, suc, ◌+◌, ◌-◌, ◌<◌}
+use Prim.Native.Nat.{ℕ, zero, suc, ◌+◌, ◌-◌, ◌<◌, ◌≤◌}
 use native.Mathlib.Omega.{arith}
 use borrow.Author.Tests.{eqb-true, eqb-false}
 use lib.Dec.{eqb}
+use Rattle.std.specs.Prelude.{Option, Some, None}
 use Rattle.model.specs.Base.{pick}
 use Rattle.model.specs.Drawing.{Event}
 use Rattle.memo.specs.Table.{Seen, this, another, empty, Outcome, found, free, over, onward, probing, first_free, free_for}
@@ -13,21 +14,23 @@ use Rattle.memo.specs.Words.{unit, slot_in, probes, start_of, step_of, next_slot
 
 -- ONE TURN
 
-turn : (f : ℕ → Seen) (g : ℕ → ℕ) (i k : ℕ) → 0 < k → probing f g i k ≡ onward (f i) (λ u. probing f g (g i) (k - 1))
+turn : (f : ℕ → Seen) (g : ℕ → ℕ) (i k m : ℕ) → k ≡ m + 1 → probing f g i k ≡ onward (f i) (λ u. probing f g (g i) m)
 unfolding probing
-turn f g i zero h = absurd (omega (arith, h))
-turn f g i (suc k) h = ap (λ n. onward (f i) (λ u. probing f g (g i) n)) (let z : k ≡ suc k - 1 = omega arith in z)
+turn f g i k m e = ap (probing f g i) (let z : k ≡ suc m = omega (arith, e) in z)
 
-module _ (f : ℕ → Seen) (g : ℕ → ℕ) (i k : ℕ) (v : Outcome) (w : probing f g i k ≡ v) where
-  pub at-look : 0 < k → (l : Seen) → l ≡ f i → onward l (λ u. probing f g (g i) (k - 1)) ≡ v
-  at-look z l t = ap (λ x. onward x (λ u. probing f g (g i) (k - 1))) t ∙ sym (turn f g i k z) ∙ w
+-- The slot i is looked at, behind n slots of all that may be.
+module _ (f : ℕ → Seen) (g : ℕ → ℕ) (i n : ℕ) (v : Outcome) (w : probing f g i (probes - n) ≡ v) where
+  pub at-look : n < probes → (l : Seen) → l ≡ f i → onward l (λ u. probing f g (g i) (probes - (n + 1))) ≡ v
+  at-look z l t =
+      ap (λ x. onward x (λ u. probing f g (g i) (probes - (n + 1)))) t
+      ∙ sym (turn f g i (probes - n) (probes - (n + 1)) (omega (arith, z))) ∙ w
 
-  pub at-another : 0 < k → another ≡ f i → (j : ℕ) → j ≡ g i → probing f g j (k - 1) ≡ v
-  at-another z t j e = ap (λ n. probing f g n (k - 1)) e ∙ at-look z another t
+  pub at-another : n < probes → another ≡ f i → (j : ℕ) → j ≡ g i → probing f g j (probes - (n + 1)) ≡ v
+  at-another z t j e = ap (λ x. probing f g x (probes - (n + 1))) e ∙ at-look z another t
 
-  pub at-over : k ≡ 0 → over ≡ v
+  pub at-over : probes ≤ n → over ≡ v
   unfolding probing
-  at-over z = ap (probing f g i) (sym z) ∙ w
+  at-over z = ap (probing f g i) (let e : 0 ≡ probes - n = omega (arith, z) in e) ∙ w
 
 -- WHERE A SEARCH ENDS
 
@@ -96,53 +99,55 @@ probing-same f f' g h (suc k) i =
 -- FREE SLOTS
 
 module _ (v : ℕ → ℕ) (g : ℕ → ℕ) where
-  free-turn : (i k : ℕ) → 0 < k → first_free v g i k ≡ pick (eqb (v i) 0) (λ u. i + 1) (λ u. first_free v g (g i) (k - 1))
+  free-turn : (i k m : ℕ) → k ≡ m + 1 → first_free v g i k ≡ pick (eqb (v i) 0) (λ u. Some i) (λ u. first_free v g (g i) m)
   unfolding first_free
-  free-turn i zero h = absurd (omega (arith, h))
-  free-turn i (suc k) h =
-      ap (λ n. pick (eqb (v i) 0) (λ u. i + 1) (λ u. first_free v g (g i) n)) (let z : k ≡ suc k - 1 = omega arith in z)
+  free-turn i k m e = ap (first_free v g i) (let z : k ≡ suc m = omega (arith, e) in z)
 
-  module _ (i k n : ℕ) (w : first_free v g i k ≡ n) where
-    pub free-here : 0 < k → eqb (v i) 0 ≡ true → i + 1 ≡ n
-    free-here z t = sym (ap (λ b. pick b (λ u. i + 1) (λ u. first_free v g (g i) (k - 1))) t) ∙ sym (free-turn i k z) ∙ w
+  module _ (i n : ℕ) (o : Option ℕ) (w : first_free v g i (probes - n) ≡ o) where
+    free-picked : n < probes → (b : Bool) → eqb (v i) 0 ≡ b
+        → pick b (λ u. Some i) (λ u. first_free v g (g i) (probes - (n + 1))) ≡ o
+    free-picked z b t =
+        sym (ap (λ c. pick c (λ u. Some i) (λ u. first_free v g (g i) (probes - (n + 1)))) t)
+        ∙ sym (free-turn i (probes - n) (probes - (n + 1)) (omega (arith, z))) ∙ w
 
-    pub free-next : 0 < k → eqb (v i) 0 ≡ false → (j : ℕ) → j ≡ g i → first_free v g j (k - 1) ≡ n
-    free-next z t j e =
-        ap (λ a. first_free v g a (k - 1)) e ∙ sym (ap (λ b. pick b (λ u. i + 1) (λ u. first_free v g (g i) (k - 1))) t)
-        ∙ sym (free-turn i k z) ∙ w
+    pub free-here : n < probes → eqb (v i) 0 ≡ true → Some i ≡ o
+    free-here z t = free-picked z true t
 
-    pub free-none : k ≡ 0 → 0 ≡ n
+    pub free-next : n < probes → eqb (v i) 0 ≡ false → (j : ℕ) → j ≡ g i → first_free v g j (probes - (n + 1)) ≡ o
+    free-next z t j e = ap (λ a. first_free v g a (probes - (n + 1))) e ∙ free-picked z false t
+
+    pub free-none : probes ≤ n → None ≡ o
     unfolding first_free
-    free-none z = ap (first_free v g i) (sym z) ∙ w
+    free-none z = ap (first_free v g i) (let e : 0 ≡ probes - n = omega (arith, z) in e) ∙ w
 
   -- The slot that is answered is free.
-  pub free-zero : (j k i : ℕ) → first_free v g i k ≡ j + 1 → v j ≡ 0
+  pub free-zero : (j k i : ℕ) → first_free v g i k ≡ Some j → v j ≡ 0
   unfolding first_free
-  free-zero j zero i h = absurd (let z : 0 ≡ j + 1 = h in omega (arith, z))
+  free-zero j zero i h = absurd (cc)
   free-zero j (suc k) i h = go (eqb (v i) 0) refl h (free-zero j k (g i))
     where
-      go : (b : Bool) → eqb (v i) 0 ≡ b → pick b (λ u. i + 1) (λ u. first_free v g (g i) k) ≡ j + 1
-          → (first_free v g (g i) k ≡ j + 1 → v j ≡ 0) → v j ≡ 0
-      go true q e r = let z : i ≡ j = omega (arith, e) in ap v (sym z) ∙ eqb-true (v i) 0 q
+      go : (b : Bool) → eqb (v i) 0 ≡ b → pick b (λ u. Some i) (λ u. first_free v g (g i) k) ≡ Some j
+          → (first_free v g (g i) k ≡ Some j → v j ≡ 0) → v j ≡ 0
+      go true q e r = let z : i ≡ j = cc in ap v (sym z) ∙ eqb-true (v i) 0 q
       go false q e r = r e
 
   module _ (f : ℕ → Seen) (taken : (m : ℕ) → (v m ≡ 0 → ⊥) → IsEmpty (f m) → ⊥) where
     -- No slot is free: no search ends at one.
-    pub none_free : (k i : ℕ) → first_free v g i k ≡ 0 → IsFree (probing f g i k) → ⊥
+    pub none_free : (k i : ℕ) → first_free v g i k ≡ None → IsFree (probing f g i k) → ⊥
     unfolding first_free probing
     none_free zero i h z = z
     none_free (suc k) i h z = go (eqb (v i) 0) refl h (f i) refl z (none_free k (g i))
       where
-        go : (b : Bool) → eqb (v i) 0 ≡ b → pick b (λ u. i + 1) (λ u. first_free v g (g i) k) ≡ 0 → (l : Seen) → f i ≡ l
-            → IsFree (onward l (λ u. probing f g (g i) k)) → (first_free v g (g i) k ≡ 0 → IsFree (probing f g (g i) k) → ⊥) → ⊥
-        go true q e l t x r = let y : i + 1 ≡ 0 = e in omega (arith, y)
+        go : (b : Bool) → eqb (v i) 0 ≡ b → pick b (λ u. Some i) (λ u. first_free v g (g i) k) ≡ None → (l : Seen) → f i ≡ l
+            → IsFree (onward l (λ u. probing f g (g i) k)) → (first_free v g (g i) k ≡ None → IsFree (probing f g (g i) k) → ⊥) → ⊥
+        go true q e l t x r = absurd (cc)
         go false q e (this xs) t x r = x
         go false q e another t x r = r e x
         go false q e empty t x r = taken i (eqb-false (v i) 0 q) (subst IsEmpty (sym t) tt)
 
     -- The first free slot is taken by what is looked for: the search does not end at a free slot any more.
     pub now-found : (f' : ℕ → Seen) (j : ℕ) → ((m : ℕ) → (v m ≡ 0 → ⊥) → f' m ≡ f m) → IsThis (f' j) → (k i : ℕ)
-        → first_free v g i k ≡ j + 1 → IsFree (probing f' g i k) → ⊥
+        → first_free v g i k ≡ Some j → IsFree (probing f' g i k) → ⊥
     unfolding first_free probing
     now-found f' j same t zero i h z = z
     now-found f' j same t (suc k) i h z = go (eqb (v i) 0) refl h (now-found f' j same t k (g i))
@@ -152,15 +157,15 @@ module _ (v : ℕ → ℕ) (g : ℕ → ℕ) where
         here another a b = a
         here empty a b = a
 
-        there : (l : Seen) → f i ≡ l → (IsEmpty (f i) → ⊥) → first_free v g (g i) k ≡ j + 1
-            → IsFree (onward l (λ u. probing f' g (g i) k)) → (first_free v g (g i) k ≡ j + 1 → IsFree (probing f' g (g i) k) → ⊥) → ⊥
+        there : (l : Seen) → f i ≡ l → (IsEmpty (f i) → ⊥) → first_free v g (g i) k ≡ Some j
+            → IsFree (onward l (λ u. probing f' g (g i) k)) → (first_free v g (g i) k ≡ Some j → IsFree (probing f' g (g i) k) → ⊥) → ⊥
         there (this xs) q n e x r = x
         there another q n e x r = r e x
         there empty q n e x r = n (subst IsEmpty (sym q) tt)
 
-        go : (b : Bool) → eqb (v i) 0 ≡ b → pick b (λ u. i + 1) (λ u. first_free v g (g i) k) ≡ j + 1
-            → (first_free v g (g i) k ≡ j + 1 → IsFree (probing f' g (g i) k) → ⊥) → ⊥
-        go true q e r = let y : i ≡ j = omega (arith, e) in here (f' i) (subst (λ m. IsThis (f' m)) (sym y) t) z
+        go : (b : Bool) → eqb (v i) 0 ≡ b → pick b (λ u. Some i) (λ u. first_free v g (g i) k) ≡ Some j
+            → (first_free v g (g i) k ≡ Some j → IsFree (probing f' g (g i) k) → ⊥) → ⊥
+        go true q e r = let y : i ≡ j = cc in here (f' i) (subst (λ m. IsThis (f' m)) (sym y) t) z
         go false q e r =
             let n : v i ≡ 0 → ⊥ = eqb-false (v i) 0 q in
             there (f i) refl (taken i n) e (subst (λ l. IsFree (onward l (λ u. probing f' g (g i) k))) (same i n) z) r

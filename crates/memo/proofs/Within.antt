@@ -13,7 +13,7 @@ use Rattle.walk.specs.declared.node.Opened.{Opened}
 use Rattle.walk.specs.declared.node.Item.{Item}
 use Rattle.walk.specs.declared.node.Item.TheVariants as item
 use Rattle.walk.specs.Values.{events_at}
-use Rattle.walk.specs.Nodes.{element_of, node_at, events_of, Further}
+use Rattle.walk.specs.Nodes.{element_of, node_at, events_of}
 use Rattle.walk.proofs.Walks.{ItemIs, item-told}
 use Rattle.memo.specs.Plain.{Without}
 use Rattle.memo.specs.Table.{within}
@@ -22,9 +22,6 @@ use Rattle.memo.specs.Table.{within}
 abbrev pub Some : List Event → Type 0
 Some [] = ⊥
 Some (x ∷ xs) = Unit {0}
-
-pub none-some : (xs : List Event) → xs ≡ [] → Some xs → ⊥
-none-some xs e h = subst Some e h
 
 -- What is found is the first element with the id.
 pub within_first : (id : List ℕ) (k : ℕ) (xs : List Event) → Some (within k id xs) → within k id xs ≡ first_with_id id xs
@@ -99,10 +96,6 @@ module _ (s chars id : List ℕ) (v : List Event) (c : Cursor) (left : ℕ) (w :
   module _ (x : Item) (t : r ≡ x) (i : ItemIs s chars c r) where
     pub seek-at : within left id (events_of s chars x) ≡ v
     seek-at = ap (within left id) (item-told s chars c r x t i).0 ∙ w.same
-
-    pub seek-past : (n : Cursor) → Further s c n → within left id (events_of s chars x) ≡ within left id (events_at s chars n)
-        → Seeking s chars id v n left
-    seek-past n f e = record { fit = f.fit; same = sym e ∙ seek-at }
 
   module _ (e : Opened) (t : r ≡ item.Begin e) (i : ItemIs s chars c r) (z : 0 < left) where
     pub seek_hit : has_id id (element_of s chars e) ≡ true → node_at s chars e ≡ v

@@ -1,5 +1,6 @@
 -- The table of ids: the search in it, and what it is known to say.
-use Rattle.std.specs.Prelude.{◌≡◌, ℕ, zero, suc, ◌+◌, ◌-◌, ◌*◌, ◌<◌, ◌≤◌, Bool, true, false, List, [], ◌∷◌, eqb, length, get_or}
+use Rattle.std.specs.Prelude.{◌≡◌, ℕ, zero, suc, ◌+◌, ◌-◌, ◌*◌, ◌<◌, ◌≤◌, Bool}
+use Rattle.std.specs.Prelude.{true, false, List, [], ◌∷◌, Option, Some, None, eqb, length, get_or}
 use Rattle.model.specs.Base.{pick, or, same_bytes}
 use Rattle.model.specs.EId
 use Rattle.model.specs.Drawing as model
@@ -75,13 +76,13 @@ probed script chars slots id =
     pick (is_open slots (key_of id))
     (λ u. probed_from (sees script chars slots id) (unit slots) (key_of id)) (λ u. over)
 
--- The first free slot from i on, and one; 0 where none is among the next k.
-unfoldable pub first_free : (ℕ → ℕ) → (ℕ → ℕ) → ℕ → ℕ → ℕ
-first_free f g i zero = 0
-first_free f g i (suc k) = pick (eqb (f i) 0) (λ u. i + 1) (λ u. first_free f g (g i) k)
+-- The first free slot from i on among the next k.
+unfoldable pub first_free : (ℕ → ℕ) → (ℕ → ℕ) → ℕ → ℕ → Option ℕ
+first_free f g i zero = None
+first_free f g i (suc k) = pick (eqb (f i) 0) (λ u. Some i) (λ u. first_free f g (g i) k)
 
 -- The first free slot for an id with that key.
-abbrev pub free_for : List ℕ → ℕ → ℕ
+abbrev pub free_for : List ℕ → ℕ → Option ℕ
 free_for slots key = first_free (slot_in slots) (next_slot (unit slots) (step_of (unit slots) key)) (start_of (unit slots) key) probes
 
 -- Do elements with that name have links that are followed by ids?
@@ -100,11 +101,6 @@ any_opens script (suc n) = or (any_opens script n) (opens_link (get_or script n 
 -- Can a drawing have such links? It has none where no two bytes of its script are the first two of such a command.
 abbrev pub may_link : List ℕ → Bool
 may_link script = any_opens script (length script - 1)
-
--- A bit.
-abbrev pub bit_for : Bool → ℕ
-bit_for true = 1
-bit_for false = 0
 
 -- THE ANSWERS OF THE CODE
 
@@ -194,8 +190,8 @@ pub record Entered (script chars slots : List ℕ) (next : ℕ) (e : Opened) (sl
 -- An element with that id, met from mark m on, gets the first free slot of the id's search, if the table tells of its key.
 pub record IdEntered (slots : List ℕ) (m : ℕ) (id slots' : List ℕ) : Type 0 where
   pub shut : is_open slots (key_of id) ≡ false → slots' ≡ slots
-  pub full : is_open slots (key_of id) ≡ true → free_for slots (key_of id) ≡ 0 → slots' ≡ slots
-  pub put : (i : ℕ) → is_open slots (key_of id) ≡ true → free_for slots (key_of id) ≡ i + 1
+  pub full : is_open slots (key_of id) ≡ true → free_for slots (key_of id) ≡ None → slots' ≡ slots
+  pub put : (i : ℕ) → is_open slots (key_of id) ≡ true → free_for slots (key_of id) ≡ Some i
       → SlotPut slots i (m + 2048 * print_of (key_of id) + 1) slots'
 
 -- From the last mark on, a search that meets nothing meets nothing among the next `left` elements.

@@ -1,5 +1,6 @@
 -- The words of the table of ids: of sixteen parts one has a bit for each key that a link may have, three have marks, twelve are slots.
-use Rattle.std.specs.Prelude.{◌≡◌, ℕ, ◌+◌, ◌-◌, ◌*◌, ◌/◌, ◌%◌, ◌<◌, ◌≤◌, Bool, not, false, List, [], ◌∷◌, eqb, leb, ltb, length, get_or}
+use Rattle.std.specs.Prelude.{◌≡◌, ℕ, ◌+◌, ◌-◌, ◌*◌, ◌/◌, ◌%◌, ◌<◌, ◌≤◌, Bool, not, List, eqb, leb, ltb, length, get_or}
+use Rattle.std.specs.Int.{bit_at}
 use Rattle.model.specs.Base.{pick, and, folded}
 use Rattle.script.specs.declared.cursor.Cursor.{Cursor}
 
@@ -84,18 +85,11 @@ print_of key = key / 134217728
 
 -- WANTED KEYS
 
--- The bits of a word.
-abbrev pub powers : List ℕ
-powers = 1 ∷ 2 ∷ 4 ∷ 8 ∷ 16 ∷ 32 ∷ 64 ∷ 128 ∷ 256 ∷ 512 ∷ 1024 ∷ 2048 ∷ 4096 ∷ 8192 ∷ 16384 ∷ 32768 ∷ []
-
 abbrev pub bit_of : List ℕ → ℕ → ℕ
 bit_of slots key = key / 64 % (16 * unit slots)
 
-abbrev pub has_bit : ℕ → ℕ → Bool
-has_bit w p = pick (eqb p 0) (λ u. false) (λ u. eqb (w / p % 2) 1)
-
 abbrev pub is_wanted : List ℕ → ℕ → Bool
-is_wanted slots key = has_bit (get_or slots (bit_of slots key / 16) 0) (get_or powers (bit_of slots key % 16) 0)
+is_wanted slots key = eqb (bit_at (get_or slots (bit_of slots key / 16) 0) (bit_of slots key % 16)) 1
 
 -- Does the table tell of ids with that key?
 unfoldable pub is_open : List ℕ → ℕ → Bool

@@ -1,5 +1,5 @@
 // The table of ids is filled: keys that links have are wanted, marks are set, and each element with a wanted id gets a slot.
-ghost use Rattle.std.specs.Prelude.{◌≡◌, ℕ, ◌-◌, ◌<◌, ◌≤◌, length, replicate};
+ghost use Rattle.std.specs.Prelude.{◌≡◌, ℕ, ◌<◌, ◌≤◌, IfSome, length, replicate};
 ghost use Rattle.model.specs.Check.{most_bytes};
 ghost use Rattle.script.specs.Step.{Fit};
 ghost use Rattle.walk.specs.Nodes.{node_at, Standing};
@@ -10,13 +10,13 @@ use super::key::key_of;
 use super::link::is_link;
 use super::plain::first_id;
 use super::words::{
-    PROBES, has_room, is_open, next_slot, put_mark, put_slot, set_spacing, slot_at, spacing,
-    start_of, step_of, want,
+    MARKS, PRINT, PROBES, has_room, is_open, next_slot, put_mark, put_slot, set_spacing, slot_at,
+    spacing, start_of, step_of, want,
 };
 use names::aid;
 use script::cursor::Cursor;
 use walk::node::{Item, Opened, next_item};
-use walk::value::{FoundPart, FoundValue, attribute_in, part_at, reading_of};
+use walk::value::{attribute_in, part_at, reading_of};
 
 const HREF: u8 = aid::HREF as u8;
 
@@ -29,36 +29,29 @@ pub struct Progress {
 }
 
 // How many elements are looked at from a mark on, where there are that many elements and words: enough for all marks.
-fn spaced(count: usize, words: usize) -> usize
+fn spaced(count: usize, words: usize) -> u16
     requires le_words { 256 ≤ words }
     requires count_le_most_bytes { count ≤ most_bytes }
-    ensures { result < 65536 }
 {
-    let n = count / (words / 27 - 2) + 1;
-    if n < 65536 {
-        return n;
-    }
-    65535
+    (count / (words / 27 - 2) + 1).min(65535) as u16
 }
 
-// The first free slot in which an id with that key may stand, and one; 0 where there is none.
-fn free_slot(slots: &[u16], key: usize) -> usize
+// The first free slot in which an id with that key may stand.
+fn free_slot(slots: &[u16], key: usize) -> Option<usize>
     requires { 16 ≤ length slots.now }
     ensures same { result ≡ free_for slots.now key }
-    ensures low { result ≤ slot_count slots.now }
+    ensures low { IfSome result (λ i. i < slot_count slots.now) }
 {
     let step = step_of(slots, key);
     let mut i = start_of(slots, key);
-    let mut left = PROBES;
-    while 0 < left {
+    for _ in 0..PROBES {
         let is_free = slot_at(slots, i) == 0;
         if is_free {
-            return i + 1;
+            return Some(i);
         }
         i = next_slot(slots, step, i);
-        left -= 1;
     }
-    0
+    None
 }
 
 // An element with that id gets a slot, if the table tells of its key and a slot is free: a search from mark m on meets it.
@@ -70,11 +63,9 @@ fn enter_id(slots: &mut [u16], m: usize, id: &[u8])
     if !is_open(slots, key) {
         return;
     }
-    let i = free_slot(slots, key);
-    if i == 0 {
-        return;
+    if let Some(i) = free_slot(slots, key) {
+        put_slot(slots, i, (m + MARKS * (key / PRINT) + 1) as u16);
     }
-    put_slot(slots, i - 1, m + 2048 * (key / 134217728) + 1);
 }
 
 // The element e is entered, if it has an id. The cursor inside it, behind the attributes that were read.
@@ -85,12 +76,11 @@ fn enter(script: &[u8], characters: &[u8], slots: &mut [u16], e: Opened, m: usiz
         → Entered script.now characters.now slots.old next e slots.new result }
 {
     match first_id(script, characters, e) {
-        FoundValue::At(v) => {
-            let start = v.own.chars;
-            enter_id(slots, m, part_at(characters, start, v.len));
+        Ok(v) => {
+            enter_id(slots, m, part_at(characters, v.own.chars, v.len));
             v.behind
         }
-        FoundValue::Nothing(n) => n,
+        Err(n) => n,
     }
 }
 
@@ -112,15 +102,15 @@ fn pass_named(
     if spacing(slots) == 0 {
         return Progress {
             place: inside,
-            next: next,
+            next,
             left: 0,
         };
     }
     if 0 < left {
         let place = enter(script, characters, slots, e, next - 1);
         return Progress {
-            place: place,
-            next: next,
+            place,
+            next,
             left: left - 1,
         };
     }
@@ -129,7 +119,7 @@ fn pass_named(
         set_spacing(slots, 0);
         return Progress {
             place: inside,
-            next: next,
+            next,
             left: 0,
         };
     }
@@ -137,20 +127,10 @@ fn pass_named(
     let most = spacing(slots);
     let place = enter(script, characters, slots, e, next);
     Progress {
-        place: place,
+        place,
         next: next + 1,
         left: most - 1,
     }
-}
-
-// One less, and no less than none.
-fn less(n: usize) -> usize
-    ensures { result ≡ n - 1 }
-{
-    if n == 0 {
-        return 0;
-    }
-    n - 1
 }
 
 // The element e is passed. Marks are set at elements with an id alone.
@@ -167,15 +147,12 @@ fn pass(
     ensures { Passed script.now characters.now slots.old e slots.new result }
 {
     match first_id(script, characters, e) {
-        FoundValue::At(_) => pass_named(script, characters, slots, e, next, left),
-        FoundValue::Nothing(n) => {
-            let fewer = less(left);
-            Progress {
-                place: n,
-                next: next,
-                left: fewer,
-            }
-        }
+        Ok(_) => pass_named(script, characters, slots, e, next, left),
+        Err(n) => Progress {
+            place: n,
+            next,
+            left: left.saturating_sub(1),
+        },
     }
 }
 
@@ -196,18 +173,8 @@ fn pass_all(script: &[u8], characters: &[u8], slots: &mut [u16])
                 next = p.next;
                 left = p.left;
             }
-            Item::Text(_, _, n) => {
-                c = n;
-            }
-            Item::Other(n) => {
-                c = n;
-            }
-            Item::Close(n) => {
-                c = n;
-            }
-            Item::End => {
-                return;
-            }
+            Item::Text(_, _, n) | Item::Other(n) | Item::Close(n) => c = n,
+            Item::End => return,
         }
     }
 }
@@ -218,17 +185,10 @@ fn want_link(script: &[u8], characters: &[u8], slots: &mut [u16], inside: Cursor
     requires in_bounds { 16 ≤ length slots.old }
     ensures { Apart slots.old 0 (unit slots.old) slots.new }
 {
-    match attribute_in(script, characters, inside, space, HREF) {
-        FoundValue::At(v) => {
-            let start = v.own.chars;
-            match reading_of(script, characters, v.behind, start, 1) {
-                FoundPart::At(place, len) => {
-                    want(slots, key_of(part_at(characters, place, len)));
-                }
-                FoundPart::Nothing => {}
-            }
-        }
-        FoundValue::Nothing(_) => {}
+    if let Ok(v) = attribute_in(script, characters, inside, space, HREF)
+        && let Some(p) = reading_of(script, characters, v.behind, v.own.chars, 1)
+    {
+        want(slots, key_of(part_at(characters, p.start, p.len)));
     }
 }
 
@@ -238,12 +198,8 @@ fn want_own(script: &[u8], characters: &[u8], slots: &mut [u16], e: Opened)
     requires in_bounds { 16 ≤ length slots.old }
     ensures { Apart slots.old 0 (unit slots.old) slots.new }
 {
-    match first_id(script, characters, e) {
-        FoundValue::At(v) => {
-            let start = v.own.chars;
-            want(slots, key_of(part_at(characters, start, v.len)));
-        }
-        FoundValue::Nothing(_) => {}
+    if let Ok(v) = first_id(script, characters, e) {
+        want(slots, key_of(part_at(characters, v.own.chars, v.len)));
     }
 }
 
@@ -253,9 +209,10 @@ fn if_named(script: &[u8], characters: &[u8], e: Opened, count: usize, last: usi
     requires last_le_count { last ≤ count }
     ensures { result ≤ count }
 {
-    match first_id(script, characters, e) {
-        FoundValue::At(_) => count,
-        FoundValue::Nothing(_) => last,
+    if first_id(script, characters, e).is_ok() {
+        count
+    } else {
+        last
     }
 }
 
@@ -282,18 +239,8 @@ fn want_links(script: &[u8], characters: &[u8], slots: &mut [u16]) -> usize
                     want_own(script, characters, slots, e);
                 }
             }
-            Item::Text(_, _, n) => {
-                c = n;
-            }
-            Item::Other(n) => {
-                c = n;
-            }
-            Item::Close(n) => {
-                c = n;
-            }
-            Item::End => {
-                return last;
-            }
+            Item::Text(_, _, n) | Item::Other(n) | Item::Close(n) => c = n,
+            Item::End => return last,
         }
     }
 }

@@ -10,26 +10,12 @@ ghost use Rattle.memo.specs.Plain.{node_of, NodeFit, Tested};
 use names::{aid, same};
 use script::cursor::Cursor;
 use walk::node::{Item, Opened, next_item};
-use walk::value::{FoundValue, attribute_in, part_at};
+use walk::value::{ValueAt, attribute_in, part_at};
 
 const ID: u8 = aid::ID as u8;
 
-// An element that is looked for.
-#[derive(Clone, Copy)]
-pub enum FoundElement {
-    At(Opened),
-    Nothing,
-}
-
-// An element asked for its id: it has it, or not, with the cursor behind the attributes that were read.
-#[derive(Clone, Copy)]
-pub enum Asked {
-    Has,
-    HasNot(Cursor),
-}
-
 // The first unprefixed id of an element.
-pub fn first_id(script: &[u8], characters: &[u8], e: Opened) -> FoundValue
+pub fn first_id(script: &[u8], characters: &[u8], e: Opened) -> Result<ValueAt, Cursor>
     requires { Standing script.now e }
     ensures same { value_in script.now characters.now result
         ≡ attribute_in 0 AId.Id (attributes_in script.now characters.now e.inside) }
@@ -38,28 +24,22 @@ pub fn first_id(script: &[u8], characters: &[u8], e: Opened) -> FoundValue
     attribute_in(script, characters, e.inside, 0, ID)
 }
 
-// Has the element an unprefixed id, and the first one is this? Each element of a search is asked, so no other function lies between this
-// one and the attributes.
-pub fn has_id(script: &[u8], characters: &[u8], e: Opened, id: &[u8]) -> Asked
+// Has the element an unprefixed id, and the first one is this? Where not, the cursor behind the attributes that were read. Each element of
+// a search is asked, so no other function lies between this one and the attributes.
+pub fn has_id(script: &[u8], characters: &[u8], e: Opened, id: &[u8]) -> Result<(), Cursor>
     requires { Standing script.now e }
     ensures { Tested script.now characters.now id.now e result }
 {
-    match attribute_in(script, characters, e.inside, 0, ID) {
-        FoundValue::At(v) => {
-            let start = v.own.chars;
-            let first = part_at(characters, start, v.len);
-            if same(first, id) {
-                return Asked::Has;
-            }
-            let n = v.behind;
-            Asked::HasNot(n)
-        }
-        FoundValue::Nothing(n) => Asked::HasNot(n),
+    let v = attribute_in(script, characters, e.inside, 0, ID)?;
+    let first = part_at(characters, v.own.chars, v.len);
+    if same(first, id) {
+        return Ok(());
     }
+    Err(v.behind)
 }
 
 // The first element with that unprefixed id. Each attribute is read once.
-pub fn first_with_id(script: &[u8], characters: &[u8], id: &[u8]) -> FoundElement
+pub fn first_with_id(script: &[u8], characters: &[u8], id: &[u8]) -> Option<Opened>
     requires { length script.now ≤ most_bytes }
     ensures same { node_of script.now characters.now result
         ≡ first_with_id id.now (events script.now characters.now) }
@@ -69,25 +49,11 @@ pub fn first_with_id(script: &[u8], characters: &[u8], id: &[u8]) -> FoundElemen
     loop {
         match next_item(script, characters, c) {
             Item::Begin(e) => match has_id(script, characters, e, id) {
-                Asked::Has => {
-                    return FoundElement::At(e);
-                }
-                Asked::HasNot(n) => {
-                    c = n;
-                }
+                Ok(()) => return Some(e),
+                Err(n) => c = n,
             },
-            Item::Text(_, _, n) => {
-                c = n;
-            }
-            Item::Other(n) => {
-                c = n;
-            }
-            Item::Close(n) => {
-                c = n;
-            }
-            Item::End => {
-                return FoundElement::Nothing;
-            }
+            Item::Text(_, _, n) | Item::Other(n) | Item::Close(n) => c = n,
+            Item::End => return None,
         }
     }
 }

@@ -9,8 +9,10 @@ ghost use Rattle.memo.specs.Words.{slot_count, key_of, is_open};
 ghost use Rattle.memo.specs.Table.{within, sees, probed, seen_as, LookFit, outcome_as, ProbeFit, Held, Memo};
 
 use super::key::key_of;
-use super::plain::{Asked, FoundElement, first_with_id, has_id};
-use super::words::{PROBES, is_open, mark_at, next_slot, slot_at, spacing, start_of, step_of};
+use super::plain::{first_with_id, has_id};
+use super::words::{
+    MARKS, PRINT, PROBES, is_open, mark_at, next_slot, slot_at, spacing, start_of, step_of,
+};
 use script::cursor::Cursor;
 use walk::node::{Item, Opened, next_item};
 
@@ -31,40 +33,29 @@ pub enum Probe {
 }
 
 // The first element with that id among the next `most` elements from the cursor on.
-fn within(script: &[u8], characters: &[u8], from: Cursor, most: usize, id: &[u8]) -> FoundElement
+fn within(script: &[u8], characters: &[u8], from: Cursor, most: usize, id: &[u8]) -> Option<Opened>
     requires { Fit script.now from }
     ensures same { node_of script.now characters.now result
         ≡ within most id.now (events_at script.now characters.now from) }
     ensures fit { NodeFit script.now result }
 {
+    // No range: only elements are counted, not the other nodes that are passed.
     let mut c = from;
     let mut left = most;
     while 0 < left {
         match next_item(script, characters, c) {
             Item::Begin(e) => match has_id(script, characters, e, id) {
-                Asked::Has => {
-                    return FoundElement::At(e);
-                }
-                Asked::HasNot(n) => {
+                Ok(()) => return Some(e),
+                Err(n) => {
                     left -= 1;
                     c = n;
                 }
             },
-            Item::Text(_, _, n) => {
-                c = n;
-            }
-            Item::Other(n) => {
-                c = n;
-            }
-            Item::Close(n) => {
-                c = n;
-            }
-            Item::End => {
-                return FoundElement::Nothing;
-            }
+            Item::Text(_, _, n) | Item::Other(n) | Item::Close(n) => c = n,
+            Item::End => return None,
         }
     }
-    FoundElement::Nothing
+    None
 }
 
 // What stands in slot i, for the search of an id with that key.
@@ -81,13 +72,13 @@ fn look_at(script: &[u8], characters: &[u8], slots: &[u16], i: usize, id: &[u8],
     if v == 0 {
         return Look::Empty;
     }
-    if (v - 1) / 2048 != key / 134217728 {
+    if (v - 1) / MARKS != key / PRINT {
         return Look::Another;
     }
-    let mark = mark_at(slots, (v - 1) % 2048);
+    let mark = mark_at(slots, (v - 1) % MARKS);
     match within(script, characters, mark, spacing(slots), id) {
-        FoundElement::At(e) => Look::This(e),
-        FoundElement::Nothing => Look::Another,
+        Some(e) => Look::This(e),
+        None => Look::Another,
     }
 }
 
@@ -102,26 +93,18 @@ fn look_for(script: &[u8], characters: &[u8], slots: &[u16], id: &[u8], key: usi
 {
     let step = step_of(slots, key);
     let mut i = start_of(slots, key);
-    let mut left = PROBES;
-    while 0 < left {
+    for _ in 0..PROBES {
         match look_at(script, characters, slots, i, id, key) {
-            Look::This(e) => {
-                return Probe::Found(e);
-            }
-            Look::Another => {
-                i = next_slot(slots, step, i);
-                left -= 1;
-            }
-            Look::Empty => {
-                return Probe::Free;
-            }
+            Look::This(e) => return Probe::Found(e),
+            Look::Another => i = next_slot(slots, step, i),
+            Look::Empty => return Probe::Free,
         }
     }
     Probe::Over
 }
 
 // The first element with that unprefixed id, by the table; where it does not tell, by the plain search.
-pub fn find(script: &[u8], characters: &[u8], slots: &[u16], id: &[u8]) -> FoundElement
+pub fn find(script: &[u8], characters: &[u8], slots: &[u16], id: &[u8]) -> Option<Opened>
     requires script_len_bound { length script.now ≤ most_bytes }
     requires memo { Memo script.now characters.now slots.now }
     ensures same { node_of script.now characters.now result
@@ -133,8 +116,8 @@ pub fn find(script: &[u8], characters: &[u8], slots: &[u16], id: &[u8]) -> Found
         return first_with_id(script, characters, id);
     }
     match look_for(script, characters, slots, id, key) {
-        Probe::Found(e) => FoundElement::At(e),
-        Probe::Free => FoundElement::Nothing,
+        Probe::Found(e) => Some(e),
+        Probe::Free => None,
         Probe::Over => first_with_id(script, characters, id),
     }
 }

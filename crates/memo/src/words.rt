@@ -1,17 +1,21 @@
 // The words of the table: bits of wanted keys, marks, slots.
 ghost use Rattle.std.specs.Prelude.{◌≡◌, true, ◌+◌, ◌*◌, ◌%◌, ◌<◌, ◌≤◌, length, get_or, set};
 ghost use Rattle.memo.specs.Words.{unit, spacing, upper_of, mark_in, slot_count, slot_in};
-ghost use Rattle.memo.specs.Words.{start_of, step_of, next_slot, powers, has_bit, bit_of, is_open, Apart, RoomFor, MarkPut, SlotPut};
+ghost use Rattle.memo.specs.Words.{start_of, step_of, next_slot, is_wanted, bit_of, is_open, Apart, RoomFor, MarkPut, SlotPut};
 
 use script::cursor::Cursor;
 
 // So many slots are looked at, at most.
 pub const PROBES: usize = 512;
 
-// The bits of a word.
-const POWERS: [u16; 16] = [
-    1, 2, 4, 8, 16, 32, 64, 128, 256, 512, 1024, 2048, 4096, 8192, 16384, 32768,
-];
+// A slot's word, less one, has a mark below this, and above it what tells the key.
+pub const MARKS: usize = 2048;
+
+// What tells a key in a slot's word: how many times it has this.
+pub const PRINT: usize = 134217728;
+
+// The numbers of a cursor that can be a mark are less: 20 bits each.
+const MARK_BOUND: usize = 1048576;
 
 // The words of one of sixteen parts.
 fn unit(slots: &[u16]) -> usize
@@ -21,25 +25,11 @@ fn unit(slots: &[u16]) -> usize
     slots.len() / 16
 }
 
-fn widened(w: u16) -> usize
-    ensures { (result ≡ w) × (result < 65536) }
-{
-    w as usize
-}
-
 fn word(slots: &[u16], k: usize) -> usize
     requires { k < length slots.now }
     ensures { (result ≡ get_or slots.now k 0) × (result < 65536) }
 {
-    widened(slots[k])
-}
-
-fn put_word(slots: &mut [u16], k: usize, w: usize)
-    requires k_in_bounds { k < length slots.old }
-    requires w_bound { w < 65536 }
-    ensures { slots.new ≡ set slots.old k w }
-{
-    slots[k] = w as u16;
+    usize::from(slots[k])
 }
 
 // Mark m.
@@ -61,33 +51,26 @@ pub fn mark_at(slots: &[u16], m: usize) -> Cursor
 pub fn has_room(slots: &[u16], m: usize, c: Cursor) -> bool
     ensures { result ≡ true → RoomFor slots.now m c }
 {
-    if 2046 < m {
-        return false;
-    }
-    if 3 * unit(slots) < 5 * m + 6 {
-        return false;
-    }
-    if 1048575 < c.at {
-        return false;
-    }
-    if 1048575 < c.chars {
-        return false;
-    }
-    if 1048575 < c.number {
-        return false;
-    }
-    c.texts < 1048576
+    m < MARKS - 1
+        && 5 * m + 6 <= 3 * unit(slots)
+        && c.at < MARK_BOUND
+        && c.chars < MARK_BOUND
+        && c.number < MARK_BOUND
+        && c.texts < MARK_BOUND
 }
 
 // The upper bits of the numbers of c.
-fn upper_of(c: Cursor) -> usize
+fn upper_of(c: Cursor) -> u16
     requires at_bound { c.at < 1048576 }
     requires chars_bound { c.chars < 1048576 }
     requires number_bound { c.number < 1048576 }
     requires texts_bound { c.texts < 1048576 }
-    ensures { (result ≡ upper_of c) × (result < 65536) }
+    ensures { result ≡ upper_of c }
 {
-    c.at / 65536 + 16 * (c.chars / 65536) + 256 * (c.number / 65536) + 4096 * (c.texts / 65536)
+    (c.at / 65536
+        + 16 * (c.chars / 65536)
+        + 256 * (c.number / 65536)
+        + 4096 * (c.texts / 65536)) as u16
 }
 
 // Mark m becomes c.
@@ -96,11 +79,11 @@ pub fn put_mark(slots: &mut [u16], m: usize, c: Cursor)
     ensures { MarkPut slots.old m c slots.new }
 {
     let k = unit(slots) + 5 * m + 1;
-    put_word(slots, k, c.at % 65536);
-    put_word(slots, k + 1, c.chars % 65536);
-    put_word(slots, k + 2, c.number % 65536);
-    put_word(slots, k + 3, c.texts % 65536);
-    put_word(slots, k + 4, upper_of(c));
+    slots[k] = (c.at % 65536) as u16;
+    slots[k + 1] = (c.chars % 65536) as u16;
+    slots[k + 2] = (c.number % 65536) as u16;
+    slots[k + 3] = (c.texts % 65536) as u16;
+    slots[k + 4] = upper_of(c);
 }
 
 // How many elements are looked at from a mark on.
@@ -112,13 +95,12 @@ pub fn spacing(slots: &[u16]) -> usize
 }
 
 // So many elements are looked at from now on.
-pub fn set_spacing(slots: &mut [u16], n: usize)
-    requires in_bounds { 16 ≤ length slots.old }
-    requires n_bound { n < 65536 }
+pub fn set_spacing(slots: &mut [u16], n: u16)
+    requires { 16 ≤ length slots.old }
     ensures { slots.new ≡ set slots.old (unit slots.old) n }
 {
     let k = unit(slots);
-    put_word(slots, k, n);
+    slots[k] = n;
 }
 
 // The word of slot i.
@@ -130,13 +112,12 @@ pub fn slot_at(slots: &[u16], i: usize) -> usize
 }
 
 // The word of slot i becomes v.
-pub fn put_slot(slots: &mut [u16], i: usize, v: usize)
-    requires i_bound { i < slot_count slots.old }
-    requires v_bound { v < 65536 }
+pub fn put_slot(slots: &mut [u16], i: usize, v: u16)
+    requires { i < slot_count slots.old }
     ensures { SlotPut slots.old i v slots.new }
 {
     let k = 4 * unit(slots) + i;
-    put_word(slots, k, v);
+    slots[k] = v;
 }
 
 // Where the search for a key begins.
@@ -171,16 +152,6 @@ pub fn next_slot(slots: &[u16], step: usize, i: usize) -> usize
     i + step - count
 }
 
-// Is the bit p of the word w set?
-fn has_bit(w: usize, p: usize) -> bool
-    ensures { result ≡ has_bit w p }
-{
-    if p == 0 {
-        return false;
-    }
-    w / p % 2 == 1
-}
-
 // The bit of a key among those that are wanted.
 fn bit_of(slots: &[u16], key: usize) -> usize
     requires { 16 ≤ length slots.now }
@@ -190,24 +161,21 @@ fn bit_of(slots: &[u16], key: usize) -> usize
     key / 64 % (16 * unit(slots))
 }
 
-fn power(b: usize) -> usize
-    ensures { (result ≡ get_or powers (b % 16) 0) × (result < 65536) }
+// Is the bit of a key set?
+fn is_wanted(slots: &[u16], key: usize) -> bool
+    requires { 16 ≤ length slots.now }
+    ensures { result ≡ is_wanted slots.now key }
 {
-    widened(POWERS[b % 16])
+    let b = bit_of(slots, key);
+    slots[b / 16] >> (b % 16) & 1 == 1
 }
 
 // Does the table tell of ids with that key?
+#[tactic(auto, unfolding(crate::specs::Words::is_open))]
 pub fn is_open(slots: &[u16], key: usize) -> bool
     ensures { result ≡ is_open slots.now key }
 {
-    if slots.len() < 16 {
-        return false;
-    }
-    if spacing(slots) == 0 {
-        return false;
-    }
-    let b = bit_of(slots, key);
-    has_bit(word(slots, b / 16), power(b))
+    slots.len() >= 16 && spacing(slots) != 0 && is_wanted(slots, key)
 }
 
 // The key is wanted: its bit is set.
@@ -216,13 +184,5 @@ pub fn want(slots: &mut [u16], key: usize)
     ensures { Apart slots.old 0 (unit slots.old) slots.new }
 {
     let b = bit_of(slots, key);
-    let p = power(b);
-    let w = word(slots, b / 16);
-    if has_bit(w, p) {
-        return;
-    }
-    if 65535 < w + p {
-        return;
-    }
-    put_word(slots, b / 16, w + p);
+    slots[b / 16] |= 1 << (b % 16);
 }

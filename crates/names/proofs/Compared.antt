@@ -1,38 +1,28 @@
 -- Comparing two strings of bytes, a byte at a time. Assumes nothing.
-use mathlib.Core.Path.{◌≡◌, refl, ap}
+use mathlib.Core.Path.{◌≡◌, refl}
 use mathlib.Core.List.{List, [], ◌∷◌}
-use mathlib.Core.Bool.{Bool, true, false}
-use Prim.Native.Nat.{ℕ, zero, suc, ◌+◌, ◌<◌, ◌≤◌}
-use native.Mathlib.Numerals.{add-one}
+use mathlib.Core.Bool.{Bool, true, false, ◌&&◌}
+use lib.Pointwise.{pointwise}
+use Prim.Native.Nat.{ℕ, zero, suc, ◌≤◌}
 use native.Mathlib.Omega.{arith}
 use borrow.Author.Tests.{leb-true, leb-false, ne_eqb}
-use lib.ListN.{length, get_or, drop, drop_of_length-le, get_or-eq_default}
-use lib.Seq.{drop-cons}
+use lib.ListN.{length, get_or, get_or-eq_default}
 use lib.Dec.{eqb, leb}
 use Rattle.model.specs.Base.{pick, same_bytes}
 use Rattle.model.specs.Names.{fixed_bytes, fixed_values}
 use Rattle.names.proofs.Keys.{NoKey}
 
-pub differ : (a b : List ℕ) → (length a ≡ length b → ⊥) → false ≡ same_bytes a b
+-- The library's comparison is the model's.
+pub pointwise-is : (a b : List ℕ) → pointwise eqb a b ≡ same_bytes a b
 unfolding same_bytes
-differ [] [] h = absurd (h refl)
-differ [] (y ∷ b) h = refl
-differ (x ∷ a) [] h = refl
-differ (x ∷ a) (y ∷ b) h = go (eqb x y) (differ a b (λ e. h (ap suc e)))
+pointwise-is [] [] = refl
+pointwise-is [] (y ∷ b) = refl
+pointwise-is (x ∷ a) [] = refl
+pointwise-is (x ∷ a) (y ∷ b) = go (eqb x y) (pointwise-is a b)
   where
-    go : (t : Bool) → false ≡ same_bytes a b → false ≡ pick t (λ u. same_bytes a b) (λ u. false)
+    go : (t : Bool) → pointwise eqb a b ≡ same_bytes a b → (t && pointwise eqb a b) ≡ pick t (λ u. same_bytes a b) (λ u. false)
     go true e = e
     go false e = refl
-
-pub same_step : (a b : List ℕ) (i : ℕ) → i < length a → i < length b
-    → same_bytes (drop i a) (drop i b)
-    ≡ pick (eqb (get_or a i 0) (get_or b i 0)) (λ u. same_bytes (drop (i + 1) a) (drop (i + 1) b)) (λ u. false)
-unfolding same_bytes
-same_step a b i h k = rw (drop-cons a i 0 h, drop-cons b i 0 k, add-one)
-
-pub same_end : (a b : List ℕ) (i : ℕ) → length a ≤ i → length b ≤ i → true ≡ same_bytes (drop i a) (drop i b)
-unfolding same_bytes
-same_end a b i h k = rw (drop_of_length-le a h, drop_of_length-le b k)
 
 pub same-empty : (b : List ℕ) → eqb (length b) 0 ≡ same_bytes [] b
 unfolding same_bytes

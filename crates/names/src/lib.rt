@@ -1,8 +1,9 @@
 // Names: the classes of attribute names, the fixed values, and comparisons with the words that the tree knows.
-// Of codes that follow one another, each second one stands in an arm of its own: in one arm they would make a range.
+// Of codes that follow one another, each second one stands in an arm of its own: in one arm, as in one `matches!`, they would make a range,
+// with a goal of its own. A code is a number and no enum, since a word of the tables may have any value, and every function answers for it.
 #![tactic(auto)]
 
-ghost use Rattle.std.specs.Prelude.{◌≡◌};
+ghost use Rattle.std.specs.Prelude.{◌≡◌, ◌<◌, unwrap_or, IfSome};
 ghost use Rattle.model.specs.Base.{same_bytes, among_words};
 ghost use Rattle.model.specs.Names.{is_element, is_attribute, is_presentation, is_non_inheritable, is_inheritable, allows_inherit_value};
 ghost use Rattle.model.specs.Names.{is_possible_none, is_declared_only, inherit_default, fixed_bytes, image_rendering_words};
@@ -212,17 +213,15 @@ pub fn is_possible_none(a: u32) -> bool
 pub fn is_declared_only(a: u32) -> bool
     ensures { result ≡ is_declared_only a }
 {
-    match a {
-        aid::FONT_KERNING | aid::ISOLATION | aid::MIX_BLEND_MODE => true,
-        _ => false,
-    }
+    matches!(a, aid::FONT_KERNING | aid::ISOLATION | aid::MIX_BLEND_MODE)
 }
 
-// `resolve_inherit`: the number of the fixed value for a name that no one above has, 0 where the attribute is dropped.
-pub fn inherit_default(a: u32) -> u32
-    ensures { result ≡ inherit_default a }
+// `resolve_inherit`: the number of the fixed value for a name that no one above has; none where the attribute is dropped.
+pub fn inherit_default(a: u32) -> Option<u32>
+    ensures number { unwrap_or result 0 ≡ inherit_default a }
+    ensures nonzero { IfSome result (λ n. 0 < n) }
 {
-    match a {
+    let number = match a {
         aid::CLIP_PATH
         | aid::FILTER
         | aid::MARKER_END
@@ -258,25 +257,16 @@ pub fn inherit_default(a: u32) -> u32
         aid::STROKE_MITERLIMIT => 16,
         aid::TEXT_ANCHOR => 17,
         aid::WRITING_MODE => 18,
-        _ => 0,
-    }
+        _ => return None,
+    };
+    Some(number)
 }
 
 // Are two strings of bytes the same?
 pub fn same(a: &[u8], b: &[u8]) -> bool
     ensures { result ≡ same_bytes a.now b.now }
 {
-    if a.len() != b.len() {
-        return false;
-    }
-    let mut i = 0;
-    while i < a.len() {
-        if a[i] != b[i] {
-            return false;
-        }
-        i += 1;
-    }
-    true
+    a == b
 }
 
 pub fn is_inherit(value: &[u8]) -> bool
@@ -336,6 +326,6 @@ pub fn is_fixed(n: u32, value: &[u8]) -> bool
         16 => same(b"4", value),
         17 => same(b"start", value),
         18 => same(b"lr-tb", value),
-        _ => value.len() == 0,
+        _ => value.is_empty(),
     }
 }

@@ -3,6 +3,7 @@ use Prim.Native.Nat.{ℕ, zero, ◌-◌, ◌≤◌}
 use mathlib.Core.Path.{◌≡◌, ap, sym, ◌∙◌, subst}
 use mathlib.Core.Bool.{Bool, true, false}
 use mathlib.Core.List.{List}
+use Rattle.std.specs.Prelude.{Result, Ok, Err}
 use lib.Dec.{eqb}
 use Rattle.model.specs.EId
 use Rattle.model.specs.Drawing.{Element, events, children_from}
@@ -17,12 +18,14 @@ use Rattle.walk.specs.Values.{events_at, SameNodes}
 use Rattle.tree.specs.declared.Counts.{Counts}
 use Rattle.tree.specs.Lent.{tree_of}
 use Rattle.element.specs.declared.Parsed.{Parsed}
-use Rattle.element.specs.declared.Parsed.TheVariants as parsed
+use Rattle.refusal.specs.declared.Refusal.{Refusal}
+use Rattle.refusal.specs.declared.Refusal.TheVariants.{ElementsLimitReached}
 use Rattle.element.specs.Runs.{parsed_of, ParsedFit}
 use Rattle.label.specs.Whole.{Beginning, ClosedFit}
 use Rattle.label.proofs.Telling.{element-done, element-none, element-behind}
 use Rattle.parse.specs.declared.Begun.{Begun}
 use Rattle.parse.specs.declared.Begun.TheVariants as begun
+use Rattle.refusal.specs.Number.{number_of}
 use Rattle.parse.specs.Cycle.{is_parsed, tag_named, node_built, IsText, IsOther, Made, BegunFit}
 use Rattle.parse.proofs.Levels.{node-skipped, node-text, node-refused, node-use, node-children}
 use Rattle.parse.proofs.Nodes.{closed_same, made_one, made-under}
@@ -35,15 +38,15 @@ module _ (script chars ns ats bs : List ℕ) (k : Counts) (left : ℕ) (ignored 
   abbrev X : Element
   X = element_of script chars e
 
-  abbrev Fit : List ℕ → List ℕ → List ℕ → Begun → Type 0
+  abbrev Fit : List ℕ → List ℕ → List ℕ → Result Begun Refusal → Type 0
   Fit = BegunFit script chars left ignored p e t
 
-  pub begun-deep : left ≡ 0 → Fit ns ats bs (begun.Refused 20)
+  pub begun-deep : left ≡ 0 → Fit ns ats bs (Err ElementsLimitReached)
   begun-deep h origin = ap (λ l. node_built script chars l origin ignored p e t) (sym h)
 
   pub begun-skipped : 1 ≤ left → is_parsed e.name e.space ≡ false → (past : Cursor) →
       events_at script chars past ≡ leave 0 (events_at script chars e.inside) → step.Fit script past → e.inside.at ≤ past.at →
-      Fit ns ats bs (begun.Passed k past)
+      Fit ns ats bs (Ok (begun.Passed k past))
   begun-skipped h a past q f l = (
     λ origin. node-skipped script chars e left origin ignored p t h a,
     closed_same script chars t p e.inside past b.inside q f l,
@@ -51,37 +54,43 @@ module _ (script chars ns ats bs : List ℕ) (k : Counts) (left : ℕ) (ignored 
 
   -- A TEXT ELEMENT
 
-  module _ (is : IsText left e.name e.space) (ns' ats' bs' : List ℕ) (r : Parsed)
+  module _ (is : IsText left e.name e.space) (ns' ats' bs' : List ℕ) (r : Result Parsed Refusal)
       (told : parsed_of ns' ats' bs' r ≡ label (plain chars) (events script chars) X (events_at script chars e.inside) ignored p t)
       (closed : ClosedFit script chars e.inside k.nodes ns' ats' bs' r) where
-    pub text-refused : (j : ℕ) → r ≡ parsed.Refused j → Fit ns' ats' bs' (begun.Refused j)
+    pub text-refused : (j : Refusal) → r ≡ Err j → Fit ns' ats' bs' (Err j)
     text-refused j q origin =
         element-none r ns' ats' bs' _ told j q ∙ node-text script chars e left origin ignored p t is.0 is.1 is.2
 
-    pub text-done : (m : Counts) (c : Cursor) → r ≡ parsed.Done m c → Fit ns' ats' bs' (begun.Passed m c)
-    text-done m c q = (
-      λ origin. element-done r ns' ats' bs' _ told m c q
+    pub text-done : (x : Parsed) → r ≡ Ok x → Fit ns' ats' bs' (Ok (begun.Passed x.counts x.behind))
+    text-done x q = (
+      λ origin. element-done r ns' ats' bs' _ told x q
           ∙ node-text script chars e left origin ignored p t is.0 is.1 is.2,
       subst (ClosedFit script chars e.inside k.nodes ns' ats' bs') q closed,
     )
 
   -- ANY OTHER ELEMENT
 
-  module _ (is : IsOther left e.name e.space) (tag : ℕ) (named : tag ≡ tag_named e.name) (ns' ats' : List ℕ) (r : Parsed)
+  module _ (is : IsOther left e.name e.space) (tag : ℕ) (named : tag ≡ tag_named e.name) (ns' ats' : List ℕ) (r : Result Parsed Refusal)
       (told : parsed_of ns' ats' bs r ≡ parse_svg_element X tag ignored p t) (behind : ParsedFit script chars e.inside r) where
     made : parsed_of ns' ats' bs r ≡ parse_svg_element X (tag_named e.name) ignored p t
     made = told ∙ ap (λ g. parse_svg_element X g ignored p t) named
 
-    pub other-refused : (j : ℕ) → r ≡ parsed.Refused j → Fit ns' ats' bs (begun.Refused j)
+    pub other-refused : (j : Refusal) → r ≡ Err j → Fit ns' ats' bs (Err j)
     other-refused j q origin =
-        node-refused script chars e left origin ignored p t is.0 is.1 is.2 j (element-none r ns' ats' bs _ made j q)
+        node-refused script chars e left origin ignored p t is.0 is.1 is.2 (number_of j) (element-none r ns' ats' bs _ made j q)
 
-    module _ (m : Counts) (c : Cursor) (q : r ≡ parsed.Done m c) where
+    module _ (x : Parsed) (q : r ≡ Ok x) where
+      abbrev m : Counts
+      m = x.counts
+
+      abbrev c : Cursor
+      c = x.behind
+
       nodes : SameNodes script chars e.inside c
-      nodes = element-behind r script chars e.inside behind m c q
+      nodes = element-behind r script chars e.inside behind x q
 
       stands : done (tree_of ns' ats' bs m) ≡ parse_svg_element X (tag_named e.name) ignored p t
-      stands = element-done r ns' ats' bs _ made m c q
+      stands = element-done r ns' ats' bs _ made x q
 
       begun-made : Made script chars left ignored p e t (tree_of ns' ats' bs m) c
       begun-made = record {
@@ -91,13 +100,13 @@ module _ (script chars ns ats bs : List ℕ) (k : Counts) (left : ℕ) (ignored 
         more = made_one script chars ns ats bs k p e b ignored is.1 ns' ats' m c nodes stands;
       }
 
-      pub other-use : eqb e.name EId.Use ≡ true → Fit ns' ats' bs (begun.Use m c)
+      pub other-use : eqb e.name EId.Use ≡ true → Fit ns' ats' bs (Ok (begun.Use m c))
       other-use u = (
         λ origin. node-use script chars e left origin ignored p t is.0 is.1 is.2 (tree_of ns' ats' bs m) stands u,
         begun-made,
       )
 
-      pub other-children : eqb e.name EId.Use ≡ false → Fit ns' ats' bs (begun.Children m c)
+      pub other-children : eqb e.name EId.Use ≡ false → Fit ns' ats' bs (Ok (begun.Children m c))
       other-children u = (
         λ origin. ap (λ ys. each (node (plain chars) (events script chars) (left - 1)) (children_from zero ys) origin ignored k.nodes
             (tree_of ns' ats' bs m)) nodes.events

@@ -1,12 +1,15 @@
 -- What stands at the cursor, by the item that was read there. Assumes nothing.
-use Prim.Native.Nat.{ℕ, zero, suc}
+use Prim.Native.Nat.{ℕ, zero, ◌+◌, ◌≤◌}
+use Rattle.std.specs.Prelude.{Result, Ok, Err}
 use mathlib.Core.Path.{◌≡◌, refl, ap, sym, ◌∙◌, subst}
 use mathlib.Core.List.{List, ◌∷◌}
 use native.Mathlib.Omega.{arith}
-use lib.ListN.{length}
 use Rattle.model.specs.Drawing as model
 use Rattle.model.specs.Drawing.{Event, close, events, children_from, source_at}
 use Rattle.model.specs.Tables.{Tree, refused}
+use Rattle.refusal.specs.declared.Refusal.{Refusal}
+use Rattle.refusal.specs.Number.{number_of}
+use Rattle.tree.specs.declared.Counts.{Counts}
 use Rattle.model.specs.Parse.{each, node, plain}
 use Rattle.script.specs.declared.cursor.Cursor.{Cursor}
 use Rattle.script.specs.Step.{Fit, mark_of}
@@ -19,47 +22,45 @@ use Rattle.walk.proofs.Walks.{ItemIs, item-told}
 use Rattle.tree.specs.Lent.{tree_of}
 use Rattle.label.specs.Walk.{Lies}
 use Rattle.label.specs.Whole.{Underway, Beginning}
-use Rattle.parse.specs.State.{place_in, origin_in, counts_in, Stood}
-use Rattle.parse.specs.Met.{is_copied, next_of, Opens, first_of, MetNode, MetFirst, MetEnd, MetFit, HandedFit, HandedOn, HandedDeep}
+use Rattle.parse.specs.declared.State.{State}
+use Rattle.parse.specs.declared.met.Met.{Met}
+use Rattle.parse.specs.declared.met.Met.TheVariants.{Passed, Children, Copy, End}
+use Rattle.parse.specs.Met.{is_copied, next_of, Opens, first_of, MetNode, MetOr, MetFirst, MetEnd, MetFit, HandedFit}
 use Rattle.parse.proofs.Following.{Handed, handed-next, handed-done, handed-deep}
 
--- A node that was met is none that ends the element around it.
-pub met_of : (script chars : List ℕ) (left origin p : ℕ) (from : Cursor) (t : Tree) (s k : List ℕ) (u : Tree) (code : ℕ) →
-    (code ≡ 3 → ⊥) → MetFirst script chars left origin p from t s k u code → MetFit script chars left origin p from t s k u code
-met_of script chars left origin p from t s k u zero z h = h
-met_of script chars left origin p from t s k u (suc zero) z h = h
-met_of script chars left origin p from t s k u (suc (suc zero)) z h = h
-met_of script chars left origin p from t s k u (suc (suc (suc zero))) z h = absurd (z refl)
-met_of script chars left origin p from t s k u (suc (suc (suc (suc n)))) z h = h
+-- An element at the cursor, and a node that is handed over, are none that ends the element around them.
+module _ (script chars : List ℕ) (left origin p : ℕ) (from : Cursor) (t : Tree) (s : State) (u : Tree) where
+  abbrev First : Result Met Refusal → Type 0
+  First = MetFirst script chars left origin p from t s u
 
-pub met-first : (script chars : List ℕ) (left origin p : ℕ) (from : Cursor) (t : Tree) (s k : List ℕ) (u : Tree) (code : ℕ) →
-    (code ≡ 3 → ⊥) → MetFit script chars left origin p from t s k u code → MetFirst script chars left origin p from t s k u code
-met-first script chars left origin p from t s k u zero z h = h
-met-first script chars left origin p from t s k u (suc zero) z h = h
-met-first script chars left origin p from t s k u (suc (suc zero)) z h = h
-met-first script chars left origin p from t s k u (suc (suc (suc zero))) z h = absurd (z refl)
-met-first script chars left origin p from t s k u (suc (suc (suc (suc n)))) z h = h
+  -- An end is no node.
+  no-end : MetNode script chars left origin p (events_at script chars from) (from.at + 1) t s u End → ⊥
+  no-end h = h.rest
 
-module _ (script chars : List ℕ) (left p : ℕ) (ns ats bs s k : List ℕ) (wide : length k ≡ 4)
-    (under : Underway script chars (tree_of ns ats bs (counts_in k)) p (place_in s)) (from : Cursor) (is : from ≡ place_in s) (r : Item)
-    (same : events_of script chars r ≡ events_at script chars from) (fit : ItemFit script from r) where
+  pub met_of : (m : Result Met Refusal) → First m → MetFit script chars left origin p from t s u m
+  met_of (Ok Passed) h = h
+  met_of (Ok Children) h = h
+  met_of (Ok Copy) h = h
+  met_of (Ok End) h = absurd (no-end h.node)
+  met_of (Err r) h = h
+
+module _ (script chars : List ℕ) (left p : ℕ) (ns ats bs : List ℕ) (s : State)
+    (under : Underway script chars (tree_of ns ats bs s.counts) p s.cursor) (r : Item)
+    (same : events_of script chars r ≡ events_at script chars s.cursor) (fit : ItemFit script s.cursor r) where
   abbrev t : Tree
-  t = tree_of ns ats bs (counts_in k)
+  t = tree_of ns ats bs s.counts
 
   abbrev c : Cursor
-  c = place_in s
+  c = s.cursor
 
   abbrev o : ℕ
-  o = origin_in s
+  o = s.origin
 
   abbrev xs : List Event
   xs = events_at script chars c
 
-  abbrev Met : List ℕ → List ℕ → Tree → ℕ → Type 0
-  Met = MetFit script chars left o p c t
-
   told : (x : Item) → r ≡ x → ItemIs script chars c x
-  told x q = item-told script chars c r x q (subst (λ (y : Cursor). ItemIs script chars y r) is (same, fit))
+  told x q = item-told script chars c r x q (same, fit)
 
   -- AN ELEMENT
 
@@ -84,121 +85,103 @@ module _ (script chars : List ℕ) (left p : ℕ) (ns ats bs s k : List ℕ) (wi
     pub first-stands : Standing script e
     first-stands = (told (item.Begin e) q).1.0
 
-    pub first-met : (s' k' : List ℕ) (u : Tree) (code : ℕ) →
-        MetNode script chars left o p (node_at script chars e) e.inside.at t s' k' u code → Met s' k' u code
-    first-met s' k' u code h =
-        let w = told (item.Begin e) q in
-        met_of script chars left o p c t s' k' u code h.some
-        (record {
-          opens = subst Opens w.0 tt;
-          node = record {
+    module _ (s' : State) (u : Tree) where
+      node-first : (m : Result Met Refusal) → MetOr script chars left o p (node_at script chars e) e.inside.at t s' u m
+          → MetOr script chars left o p xs (c.at + 1) t s' u m
+      node-first (Err j) h = h ∙ ap (λ zs. first_of script chars left o p zs t) (told (item.Begin e) q).0
+      node-first (Ok m) h =
+          let w = told (item.Begin e) q in
+          record {
             built = h.built ∙ ap (λ zs. first_of script chars left o p zs t) w.0;
-            some = h.some;
             rest = h.rest;
             by = h.by;
-            behind = λ z. h.behind z ∙ ap next_of w.0;
-            later = λ z. omega (arith, h.later z, w.1.1.further);
+            behind = h.behind ∙ ap next_of w.0;
+            later = omega (arith, h.later, w.1.1.further);
             more = h.more;
-          };
-        })
+          }
+
+      pub first-met : (m : Result Met Refusal) → MetOr script chars left o p (node_at script chars e) e.inside.at t s' u m
+          → MetFit script chars left o p c t s' u m
+      first-met m h =
+          met_of script chars left o p c t s' u m
+          (record { opens = subst Opens (told (item.Begin e) q).0 tt; node = node-first m h })
 
   -- A NODE THAT IS HANDED OVER
 
   module _ (x : Event) (is-handed : Handed x) (n : Cursor) (first : x ∷ events_at script chars n ≡ xs) (behind : Further script c n)
-      (s' k' : List ℕ) where
-    abbrev u : Tree
-    u = tree_of ns ats bs (counts_in k')
+    where
+      opens : Opens xs
+      opens = subst Opens first (handed-next x is-handed (events_at script chars n)).0
 
-    opens : Opens xs
-    opens = subst Opens first (handed-next x is-handed (events_at script chars n)).0
-
-    on : HandedOn left n s s' k k' → Met s' k' u 0
-    on h = rw h.kept (record {
-      opens = opens;
-      node = record {
-        built = handed-done chars (events script chars) left o (is_copied o) p t x is-handed (events_at script chars n) h.above
-            ∙ ap (λ zs. first_of script chars left o p zs t) first;
-        some = λ z. omega (arith, z);
-        rest = record {
-          long = h.stood.long;
-          wide = wide;
-          fit = subst (Fit script) (sym h.stood.place) behind.fit;
-          tidy = under.tidy;
-          few = under.few;
+      -- The cursor is moved.
+      on : 1 ≤ left → (s' : State) → s' ≡ record s { cursor = n } → MetFit script chars left o p c t s' (tree_of ns ats bs s'.counts) (Ok Passed)
+      on l s' z = subst (λ (y : State). MetFit script chars left o p c t y (tree_of ns ats bs y.counts) (Ok Passed)) (sym z) (record {
+        opens = opens;
+        node = record {
+          built = handed-done chars (events script chars) left o (is_copied o) p t x is-handed (events_at script chars n) l
+              ∙ ap (λ zs. first_of script chars left o p zs t) first;
+          rest = record { fit = behind.fit; tidy = under.tidy; few = under.few };
+          by = refl;
+          behind = (handed-next x is-handed (events_at script chars n)).1 ∙ ap next_of first;
+          later = omega (arith, behind.further);
+          more = omega arith;
         };
-        by = λ z. h.stood.origin;
-        behind = λ z. ap (events_at script chars) h.stood.place ∙ (handed-next x is-handed (events_at script chars n)).1
-            ∙ ap next_of first;
-        later = λ z. omega (arith, behind.further, ap (λ (y : Cursor). y.at) h.stood.place);
-        more = λ z. omega arith;
-      };
-    })
+      })
 
-    deep : HandedDeep left k' → (m : ℕ) → Met s' k' u (suc (suc (suc (suc m))))
-    deep h m = record {
-      opens = opens;
-      node = record {
-        built = ap (λ j. refused j) h.number ∙ handed-deep chars (events script chars) left o (is_copied o) p t h.deep xs;
-        some = λ z. omega (arith, z);
-        rest = tt;
-        by = λ z. absurd (omega (arith, z));
-        behind = λ z. absurd (omega (arith, z));
-        later = λ z. absurd (omega (arith, z));
-        more = λ z. absurd (omega (arith, z));
-      };
-    }
+      deep : left ≡ 0 → (j : Refusal) → number_of j ≡ 20 → (s' : State) → (u : Tree) → MetFit script chars left o p c t s' u (Err j)
+      deep h j z s' u = record {
+        opens = opens;
+        node = ap (λ k. refused k) z ∙ handed-deep chars (events script chars) left o (is_copied o) p t h xs;
+      }
 
-    handed : (code : ℕ) → HandedFit left n s s' k k' code → Met s' k' u code
-    handed zero h = on h
-    handed (suc zero) h = absurd h
-    handed (suc (suc zero)) h = absurd h
-    handed (suc (suc (suc zero))) h = absurd h
-    handed (suc (suc (suc (suc m)))) h = deep h m
+      handed : (s' : State) (m : Result Met Refusal) → HandedFit left n s s' m
+          → MetFit script chars left o p c t s' (tree_of ns ats bs s'.counts) m
+      handed s' (Ok Passed) h = on h.0 s' h.1
+      handed s' (Ok Children) h = absurd h
+      handed s' (Ok Copy) h = absurd h
+      handed s' (Ok End) h = absurd h
+      handed s' (Err j) h = deep h.0 j h.1 s' (tree_of ns ats bs s'.counts)
 
-  pub text-met : (a : Cursor) (l : ℕ) (n : Cursor) → r ≡ item.Text a l n → (s' k' : List ℕ) (code : ℕ) →
-      HandedFit left n s s' k k' code → Met s' k' (tree_of ns ats bs (counts_in k')) code
-  text-met a l n q s' k' =
+  pub text-met : (a : Cursor) (l : ℕ) (n : Cursor) → r ≡ item.Text a l n → (s' : State) (m : Result Met Refusal) → HandedFit left n s s' m
+      → MetFit script chars left o p c t s' (tree_of ns ats bs s'.counts) m
+  text-met a l n q =
       let w = told (item.Text a l n) q in
-      handed (model.Event.text (source_at chars (mark_of a) l)) tt n w.0 w.1.1 s' k'
+      handed (model.Event.text (source_at chars (mark_of a) l)) tt n w.0 w.1.1
 
-  pub other-met : (n : Cursor) → r ≡ item.Other n → (s' k' : List ℕ) (code : ℕ) → HandedFit left n s s' k k' code →
-      Met s' k' (tree_of ns ats bs (counts_in k')) code
-  other-met n q s' k' =
+  pub other-met : (n : Cursor) → r ≡ item.Other n → (s' : State) (m : Result Met Refusal) → HandedFit left n s s' m
+      → MetFit script chars left o p c t s' (tree_of ns ats bs s'.counts) m
+  other-met n q =
       let w = told (item.Other n) q in
-      handed model.Event.other tt n w.0 w.1 s' k'
+      handed model.Event.other tt n w.0 w.1
 
   -- THE END
 
-  pub close-met : (n : Cursor) → r ≡ item.Close n → (s' : List ℕ) → Stood s n s' → MetEnd script chars left o p c t s' k t
+  pub close-met : (n : Cursor) → r ≡ item.Close n → MetEnd script chars left o p c t (record s { cursor = n }) t
   unfolding children_from leave
-  close-met n q s' h =
+  close-met n q =
       let w = told (item.Close n) q in
       record {
         none = λ z. subst Opens (sym w.0) z;
         built = ap (λ zs. each (node (plain chars) (events script chars) left) (children_from zero zs) o (is_copied o) p t) w.0;
         reached = record {
-          long = h.long;
-          wide = wide;
-          by = h.origin;
-          fit = subst (Fit script) (sym h.place) w.1.fit;
-          later = omega (arith, w.1.further, ap (λ (y : Cursor). y.at) h.place);
-          behind = ap (events_at script chars) h.place ∙ ap (leave 0) w.0;
+          by = refl;
+          fit = w.1.fit;
+          later = omega (arith, w.1.further);
+          behind = ap (leave 0) w.0;
           tidy = under.tidy;
           few = under.few;
           more = omega arith;
         };
       }
 
-  pub end-met : length s ≡ 10 → r ≡ item.End → MetEnd script chars left o p c t s k t
+  pub end-met : r ≡ item.End → MetEnd script chars left o p c t s t
   unfolding children_from leave
-  end-met long q =
+  end-met q =
       let w = told item.End q in
       record {
         none = λ z. subst Opens (sym w.0) z;
         built = ap (λ zs. each (node (plain chars) (events script chars) left) (children_from zero zs) o (is_copied o) p t) w.0;
         reached = record {
-          long = long;
-          wide = wide;
           by = refl;
           fit = under.fit;
           later = omega arith;

@@ -1,7 +1,6 @@
 pub mod Levels
 pub mod Nodes
 pub mod Begins
-pub mod Words
 pub mod Meeting
 pub mod Following
 pub mod Finding

@@ -32,7 +32,7 @@ unfolding is_element
 group-element = refl
 
 -- An element of the tree has a name of the list, also as a group.
-tag-element : (name space : ℕ) → is_parsed name space ≡ true → is_element (tag_named name) ≡ true
+pub tag-element : (name space : ℕ) → is_parsed name space ≡ true → is_element (tag_named name) ≡ true
 tag-element name space h = go (eqb name EId.A)
   where
     named : is_element name ≡ true

@@ -5,7 +5,6 @@ use mathlib.Core.Bool.{Bool, true, false, true≢false}
 use mathlib.Core.List.{List, [], ◌∷◌}
 use native.Mathlib.Numerals.{add-one}
 use native.Mathlib.Omega.{arith}
-use lib.ListN.{length}
 use Rattle.model.specs.Base.{pick}
 use Rattle.model.specs.Drawing as model
 use Rattle.model.specs.Drawing.{Element, Source, Event, begin, close, events, children_from, has_tag_name}
@@ -18,7 +17,7 @@ use Rattle.walk.specs.Values.{events_at}
 use Rattle.walk.proofs.Along.{behind-close}
 use Rattle.label.specs.Walk.{Lies}
 use Rattle.parse.specs.Cycle.{is_parsed}
-use Rattle.parse.specs.State.{place_in, Stood}
+use Rattle.parse.specs.declared.State.{State}
 use Rattle.parse.specs.Met.{is_copied}
 use Rattle.parse.specs.Unbuilt.{is_built, past_unbuilt, Skipped}
 use Rattle.parse.proofs.Levels.{node-level}
@@ -146,10 +145,9 @@ module _ (chars : List ℕ) (all : List Event) (left : ℕ) (above : 1 ≤ left)
 
 -- THE CURSOR IS MOVED
 
-pub skipped-none : (script chars : List ℕ) (left : ℕ) (s : List ℕ) → Fit script (place_in s) → length s ≡ 10 → Skipped script chars left s s
-skipped-none script chars left s f h = record {
-  long = h;
-  by = refl;
+pub skipped-none : (script chars : List ℕ) (left : ℕ) (s : State) → Fit script s.cursor → Skipped script chars left s s
+skipped-none script chars left s f = record {
+  stood = refl;
   fit = f;
   later = omega arith;
   behind = refl;
@@ -157,21 +155,17 @@ skipped-none script chars left s f h = record {
   same = λ o p t. refl;
 }
 
-pub skipped-past : (script chars : List ℕ) (left : ℕ) (s : List ℕ) → (left ≡ 0 → ⊥) → (from : Cursor) → from ≡ place_in s →
-    (past : Cursor) →
-    events_at script chars past ≡ past_unbuilt 0 (events_at script chars from) → Fit script past → from.at ≤ past.at → (s' : List ℕ) →
-    Stood s past s' → Skipped script chars left s s'
-skipped-past script chars left s h from is past q f l s' w =
-    let xs = events_at script chars (place_in s) in
-    let there : events_at script chars (place_in s') ≡ past_unbuilt 0 xs = ap (events_at script chars) w.place ∙ q
-    ∙ ap (λ c. past_unbuilt 0 (events_at script chars c)) is in
+pub skipped-past : (script chars : List ℕ) (left : ℕ) (s : State) → (left ≡ 0 → ⊥) → (past : Cursor) →
+    events_at script chars past ≡ past_unbuilt 0 (events_at script chars s.cursor) → Fit script past → s.cursor.at ≤ past.at →
+    Skipped script chars left s (record s { cursor = past })
+skipped-past script chars left s h past q f l =
+    let xs = events_at script chars s.cursor in
     record {
-      long = w.long;
-      by = w.origin;
-      fit = subst (Fit script) (sym w.place) f;
-      later = omega (arith, l, ap (λ (x : Cursor). x.at) w.place, ap (λ (x : Cursor). x.at) is);
-      behind = ap (leave 0) there ∙ leave-unbuilt 0 xs;
-      lies = λ y. subst (Lies chars) (sym there) (lies-unbuilt chars 0 xs y);
-      same = λ o p t. ap (λ zs. each (node (plain chars) (events script chars) left) (children_from 0 zs) o (is_copied o) p t) there
+      stood = refl;
+      fit = f;
+      later = l;
+      behind = ap (leave 0) q ∙ leave-unbuilt 0 xs;
+      lies = λ y. subst (Lies chars) (sym q) (lies-unbuilt chars 0 xs y);
+      same = λ o p t. ap (λ zs. each (node (plain chars) (events script chars) left) (children_from 0 zs) o (is_copied o) p t) q
           ∙ each-unbuilt chars (events script chars) left (let z : 1 ≤ left = omega (arith, h) in z) o (is_copied o) p t 0 xs;
     }

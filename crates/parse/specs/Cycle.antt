@@ -1,5 +1,5 @@
 -- The recursion as the code has it: names, and a node begun.
-use Rattle.std.specs.Prelude.{ℕ, zero, ◌-◌, ◌≤◌, ◌≡◌, Bool, true, false, not, List, eqb, leb}
+use Rattle.std.specs.Prelude.{ℕ, zero, ◌-◌, ◌≤◌, ◌≡◌, Bool, true, false, not, List, eqb, leb, Result, Ok, Err}
 use Rattle.model.specs.Base.{pick, and}
 use Rattle.model.specs.EId
 use Rattle.model.specs.Names.{is_element}
@@ -12,6 +12,8 @@ use Rattle.walk.specs.Nodes.{element_of, node_at}
 use Rattle.walk.specs.Values.{events_at, SameNodes}
 use Rattle.tree.specs.Lent.{tree_of}
 use Rattle.label.specs.Whole.{Underway, Closed}
+use Rattle.refusal.specs.declared.Refusal.{Refusal}
+use Rattle.refusal.specs.Number.{number_of}
 use Rattle.parse.specs.declared.Begun.{Begun}
 use Rattle.parse.specs.declared.Begun.TheVariants as begun
 
@@ -58,14 +60,14 @@ module _ (script chars : List ℕ) (left : ℕ) (ignored : Bool) (p : ℕ) (e : 
     pub nodes : SameNodes script chars e.inside c
     pub more : t.node_count ≤ u.node_count
 
-  abbrev pub BegunFit : List ℕ → List ℕ → List ℕ → Begun → Type 0
-  BegunFit ns ats bs (begun.Refused k) = (origin : ℕ) → refused k ≡ node_built script chars left origin ignored p e t
-  BegunFit ns ats bs (begun.Passed k c) =
+  abbrev pub BegunFit : List ℕ → List ℕ → List ℕ → Result Begun Refusal → Type 0
+  BegunFit ns ats bs (Err r) = (origin : ℕ) → refused (number_of r) ≡ node_built script chars left origin ignored p e t
+  BegunFit ns ats bs (Ok (begun.Passed k c)) =
       ((origin : ℕ) → done (tree_of ns ats bs k) ≡ node_built script chars left origin ignored p e t)
       × Closed script chars e.inside t.node_count (tree_of ns ats bs k) c
-  BegunFit ns ats bs (begun.Children k c) =
+  BegunFit ns ats bs (Ok (begun.Children k c)) =
       ((origin : ℕ) → children_built script chars (left - 1) origin ignored t.node_count c (tree_of ns ats bs k)
       ≡ node_built script chars left origin ignored p e t) × Made (tree_of ns ats bs k) c
-  BegunFit ns ats bs (begun.Use k c) =
+  BegunFit ns ats bs (Ok (begun.Use k c)) =
       ((origin : ℕ) → copy_built script chars left origin t.node_count e (tree_of ns ats bs k)
       ≡ node_built script chars left origin ignored p e t) × Made (tree_of ns ats bs k) c

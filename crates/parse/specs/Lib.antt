@@ -1,4 +1,3 @@
 pub mod Cycle
-pub mod State
 pub mod Met
 pub mod Unbuilt

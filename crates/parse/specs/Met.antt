@@ -1,18 +1,22 @@
--- One node met by the recursion, and what is left of it, by what the two arrays hold.
-use Rattle.std.specs.Prelude.{ℕ, zero, suc, ◌+◌, ◌-◌, ◌<◌, ◌≤◌, ◌≡◌, Bool, not, List, [], ◌∷◌, eqb, length}
+-- One node met by the recursion, and what is left of it, by where the recursion stands.
+use Rattle.std.specs.Prelude.{ℕ, ◌+◌, ◌-◌, ◌≤◌, ◌≡◌, Bool, not, List, [], ◌∷◌, eqb, length, Result, Ok, Err}
 use Rattle.model.specs.Drawing as model
 use Rattle.model.specs.Drawing.{Event, begin, close, events, use_target}
 use Rattle.model.specs.Tables.{Tree, Out, refused, done}
 use Rattle.model.specs.Parse.{node, plain}
 use Rattle.model.specs.Theorems.Kept.{Tidy}
+use Rattle.refusal.specs.declared.Refusal.{Refusal}
+use Rattle.refusal.specs.Number.{number_of}
 use Rattle.script.specs.declared.cursor.Cursor.{Cursor}
 use Rattle.script.specs.Step.{Fit}
 use Rattle.walk.specs.declared.node.Opened.{Opened}
 use Rattle.walk.specs.Nodes.{element_of, node_at, leave, Standing}
 use Rattle.walk.specs.Values.{events_at}
 use Rattle.label.specs.Whole.{Counted, Underway}
+use Rattle.parse.specs.declared.State.{State}
+use Rattle.parse.specs.declared.met.Met.{Met}
+use Rattle.parse.specs.declared.met.Met.TheVariants.{Passed, Children, Copy, End}
 use Rattle.parse.specs.Cycle.{children_built}
-use Rattle.parse.specs.State.{place_in, aside_in, copier_in, origin_in, number_in, Stood, StoodAside}
 
 -- Are nodes copied that have this origin? Then their ids are ignored.
 abbrev pub is_copied : ℕ → Bool
@@ -46,154 +50,143 @@ level_built script chars left origin p from t = children_built script chars left
 
 -- THE OUTCOME
 
--- What a function of the recursion answers: 0, or else the tables are refused with the number that is kept.
-abbrev pub outcome_of : List ℕ → Tree → ℕ → Out Tree
-outcome_of k t zero = done t
-outcome_of k t (suc r) = refused (number_in k)
+-- What a function of the recursion answers: the tables are built, or refused.
+abbrev pub outcome_of : Tree → Result (Unit {0}) Refusal → Out Tree
+outcome_of t (Ok _) = done t
+outcome_of t (Err r) = refused (number_of r)
 
 -- The tables as they are behind a step: no fewer than n nodes, and the cursor before the nodes xs, at or behind `low`.
-pub record Reached (script chars : List ℕ) (origin : ℕ) (xs : List Event) (low n : ℕ) (s k : List ℕ) (t : Tree) : Type 0 where
-  pub long : length s ≡ 10
-  pub wide : length k ≡ 4
-  pub by : origin_in s ≡ origin
-  pub fit : Fit script (place_in s)
-  pub later : low ≤ (place_in s).at
-  pub behind : events_at script chars (place_in s) ≡ xs
+pub record Reached (script chars : List ℕ) (origin : ℕ) (xs : List Event) (low n : ℕ) (s : State) (t : Tree) : Type 0 where
+  pub by : s.origin ≡ origin
+  pub fit : Fit script s.cursor
+  pub later : low ≤ s.cursor.at
+  pub behind : events_at script chars s.cursor ≡ xs
   pub tidy : Tidy (length chars) t
   pub few : Counted t
   pub more : n ≤ t.node_count
 
 -- WHAT IS LEFT OF A NODE
 
--- By what was met: 0, the node is done; 1, its children come next; 2, what it copies; any other, it is refused.
-module _ (script chars : List ℕ) (left i : ℕ) (s k : List ℕ) (t : Tree) where
-  abbrev pub rest_built : ℕ → Out Tree
-  rest_built zero = done t
-  rest_built (suc zero) = level_built script chars (left - 1) (origin_in s) i (place_in s) t
-  rest_built (suc (suc zero)) = first_of script chars (left - 2) (copier_in s) i (events_at script chars (place_in s)) t
-  rest_built (suc (suc (suc m))) = refused (number_in k)
+-- By what was met: the node is done; its children come next; or what it copies. An end is none.
+module _ (script chars : List ℕ) (left i : ℕ) (s : State) (t : Tree) where
+  abbrev pub rest_built : Met → Out Tree
+  rest_built Passed = done t
+  rest_built Children = level_built script chars (left - 1) s.origin i s.cursor t
+  rest_built Copy = first_of script chars (left - 2) s.copier i (events_at script chars s.cursor) t
+  rest_built End = done t
 
   -- The node is done.
   pub record Idle : Type 0 where
-    pub long : length s ≡ 10
-    pub wide : length k ≡ 4
-    pub fit : Fit script (place_in s)
+    pub fit : Fit script s.cursor
     pub tidy : Tidy (length chars) t
     pub few : Counted t
 
   -- Its children can be built.
   pub record Inside : Type 0 where
-    pub long : length s ≡ 10
-    pub wide : length k ≡ 4
     pub above : 1 ≤ left
-    pub under : Underway script chars t i (place_in s)
+    pub under : Underway script chars t i s.cursor
 
   -- What it copies can be built, and where its own children begin is known.
   pub record Copying : Type 0 where
-    pub long : length s ≡ 10
-    pub wide : length k ≡ 4
     pub above : 1 ≤ left
-    pub under : Underway script chars t i (place_in s)
-    pub opens : Opens (events_at script chars (place_in s))
-    pub aside : Underway script chars t i (aside_in s)
+    pub under : Underway script chars t i s.cursor
+    pub opens : Opens (events_at script chars s.cursor)
+    pub aside : Underway script chars t i s.children
 
-  abbrev pub RestFit : ℕ → Type 0
-  RestFit zero = Idle
-  RestFit (suc zero) = Inside
-  RestFit (suc (suc zero)) = Copying
-  RestFit (suc (suc (suc m))) = Unit {0}
+  abbrev pub RestFit : Met → Type 0
+  RestFit Passed = Idle
+  RestFit Children = Inside
+  RestFit Copy = Copying
+  RestFit End = ⊥
 
 -- The nodes behind it, and the place before them or before what is passed over on the way there.
-abbrev pub rest_nodes : List ℕ → List ℕ → List ℕ → ℕ → List Event
-rest_nodes script chars s zero = events_at script chars (place_in s)
-rest_nodes script chars s (suc zero) = leave 0 (events_at script chars (place_in s))
-rest_nodes script chars s (suc (suc m)) = leave 0 (events_at script chars (aside_in s))
+abbrev pub rest_nodes : List ℕ → List ℕ → State → Met → List Event
+rest_nodes script chars s Passed = events_at script chars s.cursor
+rest_nodes script chars s Children = leave 0 (events_at script chars s.cursor)
+rest_nodes script chars s Copy = leave 0 (events_at script chars s.children)
+rest_nodes script chars s End = []
 
-abbrev pub rest_at : List ℕ → ℕ → ℕ
-rest_at s zero = (place_in s).at
-rest_at s (suc zero) = (place_in s).at
-rest_at s (suc (suc m)) = (aside_in s).at
+abbrev pub rest_at : State → Met → ℕ
+rest_at s Passed = s.cursor.at
+rest_at s Children = s.cursor.at
+rest_at s Copy = s.children.at
+rest_at s End = s.cursor.at
 
 -- A NODE MET
 
 -- The first of the nodes xs, met below p in the tables t: what is left of it, in the tables u, makes it whole.
-pub record MetNode (script chars : List ℕ) (left origin p : ℕ) (xs : List Event) (low : ℕ) (t : Tree) (s k : List ℕ) (u : Tree)
-    (code : ℕ) : Type 0 where
-  pub built : rest_built script chars left t.node_count s k u code ≡ first_of script chars left origin p xs t
-  pub some : code ≡ 3 → ⊥
-  pub rest : RestFit script chars left t.node_count s k u code
-  pub by : code < 3 → origin_in s ≡ origin
-  pub behind : code < 3 → rest_nodes script chars s code ≡ next_of xs
-  pub later : code < 3 → low ≤ rest_at s code
-  pub more : code < 3 → t.node_count ≤ u.node_count
+pub record MetNode (script chars : List ℕ) (left origin p : ℕ) (xs : List Event) (low : ℕ) (t : Tree) (s : State) (u : Tree) (met : Met)
+    : Type 0 where
+  pub built : rest_built script chars left t.node_count s u met ≡ first_of script chars left origin p xs t
+  pub rest : RestFit script chars left t.node_count s u met
+  pub by : s.origin ≡ origin
+  pub behind : rest_nodes script chars s met ≡ next_of xs
+  pub later : low ≤ rest_at s met
+  pub more : t.node_count ≤ u.node_count
+
+-- Met, or refused.
+abbrev pub MetOr : List ℕ → List ℕ → ℕ → ℕ → ℕ → List Event → ℕ → Tree → State → Tree → Result Met Refusal → Type 0
+MetOr script chars left origin p xs low t s u (Ok met) = MetNode script chars left origin p xs low t s u met
+MetOr script chars left origin p xs low t s u (Err r) = refused (number_of r) ≡ first_of script chars left origin p xs t
 
 -- There was none: the cursor stood before the close of the element around it, and stands behind it.
-pub record MetEnd (script chars : List ℕ) (left origin p : ℕ) (from : Cursor) (t : Tree) (s k : List ℕ) (u : Tree) : Type 0 where
+pub record MetEnd (script chars : List ℕ) (left origin p : ℕ) (from : Cursor) (t : Tree) (s : State) (u : Tree) : Type 0 where
   pub none : Opens (events_at script chars from) → ⊥
   pub built : done u ≡ level_built script chars left origin p from t
-  pub reached : Reached script chars origin (leave 0 (events_at script chars from)) from.at t.node_count s k u
+  pub reached : Reached script chars origin (leave 0 (events_at script chars from)) from.at t.node_count s u
 
--- What stood at the cursor `from`: 3 is the end.
-module _ (script chars : List ℕ) (left origin p : ℕ) (from : Cursor) (t : Tree) (s k : List ℕ) (u : Tree) where
-  pub record MetFirst (code : ℕ) : Type 0 where
+-- What stood at the cursor `from`.
+module _ (script chars : List ℕ) (left origin p : ℕ) (from : Cursor) (t : Tree) (s : State) (u : Tree) where
+  pub record MetFirst (met : Result Met Refusal) : Type 0 where
     pub opens : Opens (events_at script chars from)
-    pub node : MetNode script chars left origin p (events_at script chars from) (from.at + 1) t s k u code
+    pub node : MetOr script chars left origin p (events_at script chars from) (from.at + 1) t s u met
 
-  abbrev pub MetFit : ℕ → Type 0
-  MetFit zero = MetFirst 0
-  MetFit (suc zero) = MetFirst 1
-  MetFit (suc (suc zero)) = MetFirst 2
-  MetFit (suc (suc (suc zero))) = MetEnd script chars left origin p from t s k u
-  MetFit (suc (suc (suc (suc m)))) = MetFirst (suc (suc (suc (suc m))))
+  abbrev pub MetFit : Result Met Refusal → Type 0
+  MetFit (Ok Passed) = MetFirst (Ok Passed)
+  MetFit (Ok Children) = MetFirst (Ok Children)
+  MetFit (Ok Copy) = MetFirst (Ok Copy)
+  MetFit (Ok End) = MetEnd script chars left origin p from t s u
+  MetFit (Err r) = MetFirst (Err r)
 
 -- WHAT A USE COPIES
 
 -- The use e, whose children begin at `children`, copies an element, and the cursor stands at it.
-pub record CopyAt (script chars : List ℕ) (e : Opened) (children : Cursor) (s s' : List ℕ) : Type 0 where
+pub record CopyAt (script chars : List ℕ) (e : Opened) (children : Cursor) (s s' : State) : Type 0 where
   pub target : Opened
   pub stands : Standing script target
-  pub same : node_at script chars target ≡ use_target (events script chars) (element_of script chars e) (origin_in s)
-  pub stood : StoodAside s target.own children (e.own.number + 1) s'
+  pub same : node_at script chars target ≡ use_target (events script chars) (element_of script chars e) s.origin
+  pub stood : s' ≡ record s { cursor = target.own; children = children; copier = e.own.number + 1 }
 
 -- It copies nothing, and the cursor stands behind it.
-pub record CopyNone (script chars : List ℕ) (e : Opened) (children : Cursor) (s s' : List ℕ) : Type 0 where
-  pub none : [] ≡ use_target (events script chars) (element_of script chars e) (origin_in s)
+pub record CopyNone (script chars : List ℕ) (e : Opened) (children : Cursor) (s s' : State) : Type 0 where
+  pub none : [] ≡ use_target (events script chars) (element_of script chars e) s.origin
   pub past : Cursor
   pub fit : Fit script past
   pub later : children.at ≤ past.at
   pub behind : events_at script chars past ≡ leave 0 (events_at script chars children)
-  pub stood : Stood s past s'
+  pub stood : s' ≡ record s { cursor = past }
 
-abbrev pub CopyFit : List ℕ → List ℕ → Opened → Cursor → List ℕ → List ℕ → ℕ → Type 0
-CopyFit script chars e children s s' zero = CopyNone script chars e children s s'
-CopyFit script chars e children s s' (suc zero) = ⊥
-CopyFit script chars e children s s' (suc (suc zero)) = CopyAt script chars e children s s'
-CopyFit script chars e children s s' (suc (suc (suc m))) = ⊥
+abbrev pub CopyFit : List ℕ → List ℕ → Opened → Cursor → State → State → Met → Type 0
+CopyFit script chars e children s s' Passed = CopyNone script chars e children s s'
+CopyFit script chars e children s s' Children = ⊥
+CopyFit script chars e children s s' Copy = CopyAt script chars e children s s'
+CopyFit script chars e children s s' End = ⊥
 
 -- A NODE HANDED OVER
 
 -- Behind a text, or a node that is no element: refused with 20 where no level is left, else only the cursor is moved.
-pub record HandedOn (left : ℕ) (n : Cursor) (s s' k k' : List ℕ) : Type 0 where
-  pub above : 1 ≤ left
-  pub stood : Stood s n s'
-  pub kept : k' ≡ k
-
-pub record HandedDeep (left : ℕ) (k' : List ℕ) : Type 0 where
-  pub deep : left ≡ 0
-  pub number : number_in k' ≡ 20
-
-abbrev pub HandedFit : ℕ → Cursor → List ℕ → List ℕ → List ℕ → List ℕ → ℕ → Type 0
-HandedFit left n s s' k k' zero = HandedOn left n s s' k k'
-HandedFit left n s s' k k' (suc zero) = ⊥
-HandedFit left n s s' k k' (suc (suc zero)) = ⊥
-HandedFit left n s s' k k' (suc (suc (suc zero))) = ⊥
-HandedFit left n s s' k k' (suc (suc (suc (suc m)))) = HandedDeep left k'
+abbrev pub HandedFit : ℕ → Cursor → State → State → Result Met Refusal → Type 0
+HandedFit left n s s' (Ok Passed) = (1 ≤ left) × (s' ≡ record s { cursor = n })
+HandedFit left n s s' (Ok Children) = ⊥
+HandedFit left n s s' (Ok Copy) = ⊥
+HandedFit left n s s' (Ok End) = ⊥
+HandedFit left n s s' (Err r) = (left ≡ 0) × (number_of r ≡ 20)
 
 -- PASSED OVER
 
--- The cursor stands behind the element whose children begin at c.
-pub record PastFit (script chars : List ℕ) (c : Cursor) (s : List ℕ) : Type 0 where
-  pub long : length s ≡ 10
-  pub fit : Fit script (place_in s)
-  pub later : c.at ≤ (place_in s).at
-  pub behind : events_at script chars (place_in s) ≡ leave 0 (events_at script chars c)
+-- The cursor stands behind the element whose children begin at c, and nothing else is changed.
+pub record PastFit (script chars : List ℕ) (c : Cursor) (s s' : State) : Type 0 where
+  pub stood : s' ≡ record s { cursor = s'.cursor }
+  pub fit : Fit script s'.cursor
+  pub later : c.at ≤ s'.cursor.at
+  pub behind : events_at script chars s'.cursor ≡ leave 0 (events_at script chars c)

@@ -1,5 +1,5 @@
 -- Nodes of which nothing is built: texts, comments, and elements that become no nodes.
-use Rattle.std.specs.Prelude.{ℕ, zero, suc, ◌≤◌, ◌≡◌, Bool, false, List, [], ◌∷◌, length}
+use Rattle.std.specs.Prelude.{ℕ, zero, suc, ◌≤◌, ◌≡◌, Bool, false, List, [], ◌∷◌}
 use Rattle.model.specs.Base.{pick}
 use Rattle.model.specs.Drawing as model
 use Rattle.model.specs.Drawing.{Event, begin, close}
@@ -9,7 +9,7 @@ use Rattle.walk.specs.Nodes.{leave}
 use Rattle.walk.specs.Values.{events_at}
 use Rattle.label.specs.Walk.{Lies}
 use Rattle.parse.specs.Cycle.{is_parsed}
-use Rattle.parse.specs.State.{place_in, origin_in}
+use Rattle.parse.specs.declared.State.{State}
 use Rattle.parse.specs.Met.{level_built}
 
 -- Is something built of an element with that name, with k elements open around it that become no nodes?
@@ -28,12 +28,11 @@ past_unbuilt zero (close ∷ xs) = close ∷ xs
 past_unbuilt (suc k) (close ∷ xs) = past_unbuilt k xs
 
 -- The cursor is moved over some of them, with that many levels left: what comes of the others is what comes of all.
-pub record Skipped (script chars : List ℕ) (left : ℕ) (s s' : List ℕ) : Type 0 where
-  pub long : length s' ≡ 10
-  pub by : origin_in s' ≡ origin_in s
-  pub fit : Fit script (place_in s')
-  pub later : (place_in s).at ≤ (place_in s').at
-  pub behind : leave 0 (events_at script chars (place_in s')) ≡ leave 0 (events_at script chars (place_in s))
-  pub lies : Lies chars (events_at script chars (place_in s)) → Lies chars (events_at script chars (place_in s'))
+pub record Skipped (script chars : List ℕ) (left : ℕ) (s s' : State) : Type 0 where
+  pub stood : s' ≡ record s { cursor = s'.cursor }
+  pub fit : Fit script s'.cursor
+  pub later : s.cursor.at ≤ s'.cursor.at
+  pub behind : leave 0 (events_at script chars s'.cursor) ≡ leave 0 (events_at script chars s.cursor)
+  pub lies : Lies chars (events_at script chars s.cursor) → Lies chars (events_at script chars s'.cursor)
   pub same : (origin p : ℕ) (t : Tree) →
-      level_built script chars left origin p (place_in s') t ≡ level_built script chars left origin p (place_in s) t
+      level_built script chars left origin p s'.cursor t ≡ level_built script chars left origin p s.cursor t

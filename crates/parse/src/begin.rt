@@ -6,11 +6,11 @@ ghost use Rattle.parse.specs.Cycle.{IsText, IsOther, BegunFit};
 
 use crate::Begun;
 use crate::name::{is_parsed, tag_of};
-use element::Parsed;
 use element::parse::parse_svg_element;
 use label::whole::parse_svg_text_element;
 use names::eid;
 use pieces::content::code_of;
+use refusal::Refusal;
 use tree::Counts;
 use walk::node::{Opened, past_element};
 
@@ -27,7 +27,7 @@ fn begin_text(
     ignored: bool,
     parent: u32,
     e: Opened,
-) -> Begun
+) -> Result<Begun, Refusal>
     requires beginning { Beginning script.now characters.now (tree_of nodes.old attributes.old text.old counts) parent e }
     requires text { IsText left e.name e.space }
     requires memo { Memo script.now characters.now slots.now }
@@ -35,12 +35,10 @@ fn begin_text(
         (tree_of nodes.old attributes.old text.old counts)
         nodes.new attributes.new text.new result }
 {
-    match parse_svg_text_element(
+    let parsed = parse_svg_text_element(
         script, characters, slots, nodes, attributes, text, counts, parent, ignored, e,
-    ) {
-        Parsed::Refused(k) => Begun::Refused(k),
-        Parsed::Done(taken, behind) => Begun::Passed(taken, behind),
-    }
+    )?;
+    Ok(Begun::Passed(parsed.counts, parsed.behind))
 }
 
 // Any other element e.
@@ -55,7 +53,7 @@ fn begin_element(
     ignored: bool,
     parent: u32,
     e: Opened,
-) -> Begun
+) -> Result<Begun, Refusal>
     requires beginning { Beginning script.now characters.now (tree_of nodes.old attributes.old text.now counts) parent e }
     requires other { IsOther left e.name e.space }
     ensures { BegunFit script.now characters.now left ignored parent e
@@ -63,7 +61,7 @@ fn begin_element(
         nodes.new attributes.new text.now result }
 {
     let code = code_of(e.name);
-    match parse_svg_element(
+    let parsed = parse_svg_element(
         script,
         characters,
         nodes,
@@ -73,15 +71,11 @@ fn begin_element(
         tag_of(code),
         ignored,
         e,
-    ) {
-        Parsed::Refused(k) => Begun::Refused(k),
-        Parsed::Done(taken, behind) => {
-            if code == eid::USE {
-                return Begun::Use(taken, behind);
-            }
-            Begun::Children(taken, behind)
-        }
+    )?;
+    if code == eid::USE {
+        return Ok(Begun::Use(parsed.counts, parsed.behind));
     }
+    Ok(Begun::Children(parsed.counts, parsed.behind))
 }
 
 // The element e below `parent`; `left` is 1025 minus its depth. Depth is tested first. An element that becomes no node is passed over with
@@ -98,7 +92,7 @@ pub fn begin_node(
     ignored: bool,
     parent: u32,
     e: Opened,
-) -> Begun
+) -> Result<Begun, Refusal>
     requires beginning { Beginning script.now characters.now (tree_of nodes.old attributes.old text.old counts) parent e }
     requires memo { Memo script.now characters.now slots.now }
     ensures { BegunFit script.now characters.now left ignored parent e
@@ -107,11 +101,11 @@ pub fn begin_node(
 {
     let inside = e.inside;
     if left == 0 {
-        return Begun::Refused(20);
+        return Err(Refusal::ElementsLimitReached);
     }
     if !is_parsed(e.name, e.space) {
         let past = past_element(script, characters, inside);
-        return Begun::Passed(counts, past);
+        return Ok(Begun::Passed(counts, past));
     }
     if code_of(e.name) == eid::TEXT {
         return begin_text(

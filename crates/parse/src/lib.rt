@@ -8,14 +8,24 @@ pub mod begin;
 pub mod met;
 pub mod name;
 pub mod node;
-pub mod state;
 pub mod unbuilt;
 
-// What a node comes to before what stands below it is built: it is refused, it is done and the cursor stands behind it, or its own element
-// stands in the tables, and its children, or what it copies, come next, from the cursor inside it.
+// Where the recursion stands, and how much of the tables is taken: it is lent to every level, and a level's own frame has none of it. A
+// cursor, where the children of the last `use` that copies begin, the number of that `use`, and the number of the `use` by which the nodes
+// at the cursor are copied, 0 for none.
+#[derive(Clone, Copy)]
+pub struct State {
+    pub cursor: Cursor,
+    pub children: Cursor,
+    pub copier: usize,
+    pub origin: usize,
+    pub counts: Counts,
+}
+
+// What a node comes to before what stands below it is built: it is done and the cursor stands behind it, or its own element stands in the
+// tables, and its children, or what it copies, come next, from the cursor inside it.
 #[derive(Clone, Copy)]
 pub enum Begun {
-    Refused(u32),
     Passed(Counts, Cursor),
     Children(Counts, Cursor),
     Use(Counts, Cursor),

@@ -10,10 +10,7 @@ use walk::node::has_tag_name;
 pub fn is_parsed(name: u8, space: u8) -> bool
     ensures { result ≡ is_parsed name space }
 {
-    if !has_tag_name(name, space) {
-        return false;
-    }
-    name as u32 != eid::STYLE
+    has_tag_name(name, space) && u32::from(name) != eid::STYLE
 }
 
 // Its name in the tree: a link is a group.
@@ -30,10 +27,7 @@ pub fn tag_of(name: u32) -> u32
 pub fn two_less(left: u32) -> u32
     ensures { result ≡ left - 2 }
 {
-    if left < 2 {
-        return 0;
-    }
-    left - 2
+    left.saturating_sub(2)
 }
 
 // Are nodes copied that have this origin? Then their ids are ignored.

@@ -1,12 +1,11 @@
 // Nodes of which nothing is built are passed over, many at a time.
-ghost use Rattle.std.specs.Prelude.{◌≡◌, ◌≤◌, length};
+ghost use Rattle.std.specs.Prelude.{◌≡◌, ◌≤◌};
 ghost use Rattle.script.specs.Step.{Fit};
 ghost use Rattle.walk.specs.Values.{events_at};
-ghost use Rattle.parse.specs.State.{place_in};
 ghost use Rattle.parse.specs.Unbuilt.{is_built, past_unbuilt, Skipped};
 
+use crate::State;
 use crate::name::is_parsed;
-use crate::state::{stand, standing};
 use script::cursor::Cursor;
 use walk::node::{Item, next_item, past_others};
 
@@ -14,10 +13,7 @@ use walk::node::{Item, next_item, past_others};
 fn is_built(level: usize, name: u8, space: u8) -> bool
     ensures { result ≡ is_built level name space }
 {
-    if level == 0 {
-        return is_parsed(name, space);
-    }
-    false
+    level == 0 && is_parsed(name, space)
 }
 
 // Behind the texts, comments and elements that become no nodes, from the cursor on.
@@ -60,15 +56,12 @@ fn past_unbuilt(script: &[u8], characters: &[u8], from: Cursor) -> Cursor
 }
 
 // The cursor is moved over such nodes, if a level is left for them.
-pub fn pass_unbuilt(place: &mut [usize; 10], script: &[u8], characters: &[u8], left: u32)
-    requires fit { Fit script.now (place_in place.old) }
-    requires place_len { length place.old ≡ 10 }
-    ensures { Skipped script.now characters.now left place.old place.new }
+pub fn pass_unbuilt(state: &mut State, script: &[u8], characters: &[u8], left: u32)
+    requires { Fit script.now state.old.cursor }
+    ensures { Skipped script.now characters.now left state.old state.new }
 {
     if left == 0 {
         return;
     }
-    let from = standing(place);
-    let past = past_unbuilt(script, characters, from);
-    stand(place, past);
+    state.cursor = past_unbuilt(script, characters, state.cursor);
 }

@@ -11,7 +11,8 @@ use Rattle.model.specs.Theorems.Sim.{Every}
 use Rattle.model.specs.Theorems.Inside.{LiesText}
 use Rattle.script.specs.declared.cursor.Cursor.{Cursor}
 use Rattle.script.specs.Step.{Fit, mark_of}
-use Rattle.walk.specs.declared.node.NextText.TheVariants as next_text
+use Rattle.std.specs.Prelude.{Some, None}
+use Rattle.walk.specs.declared.node.TextAt.{TextAt}
 use Rattle.walk.specs.Values.{events_at}
 use Rattle.tree.proofs.Entries.{part_of}
 use Rattle.text.specs.declared.Trimmed.{Trimmed}
@@ -88,9 +89,15 @@ putting-none w s chars place c q h = record {
 
 module _ (w : XmlSpace) (s chars place₀ : List ℕ) (from : Cursor) (place : List ℕ) (c : Cursor) (k : ℕ) (d : Trimmed)
     (h : Putting w s chars place₀ from place c k d) where
-  module _ (own : Cursor) (l : ℕ) (n : Cursor) (j : ℕ) (t : TextIs s chars c k (next_text.At own l n j)) where
+  module _ (x : TextAt) (t : TextIs s chars c k (Some x)) where
+    abbrev own : Cursor
+    own = x.own
+
+    abbrev l : ℕ
+    l = x.len
+
     abbrev rest : List Source
-    rest = texts_in j (events_at s chars n)
+    rest = texts_in x.open_elements (events_at s chars x.behind)
 
     abbrev part : List ℕ
     part = slice own.chars (own.chars + l) chars
@@ -116,7 +123,7 @@ module _ (w : XmlSpace) (s chars place₀ : List ℕ) (from : Cursor) (place : L
     fewer = omega (arith, trim-less w d.prev part, slice-most own.chars l chars)
 
     pub putting-more : (d' : Trimmed) → d' ≡ trimmed w d part → (place' : List ℕ) → place' ≡ sets place d.size put →
-        Putting w s chars place₀ from place' n j d'
+        Putting w s chars place₀ from place' x.behind x.open_elements d'
     putting-more d' e place' q = rw (e, q) (record {
       fit = t.1.behind.fit;
       low = t.1.low;
@@ -132,7 +139,7 @@ module _ (w : XmlSpace) (s chars place₀ : List ℕ) (from : Cursor) (place : L
       text = sets-on put (trim_each w (last_after d.prev part) chars rest) place d.size ∙ ap (sets place d.size) trims ∙ h.text;
     })
 
-  pub putting-all : TextIs s chars c k next_text.End →
+  pub putting-all : TextIs s chars c k None →
       (d.size ≡ length (trim_text w (joined chars (texts_from s chars from))))
       × (place ≡ sets place₀ 0 (trim_text w (joined chars (texts_from s chars from))))
   unfolding trim_each

@@ -7,17 +7,17 @@ use Rattle.model.specs.Drawing.{texts_in}
 use Rattle.model.specs.Text.{total_size}
 use Rattle.script.specs.declared.cursor.Cursor.{Cursor}
 use Rattle.script.specs.Step.{Fit}
-use Rattle.walk.specs.declared.node.NextText.{NextText}
-use Rattle.walk.specs.declared.node.NextText.TheVariants as next_text
+use Rattle.std.specs.Prelude.{Option, Some, None}
+use Rattle.walk.specs.declared.node.TextAt.{TextAt}
 use Rattle.walk.specs.Values.{events_at}
 use Rattle.walk.specs.Nodes.{sources_of, TextFit}
 use Rattle.pieces.specs.Quotes.{texts_from}
 
 -- What next_text says of its answer.
-abbrev pub TextIs : List ℕ → List ℕ → Cursor → ℕ → NextText → Type 0
+abbrev pub TextIs : List ℕ → List ℕ → Cursor → ℕ → Option TextAt → Type 0
 TextIs s chars c k r = (sources_of s chars r ≡ texts_in k (events_at s chars c)) × TextFit s c r
 
-pub text-told : (s chars : List ℕ) (c : Cursor) (k : ℕ) (r x : NextText) → r ≡ x → TextIs s chars c k r → TextIs s chars c k x
+pub text-told : (s chars : List ℕ) (c : Cursor) (k : ℕ) (r x : Option TextAt) → r ≡ x → TextIs s chars c k r → TextIs s chars c k x
 text-told s chars c k r x e h = subst (TextIs s chars c k) e h
 
 -- The bytes of the texts up to c, with k elements open there. A command takes a byte of the script, and a text has fewer than 2^32.
@@ -31,18 +31,18 @@ pub summed-none : (s chars : List ℕ) (c : Cursor) → Fit s c → Summed s cha
 summed-none s chars c f = record { fit = f; low = omega arith; most = omega arith; same = omega arith }
 
 module _ (s chars : List ℕ) (from c : Cursor) (k sum : ℕ) (w : Summed s chars from c k sum) where
-  pub summed-more : (own : Cursor) (l : ℕ) (n : Cursor) (j : ℕ) → l ≤ 4294967295 → TextIs s chars c k (next_text.At own l n j) →
-      Summed s chars from n j (sum + l)
+  pub summed-more : (x : TextAt) → x.len ≤ 4294967295 → TextIs s chars c k (Some x) →
+      Summed s chars from x.behind x.open_elements (sum + x.len)
   unfolding total_size
-  summed-more own l n j h t = record {
+  summed-more x h t = record {
     fit = t.1.behind.fit;
     low = t.1.low;
     most = omega (arith, w.most, t.1.behind.further);
-    same = let e : l + total_size (texts_in j (events_at s chars n)) ≡ total_size (texts_in k (events_at s chars c)) = ap total_size t.0 in
+    same = let e : x.len + total_size (texts_in x.open_elements (events_at s chars x.behind)) ≡ total_size (texts_in k (events_at s chars c)) = ap total_size t.0 in
         omega (arith, w.same);
   }
 
-  pub summed-all : TextIs s chars c k next_text.End → sum ≡ total_size (texts_from s chars from)
+  pub summed-all : TextIs s chars c k None → sum ≡ total_size (texts_from s chars from)
   unfolding total_size
   summed-all t =
       let e : 0 ≡ total_size (texts_in k (events_at s chars c)) = ap total_size t.0 in

@@ -11,8 +11,7 @@ use Rattle.text.specs.Spaces.{space_in}
 use Rattle.text.specs.declared.XmlSpace.{XmlSpace as Space}
 use Rattle.text.specs.declared.XmlSpace.TheVariants.{Default, Preserve}
 use Rattle.pieces.specs.declared.Levels.{Levels}
-use Rattle.pieces.specs.declared.Above.{Above}
-use Rattle.pieces.specs.declared.Above.TheVariants as above
+use Rattle.std.specs.Prelude.{Option, Some}
 use Rattle.pieces.specs.Levels.{bit_of, behind, word_of, past, Stored, Told, Pushed, SplitFit, AboveFit}
 
 pub bit-most : (s : XmlSpace) → bit_of s ≤ 1
@@ -80,19 +79,19 @@ module _ (top full : ℕ) where
   halves : (n : ℕ) (f : ℕ → XmlSpace) → top ≡ word_of (suc n) f → (top % 2 ≡ bit_of (f 0)) × (top / 2 ≡ word_of n (behind f))
   halves n f q = (omega (arith, bit-most (f 0)), omega (arith, bit-most (f 0)))
 
-  pub split-default : top % 2 ≡ 0 → SplitFit top full (above.Known Default (record { top = top / 2; full = full }))
+  pub split-default : top % 2 ≡ 0 → SplitFit top full (Default, record { top = top / 2; full = full })
   split-default z n f q = let h = halves n f q in (bit-zero (f 0) (sym h.0 ∙ z), h.1, refl)
 
-  pub split-preserve : (top % 2 ≡ 0 → ⊥) → SplitFit top full (above.Known Preserve (record { top = top / 2; full = full }))
+  pub split-preserve : (top % 2 ≡ 0 → ⊥) → SplitFit top full (Preserve, record { top = top / 2; full = full })
   split-preserve z n f q = let h = halves n f q in (bit-one (f 0) (λ y. z (h.0 ∙ y)), h.1, refl)
 
 module _ (ws : List ℕ) (v : Levels) where
   -- The word that was split has n spaces or more, and the words before it the others.
   split-told : (top full n : ℕ) (f : ℕ → XmlSpace) → 2 ≤ top → top ≡ word_of n f → (length ws ≡ 32) × (full ≤ 32) →
       Stored ws full (past n f) →
-      (s : Space) (r : Levels) → SplitFit top full (above.Known s r) → (space_in s ≡ f 0) × Told ws r (behind f)
-  split-told top full zero f l q few st s r h = absurd (omega arith)
-  split-told top full (suc n) f l q few st s r h =
+      (x : Space × Levels) → SplitFit top full x → (space_in x.0 ≡ f 0) × Told ws x.1 (behind f)
+  split-told top full zero f l q few st x h = absurd (omega arith)
+  split-told top full (suc n) f l q few st x h =
       let k = h n f q in (
         k.0,
         record {
@@ -104,22 +103,19 @@ module _ (ws : List ℕ) (v : Levels) where
         },
       )
 
-  pub pop-top : 2 ≤ v.top → (r : Above) → SplitFit v.top v.full r → AboveFit ws v r
-  pop-top l above.Unknown h = tt
-  pop-top l (above.Known s r) h =
-      λ f told. split-told v.top v.full told.many f l told.top (told.long, told.few) told.stored s r h
+  pub pop-top : 2 ≤ v.top → (x : Space × Levels) → SplitFit v.top v.full x → AboveFit ws v (Some x)
+  pop-top l x h = λ f told. split-told v.top v.full told.many f l told.top (told.long, told.few) told.stored x h
 
-  pub pop-word : v.top < 2 → (last : ℕ) → v.full ≡ last + 1 → 2 ≤ get_or ws last 0 → (r : Above) → SplitFit (get_or ws last 0) last r →
-      AboveFit ws v r
-  pop-word l last full m above.Unknown h = tt
-  pop-word l last full m (above.Known s r) h = λ f told. go f told.many told.top (told.long, told.few) told.stored
+  pub pop-word : v.top < 2 → (last : ℕ) → v.full ≡ last + 1 → 2 ≤ get_or ws last 0 → (x : Space × Levels) →
+      SplitFit (get_or ws last 0) last x → AboveFit ws v (Some x)
+  pop-word l last full m x h = λ f told. go f told.many told.top (told.long, told.few) told.stored
     where
       go : (f : ℕ → XmlSpace) (n : ℕ) → v.top ≡ word_of n f → (length ws ≡ 32) × (v.full ≤ 32) → Stored ws v.full (past n f) →
-          (space_in s ≡ f 0) × Told ws r (behind f)
+          (space_in x.0 ≡ f 0) × Told ws x.1 (behind f)
       go f (suc n) q few st = absurd (omega (arith, word_some n (behind f)))
       go f zero q few st =
           let k : Stored ws (suc last) f = subst (λ j. Stored ws j f) (full ∙ add-one last) st in
-          split-told (get_or ws last 0) last k.0 f m k.1 (few.0, omega (arith, full, few.1)) k.2 s r h
+          split-told (get_or ws last 0) last k.0 f m k.1 (few.0, omega (arith, full, few.1)) k.2 x h
 
-pub above-told : (ws : List ℕ) (v : Levels) (r x : Above) → r ≡ x → AboveFit ws v r → AboveFit ws v x
+pub above-told : (ws : List ℕ) (v : Levels) (r x : Option (Space × Levels)) → r ≡ x → AboveFit ws v r → AboveFit ws v x
 above-told ws v r x q h = subst (AboveFit ws v) q h

@@ -1,11 +1,10 @@
 -- The spaces of the open levels as they are kept in words, a bit for each.
-use Rattle.std.specs.Prelude.{ℕ, zero, suc, ◌+◌, ◌*◌, ◌-◌, ◌≤◌, ◌≡◌, List, length, get_or}
+use Rattle.std.specs.Prelude.{ℕ, zero, suc, ◌+◌, ◌*◌, ◌-◌, ◌≤◌, ◌≡◌, List, length, get_or, Option, Some, None}
 use Rattle.model.specs.Tables.{Tree, parent_of}
 use Rattle.model.specs.Text.{XmlSpace, default, preserve, space_of}
 use Rattle.text.specs.Spaces.{space_in}
 use Rattle.pieces.specs.declared.Levels.{Levels}
-use Rattle.pieces.specs.declared.Above.{Above}
-use Rattle.pieces.specs.declared.Above.TheVariants as above
+use Rattle.text.specs.declared.XmlSpace as declared
 
 -- WORDS
 
@@ -48,16 +47,15 @@ Fresh v = (ws : List ℕ) → length ws ≡ 32 → (f : ℕ → XmlSpace) → To
 abbrev pub Pushed : List ℕ → Levels → XmlSpace → List ℕ → Levels → Type 0
 Pushed ws v s ws' r = (f : ℕ → XmlSpace) → s ≡ f 0 → Told ws v (behind f) → Told ws' r f
 
--- The lowest bit of a word with n spaces or more.
-abbrev pub SplitFit : ℕ → ℕ → Above → Type 0
-SplitFit top full (above.Known s r) =
-    (n : ℕ) (f : ℕ → XmlSpace) → top ≡ word_of (suc n) f → (space_in s ≡ f 0) × (r.top ≡ word_of n (behind f)) × (r.full ≡ full)
-SplitFit top full above.Unknown = ⊥
+-- The lowest bit of a word with n spaces or more, and the others.
+abbrev pub SplitFit : ℕ → ℕ → declared.XmlSpace × Levels → Type 0
+SplitFit top full x =
+    (n : ℕ) (f : ℕ → XmlSpace) → top ≡ word_of (suc n) f → (space_in x.0 ≡ f 0) × (x.1.top ≡ word_of n (behind f)) × (x.1.full ≡ full)
 
 -- One space less.
-abbrev pub AboveFit : List ℕ → Levels → Above → Type 0
-AboveFit ws v (above.Known s r) = (f : ℕ → XmlSpace) → Told ws v f → (space_in s ≡ f 0) × Told ws r (behind f)
-AboveFit ws v above.Unknown = Unit {0}
+abbrev pub AboveFit : List ℕ → Levels → Option (declared.XmlSpace × Levels) → Type 0
+AboveFit ws v (Some x) = (f : ℕ → XmlSpace) → Told ws v f → (space_in x.0 ≡ f 0) × Told ws x.1 (behind f)
+AboveFit ws v None = Unit {0}
 
 -- THE NODES ABOVE
 

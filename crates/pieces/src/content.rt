@@ -9,7 +9,7 @@ use walk::node::has_tag_name;
 pub fn code_of(name: u8) -> u32
     ensures { result ≡ name }
 {
-    name as u32
+    u32::from(name)
 }
 
 // Is it a link, a tspan or a tref, or a textPath directly under the text element?
@@ -36,10 +36,7 @@ fn is_content_name(code: u32, direct: bool) -> bool
 pub fn is_text_content(name: u8, space: u8, direct: bool) -> bool
     ensures { result ≡ is_content name space direct }
 {
-    if !has_tag_name(name, space) {
-        return false;
-    }
-    is_content_name(code_of(name), direct)
+    has_tag_name(name, space) && is_content_name(code_of(name), direct)
 }
 
 // Its name in the tree: a link and a tref are tspans.

@@ -1,8 +1,6 @@
 // The pieces of a text element: which elements are read in it, the texts that its trefs quote, and the spaces of its open levels.
 #![tactic(auto)]
 
-use text::XmlSpace;
-
 pub mod content;
 pub mod quote;
 pub mod remember;
@@ -13,11 +11,4 @@ pub mod remember;
 pub struct Levels {
     pub top: u64,
     pub full: usize,
-}
-
-// The nearest of the spaces that are remembered, and the others.
-#[derive(Clone, Copy)]
-pub enum Above {
-    Known(XmlSpace, Levels),
-    Unknown,
 }

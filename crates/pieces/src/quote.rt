@@ -9,13 +9,14 @@ ghost use Rattle.text.specs.Spaces.{space_in, trimmed};
 ghost use Rattle.text.specs.Append.{Appendable};
 ghost use Rattle.pieces.specs.Quotes.{texts_from, Quotable, quote_in};
 
+use refusal::Refusal;
 use script::cursor::Cursor;
 use text::trim::trim_text;
 use text::{Trimmed, XmlSpace};
 use tree::room::{node_room, text_room};
 use tree::write::append;
-use tree::{Counts, Outcome, word};
-use walk::node::{NextText, next_text};
+use tree::{Counts, Kind, NewNode};
+use walk::node::next_text;
 
 // How many bytes the texts inside an element have together, from its inside on.
 fn quoted_size(script: &[u8], characters: &[u8], from: Cursor) -> usize
@@ -25,18 +26,12 @@ fn quoted_size(script: &[u8], characters: &[u8], from: Cursor) -> usize
     let mut c = from;
     let mut level: usize = 0;
     let mut sum: usize = 0;
-    loop {
-        match next_text(script, characters, c, level) {
-            NextText::At(_, len, n, k) => {
-                sum += len as usize;
-                c = n;
-                level = k;
-            }
-            NextText::End => {
-                return sum;
-            }
-        }
+    while let Some(t) = next_text(script, characters, c, level) {
+        sum += t.len as usize;
+        c = t.behind;
+        level = t.open_elements;
     }
+    sum
 }
 
 // One text more, behind what stands in the node's place.
@@ -77,19 +72,13 @@ fn put_quoted(
     let mut c = from;
     let mut level: usize = 0;
     let mut done = Trimmed { size: 0, prev: 48 };
-    loop {
-        match next_text(script, characters, c, level) {
-            NextText::At(own, len, n, k) => {
-                let start = own.chars;
-                done = put_more(characters, place, start, len, space, done);
-                c = n;
-                level = k;
-            }
-            NextText::End => {
-                return done.size;
-            }
-        }
+    while let Some(t) = next_text(script, characters, c, level) {
+        let start = t.own.chars;
+        done = put_more(characters, place, start, t.len, space, done);
+        c = t.behind;
+        level = t.open_elements;
     }
+    done.size
 }
 
 // The same at the place of a new text node in the text table. The answer is where they end.
@@ -128,7 +117,7 @@ pub fn append_quoted(
     p: u32,
     from: Cursor,
     space: XmlSpace,
-) -> Outcome
+) -> Result<Counts, Refusal>
     requires quotable { Quotable script.now characters.now from }
     requires appendable { Appendable (tree_of nodes.old [] text.old counts) p }
     ensures { out_of nodes.new [] text.new result ≡ quote_in (space_in space) characters.now
@@ -138,21 +127,27 @@ pub fn append_quoted(
     let total = quoted_size(script, characters, from);
     let is_empty = total == 0;
     if is_empty {
-        return Outcome::Done(counts);
+        return Ok(counts);
     }
     let left = text_room(text) - counts.text;
     if (left as usize) < total {
-        return Outcome::Refused(24);
+        return Err(Refusal::TextFull);
     }
     if node_room(nodes) <= counts.nodes {
-        return Outcome::Refused(22);
+        return Err(Refusal::NodesFull);
     }
     let size = total as u32;
     let end = put_place(script, characters, text, counts.text, size, from, space);
-    append(nodes, word::TEXT, 0, counts.text, end, p, counts.nodes);
-    Outcome::Done(Counts {
+    let node = NewNode {
+        kind: Kind::Text,
+        code: 0,
+        from: counts.text,
+        to: end,
+    };
+    append(nodes, node, p, counts.nodes);
+    Ok(Counts {
         nodes: counts.nodes + 1,
-        attributes: counts.attributes,
         text: counts.text + size,
+        ..counts
     })
 }

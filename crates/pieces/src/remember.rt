@@ -4,11 +4,11 @@ ghost use Rattle.std.specs.Prelude.{◌≡◌, ◌≤◌};
 ghost use Rattle.text.specs.Spaces.{space_in};
 ghost use Rattle.pieces.specs.Levels.{bit_of, Fresh, Pushed, SplitFit, AboveFit};
 
-use crate::{Above, Levels};
+use crate::Levels;
 use text::XmlSpace;
 
 // The highest bit of a word.
-const HIGHEST: u64 = 9223372036854775808;
+const HIGHEST: u64 = 1 << 63;
 
 // Nothing is remembered.
 pub fn nothing() -> Levels
@@ -53,35 +53,33 @@ pub fn push(words: &mut [u64; 32], levels: Levels, space: XmlSpace) -> Levels
     }
 }
 
-// The lowest bit of a word, and the others, before the word `full`.
-fn split(top: u64, full: usize) -> Above
+// The space in the lowest bit of a word, and the others, before the word `full`.
+fn split(top: u64, full: usize) -> (XmlSpace, Levels)
     requires { 2 ≤ top }
     ensures { SplitFit top full result }
 {
     let rest = Levels { top: top / 2, full };
     if top % 2 == 0 {
-        return Above::Known(XmlSpace::Default, rest);
+        (XmlSpace::Default, rest)
+    } else {
+        (XmlSpace::Preserve, rest)
     }
-    Above::Known(XmlSpace::Preserve, rest)
 }
 
-// One level less.
-pub fn pop(words: &[u64; 32], levels: Levels) -> Above
+// One level less: the nearest of the spaces that are remembered, and the others.
+pub fn pop(words: &[u64; 32], levels: Levels) -> Option<(XmlSpace, Levels)>
     requires { levels.full ≤ 32 }
     ensures { AboveFit words.now levels result }
 {
     let top = levels.top;
     let full = levels.full;
     if top >= 2 {
-        return split(top, full);
+        return Some(split(top, full));
     }
-    if full == 0 {
-        return Above::Unknown;
-    }
-    let last = full - 1;
+    let last = full.checked_sub(1)?;
     let word = words[last];
     if word >= 2 {
-        return split(word, last);
+        return Some(split(word, last));
     }
-    Above::Unknown
+    None
 }

@@ -1,6 +1,7 @@
 -- A command by its number, and the readings of its value. Assumes nothing.
 use mathlib.Core.Path.{◌≡◌, refl, sym, ap, ◌∙◌, subst}
-use mathlib.Core.List.{List, [], ◌∷◌}
+use mathlib.Core.List.{List, []}
+use mathlib.Core.Logic.{◌⊎◌, inl, inr}
 use mathlib.Core.Bool.{Bool, true, false}
 use mathlib.Core.Option.{none}
 use Prim.Native.Nat.{ℕ, zero, suc, ◌+◌, ◌-◌, ◌≤◌}
@@ -8,15 +9,15 @@ use native.Mathlib.Omega.{arith}
 use borrow.Author.Tests.{leb-true}
 use lib.Dec.{leb}
 use Rattle.model.specs.Base.{pick}
-use Rattle.model.specs.Drawing.{Command, broken, Reading, reading_of}
+use Rattle.model.specs.Drawing.{Reading, reading_of}
 use Rattle.model.specs.Repair.{any_reading}
 use Rattle.script.specs.declared.cursor.Cursor.{Cursor}
 use Rattle.script.specs.declared.cursor.Step.{Step}
 use Rattle.script.specs.declared.cursor.Step.TheVariants as step
-use Rattle.script.specs.Step.{Fit, Here, commands_at, mark_of, at_start, place_from, place_of, step_at}
+use Rattle.script.specs.Step.{Fit, commands_at, mark_of, at_start, place_from, place_of, step_at}
 use Rattle.script.proofs.Commands.{Told, told, place-behind, placed_first}
 use Rattle.walk.specs.Values.{readings_in}
-use Rattle.places.specs.Seeks.{readings_next, readings_here}
+use Rattle.places.specs.Seeks.{readings_next, readings_here, Passed, IsLast}
 
 -- A COMMAND BY ITS NUMBER
 
@@ -33,31 +34,24 @@ sought-first s n h c e f = go (leb h.number n) refl e
     go false l z = subst (Sought s n) (sym z) (record { fit = placed_first s at_start refl f.size; low = omega arith })
 
 module _ (s : List ℕ) (n : ℕ) (c : Cursor) (w : Sought s n c) where
-  pub sought-here : c.number ≡ n → c ≡ place_of s n
-  sought-here e = w.fit.placed ∙ ap (place_of s) e
-
-  pub sought-on : (x : Command) (k : Cursor) → Here s c x k → Fit s k → (c.number ≡ n → ⊥) → Sought s n k
-  sought-on x k h f e = record { fit = f; low = omega (arith, w.low, ap (λ (v : Cursor). v.number) h.next, e) }
+  pub sought-on : (k : Cursor) → Passed s c k → (c.number ≡ n → ⊥) → Sought s n k
+  sought-on k p e = record { fit = p.fit; low = omega (arith, w.low, ap (λ (v : Cursor). v.number) p.here.next, e) }
 
   behind : place_of s n ≡ place_from (n - c.number) c (commands_at s c)
   behind = ap (place_of s) (let z : n ≡ c.number + (n - c.number) = omega (arith, w.low) in z) ∙ place-behind s (n - c.number) c w.fit
 
   -- Behind the last command there is nothing further.
-  pub sought-end : commands_at s c ≡ [] → c ≡ place_of s n
-  unfolding place_from
-  sought-end e = sym (behind ∙ rw e (go (n - c.number)))
-    where
-      go : (j : ℕ) → place_from j c [] ≡ c
-      go zero = refl
-      go (suc j) = refl
+  pub sought-last : IsLast s c → c ≡ place_of s n
+  sought-last e = sym (behind ∙ e (n - c.number))
 
-  pub sought-broken : (b : ℕ) → commands_at s c ≡ broken b ∷ [] → c ≡ place_of s n
-  unfolding place_from
-  sought-broken b e = sym (behind ∙ rw e (go (n - c.number)))
-    where
-      go : (j : ℕ) → place_from j c (broken b ∷ []) ≡ c
-      go zero = refl
-      go (suc j) = refl
+-- No whole command stands at c.
+pub none-behind : (s : List ℕ) (c : Cursor) (r : Step) → ((b : ℕ) × (r ≡ step.Broken b)) ⊎ (r ≡ step.End) → r ≡ step_at s c
+    → IsLast s c
+unfolding place_from
+none-behind s c r (inl t) e zero = refl
+none-behind s c r (inl t) e (suc j) = rw (told s c r (step.Broken t.0) t.1 e)
+none-behind s c r (inr t) e zero = refl
+none-behind s c r (inr t) e (suc j) = rw (told s c r step.End t e)
 
 -- THE READINGS OF A VALUE
 
@@ -89,11 +83,24 @@ module _ (s chars : List ℕ) (c : Cursor) where
   pub reads : (p x : Step) → p ≡ x → p ≡ step_at s c → ReadHere s chars c x
   reads p x e h = read_here x (told s c p x e h)
 
--- No value, no reading.
-pub none_read : (k : ℕ) (rs : List Reading) → [] ≡ rs → none ≡ reading_of k rs
-unfolding reading_of
-none_read k rs e = ap (reading_of k) e
+  -- Neither an attribute nor a declaration: there is no value.
+  pub none-here : (x : Step) → x ≡ step_at s c → ((a b l : ℕ) (n : Cursor) → x ≡ step.Attribute a b l n → ⊥)
+      → ((a b l : ℕ) (n : Cursor) → x ≡ step.Declaration a b l n → ⊥) → readings_here s chars c ≡ []
+  none-here (step.Attribute a b l n) h p q = absurd (p a b l n refl)
+  none-here (step.Declaration a b l n) h p q = absurd (q a b l n refl)
+  none-here (step.Open a b n) h p q = sym (reads _ _ refl h)
+  none-here (step.Reading k o l n) h p q = sym (reads _ _ refl h)
+  none-here (step.Text l n) h p q = sym (reads _ _ refl h)
+  none-here (step.Other n) h p q = sym (reads _ _ refl h)
+  none-here (step.Close n) h p q = sym (reads _ _ refl h)
+  none-here (step.Broken b) h p q = sym (reads _ _ refl h)
+  none-here step.End h p q = sym (reads _ _ refl h)
 
-pub none_any : (k : ℕ) (id : List ℕ) (rs : List Reading) → [] ≡ rs → false ≡ any_reading k id rs
+-- No value, no reading.
+pub none_read : (k : ℕ) (rs : List Reading) → rs ≡ [] → none ≡ reading_of k rs
+unfolding reading_of
+none_read k rs e = ap (reading_of k) (sym e)
+
+pub none_any : (k : ℕ) (id : List ℕ) (rs : List Reading) → rs ≡ [] → false ≡ any_reading k id rs
 unfolding any_reading
-none_any k id rs e = ap (any_reading k id) e
+none_any k id rs e = ap (any_reading k id) (sym e)

@@ -1,29 +1,30 @@
 -- What the searches by number answer, as the model has it.
-use Rattle.std.specs.Prelude.{ℕ, ◌+◌, Bool, false, List, [], ◌∷◌, eqb}
-use Rattle.std.proofs.Math.Option.{Option, none, some}
+use Rattle.std.specs.Prelude.{◌≡◌, ℕ, ◌+◌, Bool, false, List, [], ◌∷◌, Option, Some, None, eqb}
+use Rattle.std.proofs.Math.Option as math
+use Rattle.std.proofs.Math.Option.{none, some}
 use Rattle.model.specs.Base.{pick}
 use Rattle.model.specs.EId
 use Rattle.model.specs.Drawing.{Command, opening, attribute, declaration, reading, closing, broken, Mark}
 use Rattle.model.specs.Drawing.{Reading, Source, source_at, readings_at}
 use Rattle.script.specs.declared.cursor.Cursor.{Cursor}
-use Rattle.script.specs.Step.{Fit, commands_at, mark_of}
+use Rattle.script.specs.Step.{Fit, Here, commands_at, mark_of, place_from}
+use Rattle.walk.specs.Values.{readings_in}
 use Rattle.places.specs.declared.seek.FoundText.{FoundText}
-use Rattle.places.specs.declared.seek.FoundText.TheVariants as text
 
 -- A text that was looked for.
-abbrev pub source_of : List ℕ → FoundText → Option Source
-source_of chars (text.At c l b) = some (source_at chars (mark_of c) l)
-source_of chars text.Nothing = none
+abbrev pub source_of : List ℕ → Option FoundText → math.Option Source
+source_of chars (Some t) = some (source_at chars (mark_of t.own) t.len)
+source_of chars None = none
 
 -- Whether it stands inside an element named style.
-abbrev pub style_of : FoundText → Bool
-style_of (text.At c l b) = b
-style_of text.Nothing = false
+abbrev pub style_of : Option FoundText → Bool
+style_of (Some t) = t.in_style
+style_of None = false
 
 -- Its place is one of the script.
-abbrev pub FoundFit : List ℕ → FoundText → Type 0
-FoundFit script (text.At c l b) = Fit script c
-FoundFit script text.Nothing = Unit {0}
+abbrev pub FoundFit : List ℕ → Option FoundText → Type 0
+FoundFit script (Some t) = Fit script t.own
+FoundFit script None = Unit {0}
 
 -- How many elements are open from the outermost style on, behind the open of an element of that code.
 abbrev pub style_level : ℕ → ℕ → ℕ
@@ -44,3 +45,20 @@ readings_next chars m (broken b ∷ cs) = []
 -- The readings of the value whose command stands at the cursor.
 abbrev pub readings_here : List ℕ → List ℕ → Cursor → List Reading
 readings_here script chars c = readings_next chars (mark_of c) (commands_at script c)
+
+-- The value whose command stands at c has the readings from n on.
+pub record ReadFrom (script chars : List ℕ) (c n : Cursor) : Type 0 where
+  pub fit : Fit script n
+  pub same : readings_here script chars c ≡ readings_in script chars c.chars n
+
+-- A COMMAND AT A CURSOR
+
+-- A command stands at c, and n is the cursor behind it.
+pub record Passed (script : List ℕ) (c n : Cursor) : Type 0 where
+  pub command : Command
+  pub here : Here script c command n
+  pub fit : Fit script n
+
+-- No whole command stands at c: there is no place further on.
+abbrev pub IsLast : List ℕ → Cursor → Type 0
+IsLast script c = (j : ℕ) → place_from j c (commands_at script c) ≡ c

@@ -1,2 +1,4 @@
 pub mod Above
 pub mod Facts
+pub mod Below
+pub mod Asked

@@ -1,59 +1,56 @@
 // The node that has an attribute: a node itself, or one above it.
-// A node that may be missing is its index plus 1, 0 for none.
-ghost use Rattle.std.specs.Prelude.{◌≡◌, ℕ, ◌+◌, ◌≤◌};
+ghost use Rattle.std.specs.Prelude.{◌≡◌, ℕ, ◌<◌, ◌≤◌, IfSome};
 ghost use Rattle.model.specs.Tables.{parent_of};
 ghost use Rattle.model.specs.Questions.{element_from, self_or_parent, find_attribute_impl};
-ghost use Rattle.tree.specs.Lent.{read_of, nodes_read, Placed, Climbable};
+ghost use Rattle.tree.specs.Lent.{plus_one, read_of, nodes_read, Placed, Climbable};
 
 use names::is_inheritable;
 use tree::read::{attribute_id, holder_of};
-use tree::word;
-use tree::word::node_word;
+use tree::word::{has_kind, node_link};
+use tree::{Kind, word};
 
 // `parent_element`: the nearest element above node i.
-pub fn parent_element(nodes: &[u32], i: u32) -> u32
+pub fn parent_element(nodes: &[u32], i: u32) -> Option<u32>
     requires { (k : ℕ) → k ≤ i → Placed nodes.now k }
-    ensures found { result ≡ element_from (nodes_read nodes.now) i (parent_of (nodes_read nodes.now) i) }
-    ensures within { result ≤ i }
+    ensures found { plus_one result ≡ element_from (nodes_read nodes.now) i (parent_of (nodes_read nodes.now) i) }
+    ensures within { IfSome result (λ k. k < i) }
 {
-    let mut w = node_word(nodes, i, word::PARENT);
-    while w > 0 {
-        let is_named = node_word(nodes, w - 1, word::KIND) == word::ELEMENT;
+    let mut above = node_link(nodes, i, word::PARENT);
+    while let Some(k) = above {
+        let is_named = has_kind(nodes, k, Kind::Element);
         if is_named {
-            return w;
+            return Some(k);
         }
-        w = node_word(nodes, w - 1, word::PARENT);
+        above = node_link(nodes, k, word::PARENT);
     }
-    0
+    None
 }
 
 // Node i or its parent element, if it has the attribute.
-fn self_or_parent(nodes: &[u32], attributes: &[u32], i: u32, a: u32) -> u32
+fn self_or_parent(nodes: &[u32], attributes: &[u32], i: u32, a: u32) -> Option<u32>
     requires { Climbable (read_of nodes.now attributes.now) i }
-    ensures found { result ≡ self_or_parent (read_of nodes.now attributes.now) i a }
-    ensures within { result ≤ i + 1 }
+    ensures found { plus_one result ≡ self_or_parent (read_of nodes.now attributes.now) i a }
+    ensures within { IfSome result (λ k. k ≤ i) }
 {
-    if attribute_id(nodes, attributes, i, a) != 0 {
-        return i + 1;
+    if attribute_id(nodes, attributes, i, a).is_some() {
+        return Some(i);
     }
-    let parent = parent_element(nodes, i);
-    if parent == 0 {
-        return 0;
+    let parent = parent_element(nodes, i)?;
+    if attribute_id(nodes, attributes, parent, a).is_some() {
+        return Some(parent);
     }
-    if attribute_id(nodes, attributes, parent - 1, a) != 0 {
-        return parent;
-    }
-    0
+    None
 }
 
 // `find_attribute_impl`: the node that has the attribute.
-pub fn find_attribute_impl(nodes: &[u32], attributes: &[u32], i: u32, a: u32) -> u32
+pub fn find_attribute_impl(nodes: &[u32], attributes: &[u32], i: u32, a: u32) -> Option<u32>
     requires { Climbable (read_of nodes.now attributes.now) i }
-    ensures found { result ≡ find_attribute_impl (read_of nodes.now attributes.now) i a }
-    ensures within { result ≤ i + 1 }
+    ensures found { plus_one result ≡ find_attribute_impl (read_of nodes.now attributes.now) i a }
+    ensures within { IfSome result (λ k. k ≤ i) }
 {
     if is_inheritable(a) {
-        return holder_of(nodes, attributes, a, i);
+        holder_of(nodes, attributes, a, i)
+    } else {
+        self_or_parent(nodes, attributes, i, a)
     }
-    self_or_parent(nodes, attributes, i, a)
 }

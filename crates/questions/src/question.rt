@@ -1,20 +1,24 @@
 // The questions. They change nothing, and take tables of any length and content.
 ghost use Rattle.std.specs.Prelude.{◌≡◌, ◌-◌};
 ghost use Rattle.model.specs.Tables.{first_child_of};
-ghost use Rattle.model.specs.Questions.{answer_of, question_fault, attribute_question, find_attribute_question, element_by_id_question};
+ghost use Rattle.model.specs.Questions.{question_fault, attribute_question, find_attribute_question, element_by_id_question};
 ghost use Rattle.model.specs.Questions.{text_of_node, text_at, text_question};
+ghost use Rattle.refusal.specs.Number.{answer_of};
 ghost use Rattle.tree.specs.Lent.{tree_of, nodes_read};
-ghost use Rattle.questions.specs.Answers.{answered, parted, bytes_of, TextReadable};
+ghost use Rattle.questions.specs.Answers as A;
+ghost use Rattle.questions.specs.Answers.{parted, part_or_empty, bytes_of, TextReadable};
 
+use crate::Part;
 use crate::find::find_attribute_impl;
 use crate::sound::is_sound;
-use crate::{Answer, Part};
 use names::is_attribute;
+use refusal::Refusal;
 use tree::read::{attribute_of, last_with_id};
-use tree::word::node_word;
-use tree::{Counts, word};
+use tree::word::{has_kind, node_link, node_word};
+use tree::{Counts, Kind, word};
 
-// The numbers 40, 41 and 42, in that order; 0 if nothing stands against the question.
+// What stands against a question about an attribute of a node.
+#[tactic(auto, unfolding(model::specs::Questions::question_fault, model::specs::Check::first_of))]
 fn question_fault(
     nodes: &[u32],
     attributes: &[u32],
@@ -23,38 +27,20 @@ fn question_fault(
     counts: Counts,
     node: u32,
     name: u32,
-) -> u32
-    ensures { result ≡ question_fault characters.now
+) -> Result<(), Refusal>
+    ensures { answer_of result ≡ question_fault characters.now
         (tree_of nodes.now attributes.now text.now counts) node name }
 {
     if !is_sound(nodes, attributes, text, characters, counts) {
-        return 40;
+        return Err(Refusal::UnsoundTables);
     }
     if counts.nodes <= node {
-        return 41;
+        return Err(Refusal::NoSuchNode);
     }
     if !is_attribute(name) {
-        return 42;
+        return Err(Refusal::NoSuchAttribute);
     }
-    0
-}
-
-// The answer from an index plus 1, 0 for none.
-fn answer_of(w: u32) -> Answer
-    ensures { result ≡ answered (answer_of w) }
-{
-    if w == 0 {
-        return Answer {
-            number: 0,
-            found: 0,
-            index: 0,
-        };
-    }
-    Answer {
-        number: 0,
-        found: 1,
-        index: w - 1,
-    }
+    Ok(())
 }
 
 // The attribute question: the entry that `attribute` reads.
@@ -66,19 +52,12 @@ pub fn attribute(
     counts: Counts,
     node: u32,
     name: u32,
-) -> Answer
-    ensures { result ≡ answered (attribute_question characters.now
-        (tree_of nodes.now attributes.now text.now counts) node name) }
+) -> Result<Option<u32>, Refusal>
+    ensures { A.answer_of result ≡ attribute_question characters.now
+        (tree_of nodes.now attributes.now text.now counts) node name }
 {
-    let fault = question_fault(nodes, attributes, text, characters, counts, node, name);
-    if fault != 0 {
-        return Answer {
-            number: fault,
-            found: 0,
-            index: 0,
-        };
-    }
-    answer_of(attribute_of(nodes, attributes, characters, node, name))
+    question_fault(nodes, attributes, text, characters, counts, node, name)?;
+    Ok(attribute_of(nodes, attributes, characters, node, name))
 }
 
 // The find attribute question: the node that `find_attribute_impl` finds, and then its `attribute`.
@@ -90,23 +69,15 @@ pub fn find_attribute(
     counts: Counts,
     node: u32,
     name: u32,
-) -> Answer
-    ensures { result ≡ answered (find_attribute_question characters.now
-        (tree_of nodes.now attributes.now text.now counts) node name) }
+) -> Result<Option<u32>, Refusal>
+    ensures { A.answer_of result ≡ find_attribute_question characters.now
+        (tree_of nodes.now attributes.now text.now counts) node name }
 {
-    let fault = question_fault(nodes, attributes, text, characters, counts, node, name);
-    if fault != 0 {
-        return Answer {
-            number: fault,
-            found: 0,
-            index: 0,
-        };
-    }
-    let w = find_attribute_impl(nodes, attributes, node, name);
-    if w == 0 {
-        return answer_of(0);
-    }
-    answer_of(attribute_of(nodes, attributes, characters, w - 1, name))
+    question_fault(nodes, attributes, text, characters, counts, node, name)?;
+    let Some(holder) = find_attribute_impl(nodes, attributes, node, name) else {
+        return Ok(None);
+    };
+    Ok(attribute_of(nodes, attributes, characters, holder, name))
 }
 
 // The id question: the last element with that id.
@@ -117,51 +88,44 @@ pub fn element_by_id(
     characters: &[u8],
     counts: Counts,
     id: &[u8],
-) -> Answer
-    ensures { result ≡ answered (element_by_id_question characters.now
-        (tree_of nodes.now attributes.now text.now counts) id.now) }
+) -> Result<Option<u32>, Refusal>
+    ensures { A.answer_of result ≡ element_by_id_question characters.now
+        (tree_of nodes.now attributes.now text.now counts) id.now }
 {
     if !is_sound(nodes, attributes, text, characters, counts) {
-        return Answer {
-            number: 40,
-            found: 0,
-            index: 0,
-        };
+        return Err(Refusal::UnsoundTables);
     }
-    answer_of(last_with_id(nodes, attributes, characters, id, counts.nodes))
+    Ok(last_with_id(nodes, attributes, characters, id, counts.nodes))
 }
 
-// The text of node i if it is a text node, else nothing.
-fn text_of_node(nodes: &[u32], i: u32) -> Part
+// The text of node i if it is a text node.
+fn text_of_node(nodes: &[u32], i: u32) -> Option<Part>
     requires { TextReadable (nodes_read nodes.now) i }
-    ensures { result ≡ parted (text_of_node (nodes_read nodes.now) i) }
+    ensures { part_or_empty result ≡ parted (text_of_node (nodes_read nodes.now) i) }
 {
-    if node_word(nodes, i, word::KIND) != word::TEXT {
-        return Part { start: 0, size: 0 };
+    if !has_kind(nodes, i, Kind::Text) {
+        return None;
     }
     let from = node_word(nodes, i, word::FROM);
     let to = node_word(nodes, i, word::TO);
-    Part {
+    Some(Part {
         start: from,
         size: to - from,
-    }
+    })
 }
 
 // `text`: a text node's own text, or that of an element's first child.
-fn text_at(nodes: &[u32], i: u32) -> Part
+fn text_at(nodes: &[u32], i: u32) -> Option<Part>
     requires { TextReadable (nodes_read nodes.now) i ×
         ((first_child_of (nodes_read nodes.now) i ≡ 0 → ⊥) →
         TextReadable (nodes_read nodes.now) (first_child_of (nodes_read nodes.now) i - 1)) }
-    ensures { result ≡ parted (text_at (nodes_read nodes.now) i) }
+    ensures { part_or_empty result ≡ parted (text_at (nodes_read nodes.now) i) }
 {
-    if node_word(nodes, i, word::KIND) != word::ELEMENT {
+    if !has_kind(nodes, i, Kind::Element) {
         return text_of_node(nodes, i);
     }
-    let w = node_word(nodes, i, word::FIRST_CHILD);
-    if w == 0 {
-        return Part { start: 0, size: 0 };
-    }
-    text_of_node(nodes, w - 1)
+    let child = node_link(nodes, i, word::FIRST_CHILD)?;
+    text_of_node(nodes, child)
 }
 
 // Where the text of a node lies in the text table: empty where the tables are broken or the node is past the end.
@@ -176,13 +140,11 @@ pub fn text_part(
     ensures { result ≡ parted (text_question characters.now
         (tree_of nodes.now attributes.now text.now counts) node) }
 {
-    if !is_sound(nodes, attributes, text, characters, counts) {
-        return Part { start: 0, size: 0 };
+    let empty = Part { start: 0, size: 0 };
+    if !is_sound(nodes, attributes, text, characters, counts) || counts.nodes <= node {
+        return empty;
     }
-    if counts.nodes <= node {
-        return Part { start: 0, size: 0 };
-    }
-    text_at(nodes, node)
+    text_at(nodes, node).unwrap_or(empty)
 }
 
 // The text question: that part of the caller's text table.

@@ -1,110 +1,74 @@
 // The test whose number is 40: do the lent tables hold a tree?
-ghost use Rattle.std.specs.Prelude.{◌≡◌, [], ◌+◌, ◌*◌, ◌<◌, ◌≤◌, length};
+ghost use Rattle.std.specs.Prelude.{◌≡◌, ◌+◌, ◌*◌, ◌<◌, ◌≤◌, [], length};
 ghost use Rattle.model.specs.Tables.{entry_at};
 ghost use Rattle.model.specs.Questions.{counts_fit, is_placed, is_later, is_linked, is_range, is_filled};
 ghost use Rattle.model.specs.Questions.{is_node, is_entry, all_below, is_sound};
-ghost use Rattle.tree.specs.Lent.{tree_of, nodes_of, entries_of};
-ghost use Rattle.questions.specs.Answers.{is_below_root};
+ghost use Rattle.tree.specs.Lent.{plus_one, tree_of, nodes_of, nodes_read, entries_of, entry_of};
 
 use names::{is_attribute, is_element};
-use tree::word::{entry_word, node_word};
-use tree::{Counts, word};
+use tree::read::entry_at;
+use tree::word::{has_kind, node_link, node_word};
+use tree::{Counts, Entry, Kind, word};
+
+// How many fixed values there are.
+const FIXED_VALUES: u32 = 18;
 
 // The counts fit the slices, and there is at least one node.
 fn counts_fit(nodes: &[u32], attributes: &[u32], text: &[u8], counts: Counts) -> bool
     ensures { result ≡ counts_fit (tree_of nodes.now attributes.now text.now counts) }
 {
-    if counts.nodes < 1 {
-        return false;
-    }
-    if nodes.len() < 8 * (counts.nodes as usize) {
-        return false;
-    }
-    if attributes.len() < 5 * (counts.attributes as usize) {
-        return false;
-    }
-    counts.text as usize <= text.len()
+    1 <= counts.nodes
+        && 8 * (counts.nodes as usize) <= nodes.len()
+        && 5 * (counts.attributes as usize) <= attributes.len()
+        && counts.text as usize <= text.len()
 }
 
-// A node other than the root is an element or a text, and its parent's index is smaller.
-fn is_below_root(kind: u32, parent: u32, i: u32) -> bool
-    ensures { result ≡ is_below_root kind parent i }
-{
-    if parent < 1 {
-        return false;
-    }
-    if i < parent {
-        return false;
-    }
-    if kind == word::ELEMENT {
-        return true;
-    }
-    kind == word::TEXT
-}
-
-// Record 0 alone is the root.
-fn is_placed(nodes: &[u32], counts: Counts, i: u32) -> bool
+// Record 0 alone is the root; every other node is an element or a text, and its parent's index is smaller than its own.
+fn is_placed(nodes: &[u32], i: u32) -> bool
     requires { 8 * i + 7 < length nodes.now }
-    ensures { result ≡ is_placed (nodes_of nodes.now counts) i }
+    ensures { result ≡ is_placed (nodes_read nodes.now) i }
 {
-    let kind = node_word(nodes, i, word::KIND);
     let parent = node_word(nodes, i, word::PARENT);
-    if i != 0 {
-        return is_below_root(kind, parent, i);
+    if i == 0 {
+        return has_kind(nodes, i, Kind::Root) && parent == 0;
     }
-    if kind != word::ROOT {
-        return false;
-    }
-    parent == 0
+    (has_kind(nodes, i, Kind::Element) || has_kind(nodes, i, Kind::Text))
+        && 1 <= parent
+        && parent <= i
 }
 
-// A sibling or child of node i, an index plus 1: none, or larger than i within the count.
-fn is_later(counts: Counts, i: u32, w: u32) -> bool
-    requires { i < counts.nodes }
-    ensures { result ≡ is_later (nodes_of [] counts) i w }
+// A sibling or child of node i: none, or larger than i within the count.
+fn is_later(counts: Counts, i: u32, link: Option<u32>) -> bool
+    ensures { result ≡ is_later (nodes_of [] counts) i (plus_one link) }
 {
-    if w == 0 {
-        return true;
+    match link {
+        Some(j) => i < j && j < counts.nodes,
+        None => true,
     }
-    if w <= i + 1 {
-        return false;
-    }
-    w <= counts.nodes
 }
 
-// Siblings and children have larger indexes; first and last child are both given or both 0.
+// Siblings and children have larger indexes; first and last child are both given or both not.
 fn is_linked(nodes: &[u32], counts: Counts, i: u32) -> bool
-    requires { (8 * i + 7 < length nodes.now) × (i < counts.nodes) }
+    requires { 8 * i + 7 < length nodes.now }
     ensures { result ≡ is_linked (nodes_of nodes.now counts) i }
 {
-    let first = node_word(nodes, i, word::FIRST_CHILD);
-    let last = node_word(nodes, i, word::LAST_CHILD);
-    if !is_later(counts, i, node_word(nodes, i, word::NEXT_SIBLING)) {
-        return false;
-    }
-    if !is_later(counts, i, first) {
-        return false;
-    }
-    if !is_later(counts, i, last) {
-        return false;
-    }
-    if first == 0 {
-        return last == 0;
-    }
-    last != 0
+    let next = node_link(nodes, i, word::NEXT_SIBLING);
+    let first = node_link(nodes, i, word::FIRST_CHILD);
+    let last = node_link(nodes, i, word::LAST_CHILD);
+    is_later(counts, i, next)
+        && is_later(counts, i, first)
+        && is_later(counts, i, last)
+        && first.is_some() == last.is_some()
 }
 
 // The range of node i lies in order inside a table with n taken.
-fn is_range(nodes: &[u32], counts: Counts, n: u32, i: u32) -> bool
+fn is_range(nodes: &[u32], n: u32, i: u32) -> bool
     requires { 8 * i + 7 < length nodes.now }
-    ensures { result ≡ is_range (nodes_of nodes.now counts) n i }
+    ensures { result ≡ is_range (nodes_read nodes.now) n i }
 {
     let from = node_word(nodes, i, word::FROM);
     let to = node_word(nodes, i, word::TO);
-    if to < from {
-        return false;
-    }
-    to <= n
+    from <= to && to <= n
 }
 
 // Ranges lie inside their tables, and an element's code is in the list.
@@ -112,85 +76,49 @@ fn is_filled(nodes: &[u32], counts: Counts, i: u32) -> bool
     requires { 8 * i + 7 < length nodes.now }
     ensures { result ≡ is_filled (nodes_of nodes.now counts) i }
 {
-    let kind = node_word(nodes, i, word::KIND);
-    if kind == word::ELEMENT {
-        if !is_element(node_word(nodes, i, word::CODE)) {
-            return false;
-        }
-        return is_range(nodes, counts, counts.attributes, i);
+    if has_kind(nodes, i, Kind::Element) {
+        return is_element(node_word(nodes, i, word::CODE)) && is_range(nodes, counts.attributes, i);
     }
-    if kind != word::TEXT {
-        return true;
-    }
-    is_range(nodes, counts, counts.text, i)
+    !has_kind(nodes, i, Kind::Text) || is_range(nodes, counts.text, i)
 }
 
 // The turn of one node.
 fn is_node(nodes: &[u32], counts: Counts, i: u32) -> bool
-    requires { (8 * i + 7 < length nodes.now) × (i < counts.nodes) }
+    requires { 8 * i + 7 < length nodes.now }
     ensures { result ≡ is_node (nodes_of nodes.now counts) i }
 {
-    if !is_placed(nodes, counts, i) {
-        return false;
-    }
-    if !is_linked(nodes, counts, i) {
-        return false;
-    }
-    is_filled(nodes, counts, i)
+    is_placed(nodes, i) && is_linked(nodes, counts, i) && is_filled(nodes, counts, i)
 }
 
 fn are_nodes(nodes: &[u32], counts: Counts) -> bool
     requires { 8 * counts.nodes ≤ length nodes.now }
     ensures { result ≡ all_below (is_node (nodes_of nodes.now counts)) counts.nodes }
 {
-    let mut n = counts.nodes;
-    while n > 0 {
-        n -= 1;
-        if !is_node(nodes, counts, n) {
-            return false;
-        }
-    }
-    true
+    (0..counts.nodes).all(|i| is_node(nodes, counts, i))
 }
 
 // The turn of one attribute entry: its name is in the list, and its value inside the characters or the fixed list.
-fn is_entry(attributes: &[u32], size: usize, j: u32) -> bool
-    requires { 5 * j + 4 < length attributes.now }
-    ensures { result ≡ is_entry size (entry_at (entries_of attributes.now) j) }
+fn is_entry(e: Entry, size: usize) -> bool
+    ensures { result ≡ is_entry size (entry_of e) }
 {
-    if !is_attribute(entry_word(attributes, j, word::NAME)) {
+    if !is_attribute(e.name) {
         return false;
     }
-    let start = entry_word(attributes, j, word::START);
-    let length = entry_word(attributes, j, word::SIZE);
-    if entry_word(attributes, j, word::COMMAND) != 0 {
-        return start as usize + length as usize <= size;
+    if e.command != 0 {
+        return e.start as usize + e.size as usize <= size;
     }
-    if start < 1 {
-        return false;
-    }
-    let is_unknown = start > 18;
-    if is_unknown {
-        return false;
-    }
-    length == 0
+    1 <= e.start && e.start <= FIXED_VALUES && e.size == 0
 }
 
 fn are_entries(attributes: &[u32], size: usize, count: u32) -> bool
     requires { 5 * count ≤ length attributes.now }
     ensures { result ≡ all_below (λ j. is_entry size (entry_at (entries_of attributes.now) j)) count }
 {
-    let mut n = count;
-    while n > 0 {
-        n -= 1;
-        if !is_entry(attributes, size, n) {
-            return false;
-        }
-    }
-    true
+    (0..count).all(|j| is_entry(entry_at(attributes, j), size))
 }
 
 // Do the tables pass the test?
+#[tactic(auto, unfolding(model::specs::Questions::is_sound, model::specs::Tables::entry_at))]
 pub fn is_sound(
     nodes: &[u32],
     attributes: &[u32],
@@ -201,11 +129,7 @@ pub fn is_sound(
     ensures { result ≡ is_sound characters.now
         (tree_of nodes.now attributes.now text.now counts) }
 {
-    if !counts_fit(nodes, attributes, text, counts) {
-        return false;
-    }
-    if !are_nodes(nodes, counts) {
-        return false;
-    }
-    are_entries(attributes, characters.len(), counts.attributes)
+    counts_fit(nodes, attributes, text, counts)
+        && are_nodes(nodes, counts)
+        && are_entries(attributes, characters.len(), counts.attributes)
 }

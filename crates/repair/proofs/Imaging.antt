@@ -3,16 +3,21 @@ use mathlib.Core.Path.{◌≡◌, refl, sym, ap, ◌∙◌}
 use mathlib.Core.Bool.{Bool, true, false}
 use mathlib.Core.List.{List, []}
 use mathlib.Core.Option.{Option, none, some}
-use Prim.Native.Nat.{ℕ, ◌-◌}
+use Prim.Native.Nat.{ℕ, ◌+◌, ◌-◌}
+use native.Mathlib.Omega.{arith}
+use Rattle.std.proofs.Common as common
+use Rattle.std.proofs.Common.{Some, None}
 use borrow.Author.Tests.{eq-eqb, ne_eqb}
 use lib.Dec.{eqb}
 use Rattle.model.specs.Base.{pick, given}
 use Rattle.model.specs.AId
-use Rattle.model.specs.Drawing.{Part, Value, readings_of}
+use Rattle.model.specs.Drawing.{Part, Value, part_at, readings_of}
 use Rattle.model.specs.Tables.{Tree, word, parent_of, entry_at, entry_word, value_at_entry, attribute_id, last_with_id, element_by_id}
 use Rattle.model.specs.Repair.{any_reading, element_id, readings_of_attribute, link_of, node_attribute, recursive_fe_image}
+use Rattle.walk.specs.declared.value.Part.{Part as Found}
+use Rattle.walk.specs.Values.{part_of}
 use Rattle.tree.specs.declared.Counts.{Counts}
-use Rattle.tree.specs.Lent.{read_of, entries_of}
+use Rattle.tree.specs.Lent.{plus_one, read_of, entries_of}
 use Rattle.tree.proofs.Alike.{id_same, attribute-same, last-same}
 use Rattle.leads.specs.Links.{values_of, id_at}
 use Rattle.targets.specs.Targets.{seen_of}
@@ -24,6 +29,15 @@ readings-seen : (chars : List ℕ) (values : List Value) (t : Tree) (a i : ℕ)
 unfolding readings_of_attribute entry_at
 readings-seen chars values t a i =
     ap (λ (j : ℕ). pick (eqb j 0) (λ u. []) (λ u. readings_of (entry_word t (j - 1) 4) values)) (attribute-same t chars i a)
+
+-- The id in an entry that was looked for.
+id-told : (chars : List ℕ) (t : Tree) (o : common.Option ℕ) (x : ℕ) → plus_one o ≡ x
+    → id_at chars (entries_of t.attributes) o ≡ pick (eqb x 0) (λ u. []) (λ u. value_at_entry chars t x)
+unfolding entry_at
+id-told chars t None x e = rw (← e) refl
+id-told chars t (Some j) x e =
+    let z : j + 1 - 1 ≡ j = omega arith in
+    rw (← e, ne_eqb (j + 1) 0 (λ y. omega arith), z) refl
 
 module _ (script chars ns es : List ℕ) (c : Counts) (i : ℕ) where
   abbrev values : List Value
@@ -37,39 +51,47 @@ module _ (script chars ns es : List ℕ) (c : Counts) (i : ℕ) where
   unfolding node_attribute
   by-href = sym (ap (λ (o : Option Part). given o (λ v. element_by_id chars t v.bytes) (λ u. 0)) (link-seen chars values t 1 AId.Href i))
 
-  pub href-nowhere : none ≡ link_of chars values 1 (read_of ns es) AId.Href i → 0 ≡ node_attribute chars values t AId.Href i
+  href-nowhere : none ≡ link_of chars values 1 (read_of ns es) AId.Href i → 0 ≡ node_attribute chars values t AId.Href i
   href-nowhere e = ap (λ (o : Option Part). given o (λ v. element_by_id chars t v.bytes) (λ u. 0)) e ∙ sym by-href
 
-  pub href-on : (v : Part) → some v ≡ link_of chars values 1 (read_of ns es) AId.Href i → (p : List ℕ) → p ≡ v.bytes → (n : ℕ)
+  href-on : (v : Part) → some v ≡ link_of chars values 1 (read_of ns es) AId.Href i → (p : List ℕ) → p ≡ v.bytes → (n : ℕ)
       → n ≡ last_with_id chars (read_of ns es) p c.nodes → n ≡ node_attribute chars values t AId.Href i
   unfolding element_by_id
   href-on v e p q n h =
       h ∙ last-same t chars p c.nodes ∙ ap (λ (b : List ℕ). element_by_id chars t b) q
       ∙ ap (λ (o : Option Part). given o (λ x. element_by_id chars t x.bytes) (λ u. 0)) e ∙ sym by-href
 
+  -- By what was looked for: the link, and the element with its id.
+  module _ (r : common.Option Found) (same : part_of chars r ≡ link_of chars values 1 (read_of ns es) AId.Href i) where
+    pub href-none : r ≡ None → 0 ≡ node_attribute chars values t AId.Href i
+    href-none q = href-nowhere (sym (ap (part_of chars) q) ∙ same)
+
+    pub href-found : (x : Found) → r ≡ Some x → (id : List ℕ) → id ≡ (part_at chars x.start x.len).bytes → (o : common.Option ℕ)
+        → plus_one o ≡ last_with_id chars (read_of ns es) id c.nodes → plus_one o ≡ node_attribute chars values t AId.Href i
+    href-found x q id b o h = href-on (part_at chars x.start x.len) (sym (ap (part_of chars) q) ∙ same) id b (plus_one o) h
+
   -- It leads nowhere.
-  pub image-nowhere : (n : ℕ) → n ≡ node_attribute chars values t AId.Href i → n ≡ 0 → 0 ≡ recursive_fe_image chars values t i
+  pub image-nowhere : 0 ≡ node_attribute chars values t AId.Href i → 0 ≡ recursive_fe_image chars values t i
   unfolding recursive_fe_image
-  image-nowhere n e z = rw (eq-eqb (node_attribute chars values t AId.Href i) 0 (sym e ∙ z)) refl
+  image-nowhere e = rw (eq-eqb (node_attribute chars values t AId.Href i) 0 (sym e)) refl
 
-  -- It leads to a node: the filters there decide.
-  module _ (n : ℕ) (e : n ≡ node_attribute chars values t AId.Href i) (z : n ≡ 0 → ⊥) (p : ℕ) (q : p ≡ word ns i 1)
-      (j : ℕ) (d : j ≡ attribute_id (read_of ns es) (p - 1) AId.Id) (b : Bool)
-      (h : b ≡ any_reading 4 (id_at chars (entries_of es) j) (readings_of_attribute chars values (read_of ns es) AId.Filter (n - 1))) where
-    by-filters : b ≡ any_reading 4 (element_id chars t (parent_of t i - 1)) (readings_of_attribute chars values t AId.Filter (n - 1))
-    unfolding element_id entry_at
+  -- It leads to node w: the filters there decide.
+  module _ (w : ℕ) (e : w + 1 ≡ node_attribute chars values t AId.Href i) (p : ℕ) (q : p ≡ word ns i 1)
+      (o : common.Option ℕ) (d : plus_one o ≡ attribute_id (read_of ns es) (p - 1) AId.Id) (b : Bool)
+      (h : b ≡ any_reading 4 (id_at chars (entries_of es) o) (readings_of_attribute chars values (read_of ns es) AId.Filter w)) where
+    by-filters : b ≡ any_reading 4 (element_id chars t (parent_of t i - 1)) (readings_of_attribute chars values t AId.Filter w)
+    unfolding element_id
     by-filters =
-        h ∙ ap (any_reading 4 (id_at chars (entries_of es) j)) (readings-seen chars values t AId.Filter (n - 1))
-        ∙ ap (λ (x : ℕ). any_reading 4 (pick (eqb x 0) (λ u. []) (λ u. value_at_entry chars t x))
-        (readings_of_attribute chars values t AId.Filter (n - 1)))
-        (d ∙ id_same t (p - 1) AId.Id ∙ ap (λ (x : ℕ). attribute_id t (x - 1) AId.Id) q)
+        h ∙ ap (any_reading 4 (id_at chars (entries_of es) o)) (readings-seen chars values t AId.Filter w)
+        ∙ ap (λ (id : List ℕ). any_reading 4 id (readings_of_attribute chars values t AId.Filter w))
+        (id-told chars t o _ (d ∙ id_same t (p - 1) AId.Id ∙ ap (λ (x : ℕ). attribute_id t (x - 1) AId.Id) q))
 
-    decided : pick b (λ u. n) (λ u. 0) ≡ recursive_fe_image chars values t i
+    decided : pick b (λ u. w + 1) (λ u. 0) ≡ recursive_fe_image chars values t i
     unfolding recursive_fe_image
-    decided = rw (by-filters, e, ne_eqb (node_attribute chars values t AId.Href i) 0 (λ x. z (e ∙ x))) refl
+    decided = let z : w + 1 - 1 ≡ w = omega arith in rw (by-filters, ← e, ne_eqb (w + 1) 0 (λ x. omega arith), z) refl
 
-    pub image-back : b ≡ true → n ≡ recursive_fe_image chars values t i
-    image-back f = sym (ap (λ (x : Bool). pick x (λ u. n) (λ u. 0)) f) ∙ decided
+    pub image-back : b ≡ true → w + 1 ≡ recursive_fe_image chars values t i
+    image-back f = sym (ap (λ (x : Bool). pick x (λ u. w + 1) (λ u. 0)) f) ∙ decided
 
     pub image-not : b ≡ false → 0 ≡ recursive_fe_image chars values t i
-    image-not f = sym (ap (λ (x : Bool). pick x (λ u. n) (λ u. 0)) f) ∙ decided
+    image-not f = sym (ap (λ (x : Bool). pick x (λ u. w + 1) (λ u. 0)) f) ∙ decided

@@ -23,18 +23,21 @@ use Rattle.model.specs.Theorems.Images.{images_on, pass_on, passes_on}
 use Rattle.model.proofs.Theorems.Images.{repairs-going-on, values-bare}
 use Rattle.script.specs.declared.cursor.Cursor.{Cursor}
 use Rattle.script.specs.Step.{Fit, at_start}
+use Rattle.places.specs.declared.marks.Marks.{Marks}
 use Rattle.places.specs.Marks.{Marked}
 use Rattle.tree.specs.declared.Counts.{Counts}
 use Rattle.tree.specs.Lent.{tree_of, read_of}
 use Rattle.ids.specs.Chains.{Indexed}
 use Rattle.tree.proofs.Alike.{id_same}
 use Rattle.leads.specs.Links.{values_of}
+use Rattle.targets.specs.declared.name.Pass.{Pass}
+use Rattle.targets.specs.declared.name.Pass.TheVariants.{PatternFill, PatternStroke, ClipPath, Mask, Filter}
+use Rattle.targets.specs.Pass.{pass_number}
 use Rattle.targets.specs.Targets.{seen_of}
 use Rattle.targets.proofs.Finding.{start-fit}
 use Rattle.cuts.specs.Seen.{Mendable}
 use Rattle.repair.specs.Passes.{all_passes, is_linked}
 use Rattle.cuts.proofs.Writing.{applied-more, mend-on, long-on}
-use Rattle.cuts.proofs.Descending.{up_step}
 
 -- THE TEXT TABLE
 
@@ -130,13 +133,13 @@ tidy-seen size ns es bs c g = record {
 -- ONE PASS AFTER ANOTHER
 
 -- Before the passes ks: what they leave is what all passes leave of the tables at first.
-pub record Before (script chars marks heads ns : List ℕ) (c : Counts) (ks es₀ es : List ℕ) (hint : Cursor) : Type 0 where
+pub record Before (script chars : List ℕ) (marks : Marks) (heads ns : List ℕ) (c : Counts) (ks es₀ es : List ℕ) (hint : Cursor) : Type 0 where
   pub mendable : Mendable script chars marks heads ns es c hint
   pub long : length es ≡ length es₀
   pub same : applied (seen_of ns es c) (passes_on chars (values_of script chars) ks (seen_of ns es c))
       ≡ applied (seen_of ns es₀ c) (passes_on chars (values_of script chars) (1 ∷ 2 ∷ 3 ∷ 4 ∷ 5 ∷ 6 ∷ []) (seen_of ns es₀ c))
 
-module _ (script chars marks heads ns : List ℕ) (c : Counts) (es₀ : List ℕ) where
+module _ (script chars : List ℕ) (marks : Marks) (heads ns : List ℕ) (c : Counts) (es₀ : List ℕ) where
   pub before-all : check script chars ≡ 0 → Marked script marks → Tidy (length chars) (seen_of ns es₀ c)
       → Indexed chars (read_of ns es₀) heads c.nodes → (start : Cursor)
       → start ≡ at_start → Before script chars marks heads ns c (1 ∷ 2 ∷ 3 ∷ 4 ∷ 5 ∷ 6 ∷ []) es₀ es₀ start
@@ -174,13 +177,15 @@ module _ (script chars marks heads ns : List ℕ) (c : Counts) (es₀ : List ℕ
   unfolding up_from
   before-first h m g k = before-all h m g k at_start refl
 
-  pub before-turn : (k : ℕ) (es : List ℕ) → k < 7 → Before script chars marks heads ns c (up_from k (7 - k)) es₀ es at_start
-      → (es' : List ℕ)
+  pub before-turn : (i : ℕ) (es : List ℕ) → i < 6 → Before script chars marks heads ns c (up_from (i + 1) (6 - i)) es₀ es at_start
+      → (k : ℕ) → k ≡ i + 1 → (es' : List ℕ)
       → seen_of ns es' c ≡ applied (seen_of ns es c) (pass_on chars (values_of script chars) k (seen_of ns es c))
-      → Before script chars marks heads ns c (up_from (k + 1) (7 - (k + 1))) es₀ es' at_start
-  before-turn k es l q es' e =
-      before-next k (up_from (k + 1) (7 - (k + 1))) es at_start
-      (subst (λ (ks : List ℕ). Before script chars marks heads ns c ks es₀ es at_start) (up_step k 7 l) q) es' at_start e
+      → Before script chars marks heads ns c (up_from (i + 1 + 1) (6 - (i + 1))) es₀ es' at_start
+  unfolding up_from
+  before-turn i es l q k d es' e =
+      let n : 6 - i ≡ suc (6 - (i + 1)) = omega arith in
+      before-next (i + 1) (up_from (i + 1 + 1) (6 - (i + 1))) es at_start
+      (subst (λ (m : ℕ). Before script chars marks heads ns c (up_from (i + 1) m) es₀ es at_start) n q) es' at_start (rw d at e)
       q.mendable.drawn.fit
 
   pub before-none : (es : List ℕ) (hint : Cursor) → Before script chars marks heads ns c [] es₀ es hint
@@ -189,13 +194,24 @@ module _ (script chars marks heads ns : List ℕ) (c : Counts) (es₀ : List ℕ
   before-none es hint q = q.same
 
   -- The last one is left.
-  pub before_last : (k : ℕ) (es : List ℕ) → 5 < k → k ≤ 6 → Before script chars marks heads ns c (up_from k (7 - k)) es₀ es at_start
+  pub before_last : (i : ℕ) (es : List ℕ) → 5 ≤ i → i ≤ 5 → Before script chars marks heads ns c (up_from (i + 1) (6 - i)) es₀ es at_start
       → (es' : List ℕ) → seen_of ns es' c ≡ applied (seen_of ns es c) (pass_on chars (values_of script chars) 6 (seen_of ns es c))
       → Before script chars marks heads ns c [] es₀ es' at_start
   unfolding up_from
-  before_last k es l h q es' e =
-      let d : k ≡ 6 = omega arith in
-      before-turn 6 es (omega arith) (subst (λ (x : ℕ). Before script chars marks heads ns c (up_from x (7 - x)) es₀ es at_start) d q) es' e
+  before_last i es l h q es' e =
+      let d : i ≡ 5 = omega arith in
+      before-turn 5 es (omega arith) (subst (λ (x : ℕ). Before script chars marks heads ns c (up_from (x + 1) (6 - x)) es₀ es at_start) d q)
+      6 refl es' e
+
+-- THE LIST OF PASSES
+
+pub pass-at : (i : ℕ) (d : Pass) → i < 5 → pass_number (get_or (PatternFill ∷ PatternStroke ∷ ClipPath ∷ Mask ∷ Filter ∷ []) i d) ≡ i + 1
+pass-at zero d l = refl
+pass-at (suc zero) d l = refl
+pass-at (suc (suc zero)) d l = refl
+pass-at (suc (suc (suc zero))) d l = refl
+pass-at (suc (suc (suc (suc zero)))) d l = refl
+pass-at (suc (suc (suc (suc (suc i))))) d l = absurd (omega arith)
 
 -- THE REPAIRS
 
@@ -222,13 +238,6 @@ none_named t code (suc n) a h =
 neither : (a b : Bool) → or a b ≡ false → (a ≡ false) × (b ≡ false)
 neither true b e = absurd (true≢false e)
 neither false b e = (refl, e)
-
--- A test of several, one after another.
-pub or-here : (r a b : Bool) → r ≡ a → r ≡ true → true ≡ or a b
-or-here r a b e t = rw (sym e ∙ t) refl
-
-pub or-behind : (r a b : Bool) → r ≡ a → r ≡ false → (x : Bool) → x ≡ b → x ≡ or a b
-or-behind r a b e f x q = rw (sym e ∙ f) q
 
 -- The nodes before i are looked at by no pass.
 pub record Unlinked (t : Tree) (count i : ℕ) : Type 0 where

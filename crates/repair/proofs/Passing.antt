@@ -2,9 +2,9 @@
 use mathlib.Core.Path.{◌≡◌, refl, sym, ap, ◌∙◌, subst}
 use mathlib.Core.Bool.{Bool, true, false}
 use mathlib.Core.List.{List, [], ◌∷◌}
-use Prim.Native.Nat.{ℕ, zero, suc, ◌+◌, ◌-◌, ◌<◌, ◌≤◌}
+use Prim.Native.Nat.{ℕ, ◌+◌, ◌-◌, ◌<◌, ◌≤◌}
 use native.Mathlib.Omega.{arith}
-use borrow.Author.Tests.{eqb-true, eq-eqb, ne_eqb, le-leb}
+use borrow.Author.Tests.{eqb-true, ne_eqb, le-leb}
 use lib.Dec.{eqb}
 use lib.ListN.{length}
 use Rattle.model.specs.Base.{pick, and, Pair}
@@ -20,25 +20,16 @@ use Rattle.model.specs.Theorems.Images.{images_on, pass_on}
 use Rattle.model.proofs.Theorems.Images.{values-bare}
 use Rattle.script.specs.declared.cursor.Cursor.{Cursor}
 use Rattle.script.specs.Step.{Fit, at_start}
+use Rattle.places.specs.declared.marks.Marks.{Marks}
 use Rattle.tree.specs.declared.Counts.{Counts}
 use Rattle.leads.specs.Links.{values_of}
 use Rattle.targets.specs.Targets.{seen_of, Targeted}
 use Rattle.targets.proofs.Marks.{targeted-applied}
 use Rattle.cuts.specs.Seen.{any_with, has_links, Mendable, cut_pairs}
-use Rattle.repair.specs.Passes.{link_cuts, image_cuts, Sought, Resolved}
+use Rattle.repair.specs.Passes.{link_cuts, image_cuts, is_sought, Sought, Resolved}
 use Rattle.cuts.proofs.Descending.{up_step, up_none, descendants-alike}
 use Rattle.cuts.proofs.Writing.{mend-on, long-on}
 use Rattle.cuts.proofs.Pairing.{pairs_first, linkless-pairs}
-
--- The last of the passes 1 to 5.
-pub last-element : (k : ℕ) → (k ≤ 2 → ⊥) → k ≤ 5 → (k ≡ 3 → ⊥) → (k ≡ 4 → ⊥) → EId.Filter ≡ element_of k
-last-element zero f l a b = absurd (f (omega arith))
-last-element (suc zero) f l a b = absurd (f (omega arith))
-last-element (suc (suc zero)) f l a b = absurd (f (omega arith))
-last-element (suc (suc (suc zero))) f l a b = absurd (a refl)
-last-element (suc (suc (suc (suc zero)))) f l a b = absurd (b refl)
-last-element (suc (suc (suc (suc (suc zero))))) f l a b = refl
-last-element (suc (suc (suc (suc (suc (suc k)))))) f l a b = absurd (omega arith)
 
 -- Which elements there are, and what is below them, is read in the nodes alone.
 module _ (t u : Tree) (e : t.nodes ≡ u.nodes) (n : t.node_count ≡ u.node_count) where
@@ -95,13 +86,20 @@ module _ (chars : List ℕ) (values : List Value) (k : ℕ) (t : Tree) (code : �
   unfolding all_named pairs_of
   named_here i e = rw e refl
 
-  pub linkless-here : (i a : ℕ) → a ≡ cut_name k → is_named t code i ≡ true → has_links t a i ≡ false
+  linkless-here : (i a : ℕ) → a ≡ cut_name k → is_named t code i ≡ true → has_links t a i ≡ false
       → t ≡ applied t (link_cuts chars values k code t (i ∷ []))
   linkless-here i a e n h = linkless-pairs chars values k i t (ap (λ (x : ℕ). has_links t x i) (sym e) ∙ h) ∙ named_here i n
 
-  pub unnamed_here : (i : ℕ) → is_named t code i ≡ false → t ≡ applied t (link_cuts chars values k code t (i ∷ []))
+  unnamed_here : (i : ℕ) → is_named t code i ≡ false → t ≡ applied t (link_cuts chars values k code t (i ∷ []))
   unfolding all_named pairs_of going_on applied
   unnamed_here i e = rw e refl
+
+  pub unsought_here : (i a : ℕ) → a ≡ cut_name k → is_sought t code a i ≡ false → t ≡ applied t (link_cuts chars values k code t (i ∷ []))
+  unsought_here i a e h = go (is_named t code i) refl h
+    where
+      go : (b : Bool) → is_named t code i ≡ b → and b (has_links t a i) ≡ false → t ≡ applied t (link_cuts chars values k code t (i ∷ []))
+      go true n h = linkless-here i a e n h
+      go false n h = unnamed_here i n
 
   -- All of them.
   pub links-all : code ≡ element_of k → k ≤ 5 → link_cuts chars values k code t (up_from 0 t.node_count) ≡ pass_on chars values k t
@@ -158,15 +156,17 @@ module _ (chars : List ℕ) (values : List Value) where
     unfolding all_named images_on applied
     no-image e = rw e refl
 
-    pub image-uncut : is_named t EId.FeImage i ≡ true → (w : ℕ) → w ≡ recursive_fe_image chars values t i → w ≡ 0
+    pub image-uncut : is_named t EId.FeImage i ≡ true → 0 ≡ recursive_fe_image chars values t i
         → t ≡ applied t (image_cuts chars values t (i ∷ []))
     unfolding all_named images_on applied
-    image-uncut e w q z = rw (e, ← q, eq-eqb w 0 z) refl
+    image-uncut e q = rw (e, ← q) refl
 
-    pub image-cut : is_named t EId.FeImage i ≡ true → (w : ℕ) → w ≡ recursive_fe_image chars values t i → (w ≡ 0 → ⊥)
-        → apply_cut t (cut_at t 6 (w - 1)) ≡ applied t (image_cuts chars values t (i ∷ []))
+    pub image-cut : is_named t EId.FeImage i ≡ true → (w : ℕ) → w + 1 ≡ recursive_fe_image chars values t i
+        → apply_cut t (cut_at t 6 w) ≡ applied t (image_cuts chars values t (i ∷ []))
     unfolding all_named images_on applied
-    image-cut e w q z = rw (e, ← q, ne_eqb w 0 z) refl
+    image-cut e w q =
+        let z : w + 1 - 1 ≡ w = omega arith in
+        rw (e, ← q, ne_eqb (w + 1) 0 (λ x. omega arith), z) refl
 
   pub images-all : (t : Tree) → image_cuts chars values t (up_from 0 t.node_count) ≡ pass_on chars values 6 t
   unfolding pass_on
@@ -175,14 +175,14 @@ module _ (chars : List ℕ) (values : List Value) where
 -- THE LOOP
 
 -- In the middle of the nodes: i is next, and what is still to do leaves what all of it leaves.
-pub record Pass (script chars marks heads ns : List ℕ) (c : Counts) (f : Tree → List ℕ → List Cut) (es₀ es : List ℕ) (i : ℕ) (hint : Cursor)
+pub record Pass (script chars : List ℕ) (marks : Marks) (heads ns : List ℕ) (c : Counts) (f : Tree → List ℕ → List Cut) (es₀ es : List ℕ) (i : ℕ) (hint : Cursor)
     : Type 0 where
   pub mendable : Mendable script chars marks heads ns es c hint
   pub long : length es ≡ length es₀
   pub same : applied (seen_of ns es c) (f (seen_of ns es c) (up_from i (c.nodes - i)))
       ≡ applied (seen_of ns es₀ c) (f (seen_of ns es₀ c) (up_from 0 c.nodes))
 
-module _ (script chars marks heads ns : List ℕ) (c : Counts) (f : Tree → List ℕ → List Cut) where
+module _ (script chars : List ℕ) (marks : Marks) (heads ns : List ℕ) (c : Counts) (f : Tree → List ℕ → List Cut) where
   pub pass-start : (es : List ℕ) (hint : Cursor) → Mendable script chars marks heads ns es c hint
       → Pass script chars marks heads ns c f es es 0 hint
   pass-start es hint g =
@@ -248,7 +248,7 @@ links-same ns es es' c a i h =
     go xs = with-same (seen_of ns es c) (seen_of ns es' c) a h xs
 
 -- Cuts keep the marks.
-module _ (script chars marks heads ns es : List ℕ) (c : Counts) (g : Mendable script chars marks heads ns es c at_start) (cs : List Cut)
+module _ (script chars : List ℕ) (marks : Marks) (heads ns es : List ℕ) (c : Counts) (g : Mendable script chars marks heads ns es c at_start) (cs : List Cut)
     (es' : List ℕ) (e : seen_of ns es' c ≡ applied (seen_of ns es c) cs) where
   pub sought-on : (k : ℕ) → 1 ≤ k → k ≤ 5 → Sought chars (values_of script chars) (seen_of ns es c) k
       → Sought chars (values_of script chars) (seen_of ns es' c) k

@@ -1,6 +1,6 @@
 -- Chains and marks before the passes. Assumes nothing.
-use mathlib.Core.Path.{◌≡◌, refl, sym, ap, ◌∙◌}
-use mathlib.Core.Bool.{Bool, true, false, not, true≢false}
+use mathlib.Core.Path.{◌≡◌, sym, ap, ◌∙◌}
+use mathlib.Core.Bool.{true, false, true≢false}
 use mathlib.Core.List.{List}
 use Prim.Native.Nat.{ℕ, ◌+◌, ◌<◌, ◌≤◌}
 use native.Mathlib.Omega.{arith}
@@ -38,15 +38,6 @@ unsought-more t code a i w e = record { none = λ m h. go m h (ℕ_discrete m i)
     go : (m : ℕ) → m < i + 1 → Dec (m ≡ i) → is_sought t code a m ≡ false
     go m h (yes d) = ap (is_sought t code a) d ∙ e
     go m h (no d) = w.none m (omega arith)
-
-pub sought-unnamed : (t : Tree) (code a i : ℕ) (b : Bool) → b ≡ is_named t code i → not b ≡ true → false ≡ is_sought t code a i
-sought-unnamed t code a i true e h = absurd (true≢false (sym h))
-sought-unnamed t code a i false e h = rw (← e) refl
-
-pub sought-named : (t : Tree) (code a i : ℕ) (b : Bool) → b ≡ is_named t code i → not b ≡ false → (r : Bool) → r ≡ has_links t a i
-    → r ≡ is_sought t code a i
-sought-named t code a i true e h r q = q ∙ rw (← e) refl
-sought-named t code a i false e h r q = absurd (true≢false h)
 
 -- One pass more: it looks at no element with links, or its marks were stored.
 module _ (chars : List ℕ) (values : List Value) (ns es : List ℕ) (c : Counts) (k : ℕ)

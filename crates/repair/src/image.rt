@@ -1,5 +1,6 @@
 // feImage: an image of an element whose own filters lead back to the filter in which the image stands.
-ghost use Rattle.std.specs.Prelude.{◌≡◌, ◌≤◌, ◌<◌};
+ghost use Rattle.std.specs.Prelude.{◌≡◌, ◌<◌, IfSome};
+ghost use Rattle.tree.specs.Lent.{plus_one};
 ghost use Rattle.model.specs.Tables.{ELEMENT, word};
 ghost use Rattle.model.specs.Repair.{recursive_fe_image};
 ghost use Rattle.script.specs.Step.{Fit};
@@ -9,18 +10,19 @@ ghost use Rattle.cuts.specs.Seen.{Mendable};
 
 use ids::find::find_id;
 use leads::filter::has_filter;
-use leads::link::{FoundLink, link_of};
+use leads::link::link_of;
 use names::aid;
+use places::marks::Marks;
 use script::cursor::Cursor;
 use tree::read::attribute_id;
 use tree::word::node_word;
 use tree::{Counts, word};
 use walk::value::part_at;
 
-// A node that a feImage cuts, as its index plus 1, 0 for none; and a place in the script from which to look for the next link.
+// The node that a feImage cuts, and a place in the script from which to look for the next link.
 #[derive(Clone, Copy)]
 pub struct Image {
-    pub node: u32,
+    pub node: Option<u32>,
     pub hint: Cursor,
 }
 
@@ -28,7 +30,7 @@ pub struct Image {
 pub fn image_of(
     script: &[u8],
     characters: &[u8],
-    marks: &[usize; 1025],
+    marks: &Marks,
     heads: &[u32; 2049],
     nodes: &[u32],
     attributes: &[u32],
@@ -39,11 +41,12 @@ pub fn image_of(
     requires mendable { Mendable script.now characters.now marks.now heads.now nodes.now attributes.now counts hint }
     requires i_lt_nodes { i < counts.nodes }
     requires i_value { word nodes.now i 0 ≡ ELEMENT }
-    ensures same { result.node ≡ recursive_fe_image characters.now (values_of script.now characters.now)
+    ensures same { plus_one result.node ≡ recursive_fe_image characters.now (values_of script.now characters.now)
         (seen_of nodes.now attributes.now counts) i }
-    ensures fit { (result.node ≤ counts.nodes) × Fit script.now result.hint }
+    ensures within { IfSome result.node (λ w. w < counts.nodes) }
+    ensures fit { Fit script.now result.hint }
 {
-    match link_of(
+    let found = link_of(
         script,
         characters,
         marks,
@@ -53,28 +56,31 @@ pub fn image_of(
         aid::HREF,
         1,
         hint,
-    ) {
-        FoundLink::At(start, len, c) => {
-            let target = part_at(characters, start, len);
-            let w = find_id(nodes, attributes, characters, heads, target, counts.nodes);
-            if w == 0 {
-                return Image { node: 0, hint: c };
-            }
-            let parent = node_word(nodes, i, word::PARENT);
-            let id = attribute_id(nodes, attributes, parent - 1, aid::ID);
-            let f = has_filter(script, characters, marks, nodes, attributes, w - 1, id, c);
-            let place = f.hint;
-            if f.back {
-                return Image {
-                    node: w,
-                    hint: place,
-                };
-            }
-            Image {
-                node: 0,
-                hint: place,
-            }
-        }
-        FoundLink::Nothing(c) => Image { node: 0, hint: c },
+    );
+    let nothing = Image {
+        node: None,
+        hint: found.hint,
+    };
+    let Some(p) = found.part else {
+        return nothing;
+    };
+    let target = part_at(characters, p.start, p.len);
+    let Some(w) = find_id(nodes, attributes, characters, heads, target, counts.nodes) else {
+        return nothing;
+    };
+    let parent = node_word(nodes, i, word::PARENT) - 1;
+    let id = attribute_id(nodes, attributes, parent, aid::ID);
+    let filtered = has_filter(
+        script, characters, marks, nodes, attributes, w, id, found.hint,
+    );
+    if filtered.back {
+        return Image {
+            node: Some(w),
+            hint: filtered.hint,
+        };
+    }
+    Image {
+        node: None,
+        hint: filtered.hint,
     }
 }

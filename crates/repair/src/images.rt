@@ -12,14 +12,16 @@ use crate::image::image_of;
 use crate::pass::is_named;
 use cuts::cut::cut;
 use names::eid;
+use places::marks::Marks;
 use script::cursor::Cursor;
+use targets::name::Pass;
 use tree::Counts;
 
 // Node i, where it is a feImage: the filter of the node that it leads to is cut, if it leads back.
 fn cut_image(
     script: &[u8],
     characters: &[u8],
-    marks: &[usize; 1025],
+    marks: &Marks,
     heads: &[u32; 2049],
     nodes: &[u32],
     attributes: &mut [u32],
@@ -41,20 +43,17 @@ fn cut_image(
     let image = image_of(
         script, characters, marks, heads, nodes, attributes, counts, i, hint,
     );
-    let place = image.hint;
-    let node = image.node;
-    if node == 0 {
-        return place;
+    if let Some(node) = image.node {
+        cut(nodes, attributes, Pass::FeImage, node);
     }
-    cut(nodes, attributes, 6, node - 1);
-    place
+    image.hint
 }
 
 // Pass 6.
 pub fn cut_images(
     script: &[u8],
     characters: &[u8],
-    marks: &[usize; 1025],
+    marks: &Marks,
     heads: &[u32; 2049],
     nodes: &[u32],
     attributes: &mut [u32],
@@ -69,12 +68,10 @@ pub fn cut_images(
     ensures fit { Fit script.now result }
 {
     let mut c = hint;
-    let mut i = 0;
-    while i < counts.nodes {
+    for i in 0..counts.nodes {
         c = cut_image(
             script, characters, marks, heads, nodes, attributes, counts, i, c,
         );
-        i += 1;
     }
     c
 }

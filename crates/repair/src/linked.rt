@@ -11,19 +11,11 @@ fn is_linked(nodes: &[u32], i: u32) -> bool
     requires { 8 * i + 7 < length nodes.now }
     ensures { result ≡ is_linked (nodes_read nodes.now) i }
 {
-    if is_named(nodes, eid::PATTERN, i) {
-        return true;
-    }
-    if is_named(nodes, eid::CLIP_PATH, i) {
-        return true;
-    }
-    if is_named(nodes, eid::MASK, i) {
-        return true;
-    }
-    if is_named(nodes, eid::FILTER, i) {
-        return true;
-    }
-    is_named(nodes, eid::FE_IMAGE, i)
+    is_named(nodes, eid::PATTERN, i)
+        || is_named(nodes, eid::CLIP_PATH, i)
+        || is_named(nodes, eid::MASK, i)
+        || is_named(nodes, eid::FILTER, i)
+        || is_named(nodes, eid::FE_IMAGE, i)
 }
 
 // Is one of the first `count` nodes such an element?
@@ -31,12 +23,10 @@ pub fn any_linked(nodes: &[u32], count: u32) -> bool
     requires { 8 * count ≤ length nodes.now }
     ensures { result ≡ false → (i : ℕ) → i < count → is_linked (nodes_read nodes.now) i ≡ false }
 {
-    let mut i = 0;
-    while i < count {
+    for i in 0..count {
         if is_linked(nodes, i) {
             return true;
         }
-        i += 1;
     }
     false
 }

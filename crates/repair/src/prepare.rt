@@ -6,14 +6,16 @@ ghost use Rattle.places.specs.Marks.{Marked};
 ghost use Rattle.tree.specs.Lent.{read_of, Readable};
 ghost use Rattle.ids.specs.Chains.{Like, Indexed};
 ghost use Rattle.leads.specs.Links.{values_of};
+ghost use Rattle.targets.specs.Pass.{pass_number};
 ghost use Rattle.targets.specs.Targets.{seen_of};
 ghost use Rattle.repair.specs.Passes.{is_sought, Resolved};
 
-use crate::pass::{element_code, is_named};
-use cuts::below::has_links;
+use crate::LINK_PASSES;
+use crate::pass::{element_code, is_sought};
 use ids::chain::chain;
 use ids::plain::is_plain;
-use targets::name::cut_name;
+use places::marks::Marks;
+use targets::name::{Pass, cut_name};
 use targets::resolve::resolve;
 use tree::Counts;
 
@@ -23,44 +25,20 @@ pub fn has_room(attributes: &[u32], counts: Counts) -> bool
     ensures { result ≡ true → (counts.nodes < 1073741824)
         × ((j : ℕ) → j < counts.attributes → get_or attributes.now (5 * j + 1) 0 ≤ 1) }
 {
-    if counts.nodes >= 1073741824 {
-        return false;
-    }
-    is_plain(attributes, counts.attributes)
+    counts.nodes < 1073741824 && is_plain(attributes, counts.attributes)
 }
 
-// Is node i an element with that code, which has that attribute or a node below it that has?
-fn is_sought(
-    nodes: &[u32],
-    attributes: &[u32],
-    counts: Counts,
-    code: u32,
-    name: u32,
-    i: u32,
-) -> bool
-    requires by_index { (m : ℕ) → m < counts.nodes → Readable (read_of nodes.now attributes.now) m }
-    requires i_lt_nodes { (i < counts.nodes) × (8 * counts.nodes ≤ length nodes.now) }
-    ensures { result ≡ is_sought (seen_of nodes.now attributes.now counts) code name i }
-{
-    if !is_named(nodes, code, i) {
-        return false;
-    }
-    has_links(nodes, attributes, counts, name, i)
-}
-
-// Is one of the nodes such an element?
+// Is one of the nodes an element with that code, which has that attribute or a node below it that has?
 fn any_sought(nodes: &[u32], attributes: &[u32], counts: Counts, code: u32, name: u32) -> bool
     requires by_index { (m : ℕ) → m < counts.nodes → Readable (read_of nodes.now attributes.now) m }
     requires nodes_in_bounds { 8 * counts.nodes ≤ length nodes.now }
     ensures { result ≡ false → (i : ℕ) → i < counts.nodes
         → is_sought (seen_of nodes.now attributes.now counts) code name i ≡ false }
 {
-    let mut i = 0;
-    while i < counts.nodes {
+    for i in 0..counts.nodes {
         if is_sought(nodes, attributes, counts, code, name, i) {
             return true;
         }
-        i += 1;
     }
     false
 }
@@ -69,25 +47,26 @@ fn any_sought(nodes: &[u32], attributes: &[u32], counts: Counts, code: u32, name
 fn resolve_named(
     script: &[u8],
     characters: &[u8],
-    marks: &[usize; 1025],
+    marks: &Marks,
     heads: &[u32; 2049],
     nodes: &[u32],
     attributes: &mut [u32],
     counts: Counts,
-    pass: u32,
+    pass: Pass,
 )
     requires characters_value { check script.now characters.now ≡ 0 }
     requires marked { Marked script.now marks.now }
     requires tidy { Tidy (length characters.now) (seen_of nodes.now attributes.old counts) }
     requires indexed_2 { Indexed characters.now (read_of nodes.now attributes.old) heads.now counts.nodes }
     requires nodes_bound { counts.nodes < 1073741824 }
-    requires le_pass { (1 ≤ pass) × (pass ≤ 5) }
-    requires resolved_2 { Resolved characters.now (values_of script.now characters.now) (seen_of nodes.now attributes.old counts) pass }
+    requires pass_bound { pass_number pass ≤ 5 }
+    requires resolved_2 { Resolved characters.now (values_of script.now characters.now) (seen_of nodes.now attributes.old counts)
+        (pass_number pass) }
     ensures like { Like counts.attributes attributes.old attributes.new }
     ensures indexed { Indexed characters.now (read_of nodes.now attributes.new) heads.now
         counts.nodes }
     ensures resolved { Resolved characters.now (values_of script.now characters.now)
-        (seen_of nodes.now attributes.new counts) (pass + 1) }
+        (seen_of nodes.now attributes.new counts) (pass_number pass + 1) }
 {
     let code = element_code(pass);
     let name = cut_name(pass);
@@ -102,7 +81,7 @@ fn resolve_named(
 fn resolve_all(
     script: &[u8],
     characters: &[u8],
-    marks: &[usize; 1025],
+    marks: &Marks,
     heads: &[u32; 2049],
     nodes: &[u32],
     attributes: &mut [u32],
@@ -119,12 +98,10 @@ fn resolve_all(
     ensures resolved { Resolved characters.now (values_of script.now characters.now)
         (seen_of nodes.now attributes.new counts) 6 }
 {
-    let mut pass: u32 = 1;
-    while pass <= 5 {
+    for pass in LINK_PASSES {
         resolve_named(
             script, characters, marks, heads, nodes, attributes, counts, pass,
         );
-        pass += 1;
     }
 }
 
@@ -132,7 +109,7 @@ fn resolve_all(
 pub fn prepare(
     script: &[u8],
     characters: &[u8],
-    marks: &[usize; 1025],
+    marks: &Marks,
     heads: &mut [u32; 2049],
     nodes: &[u32],
     attributes: &mut [u32],

@@ -10,12 +10,13 @@ ghost use Rattle.leads.specs.Links.{values_of};
 ghost use Rattle.targets.specs.Targets.{seen_of};
 ghost use Rattle.repair.specs.Passes.{all_passes, Resolved};
 
+use crate::LINK_PASSES;
 use crate::images::cut_images;
 use crate::linked::any_linked;
 use crate::pass::cut_pass;
 use crate::prepare::{has_room, prepare};
 use ids::plain::unchain;
-use places::marks::set_marks;
+use places::marks::{Marks, set_marks};
 use script::cursor::Cursor;
 use tree::Counts;
 
@@ -23,7 +24,7 @@ use tree::Counts;
 fn mend(
     script: &[u8],
     characters: &[u8],
-    marks: &[usize; 1025],
+    marks: &Marks,
     heads: &[u32; 2049],
     quiet: &mut [u32; 4096],
     nodes: &[u32],
@@ -41,12 +42,10 @@ fn mend(
         (all_passes characters.now (values_of script.now characters.now)
         (seen_of nodes.now attributes.old counts)) }
 {
-    let mut pass: u32 = 1;
-    while pass <= 5 {
+    for pass in LINK_PASSES {
         cut_pass(
             script, characters, marks, heads, quiet, nodes, attributes, counts, pass,
         );
-        pass += 1;
     }
     cut_images(
         script,
@@ -78,7 +77,7 @@ pub fn repair(
     if !any_linked(nodes, counts.nodes) {
         return;
     }
-    let mut marks: [usize; 1025] = [0; 1025];
+    let mut marks = Marks::new();
     set_marks(script, characters, &mut marks);
     let mut heads: [u32; 2049] = [0; 2049];
     let mut quiet: [u32; 4096] = [0; 4096];

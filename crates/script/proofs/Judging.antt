@@ -8,6 +8,7 @@ use native.Mathlib.Omega.{arith}
 use borrow.Author.Tests.{ltb-false, eq-eqb, ne_eqb, le-leb, le-ltb, lt-ltb}
 use lib.Dec.{eqb, leb, ltb}
 use lib.ListN.{length}
+use Rattle.std.specs.Prelude.{Option, Some, None, Result, Ok, Err}
 use lib.Seq.{slice}
 use Rattle.model.specs.Base.{pick, and}
 use Rattle.model.specs.Utf8.{is_utf8}
@@ -15,11 +16,11 @@ use Rattle.model.specs.Drawing.{Command, opening, attribute, declaration, readin
 use Rattle.model.specs.Check.{◌if◌, first_of, string_tests, tests_of, tests_at_end, stepped, check_from, starting, check}
 use Rattle.script.specs.declared.cursor.Cursor.{Cursor}
 use Rattle.script.specs.declared.check.Stage.TheVariants.{Attributes, Declarations, Children}
-use Rattle.script.specs.declared.check.Last.TheVariants.{Nothing, Value}
+use Rattle.script.specs.declared.check.LastValue.{LastValue}
 use Rattle.script.specs.declared.check.State.{State}
-use Rattle.script.specs.declared.check.Judgement.{Judgement}
-use Rattle.script.specs.declared.check.Judgement.TheVariants.{Passed, Refused}
-use Rattle.script.specs.declared.check.Turn.{Turn}
+use Rattle.refusal.specs.declared.Refusal.{Refusal}
+use Rattle.refusal.specs.Number.{number_of}
+use Rattle.refusal.proofs.Number.{number_nonzero}
 use Rattle.script.specs.Step.{Fit, Here, commands_at, at_start}
 use Rattle.script.specs.Known.{bit, Kinds, Held, Inside, state_of, test_of, Passing, Judged, onward_of, check_at}
 use Rattle.script.specs.Known.{Onward, Turned}
@@ -39,52 +40,53 @@ string-inside chars a l e = go (ltb (length chars) (a + l)) refl e
 
 module _ (chars : List ℕ) (s : State) (at : ℕ) (ks : List ℕ) where
   pub open-passes : (c n : ℕ) → 0 ≡ test_of chars s at ks (opening c n)
-      → Passing chars s at ks (opening c n) (record { depth = s.depth + 1; stage = Attributes; begun = true; last = Nothing })
+      → Passing chars s at ks (opening c n) (record { depth = s.depth + 1; stage = Attributes; begun = true; last = None })
   unfolding stepped
   open-passes c n e = record { kinds = []; held = tt; inside = tt; none = sym e; state = rw (add-zero at) }
 
   pub attribute-passes : (a n l : ℕ) → 0 ≡ test_of chars s at ks (attribute a n l) → at + l ≤ length chars
-      → Passing chars s at ks (attribute a n l) (record { depth = s.depth; stage = Attributes; begun = s.begun; last = Value at l 0 })
+      → Passing chars s at ks (attribute a n l) (record { depth = s.depth; stage = Attributes; begun = s.begun; last = Some (record { start = at; size = l; kinds = 0 }) })
   unfolding stepped
   attribute-passes a n l e h = record { kinds = []; held = none; inside = h; none = sym e; state = refl }
 
   pub declaration-passes : (a n l : ℕ) → 0 ≡ test_of chars s at ks (declaration a n l) → at + l ≤ length chars
-      → Passing chars s at ks (declaration a n l) (record { depth = s.depth; stage = Declarations; begun = s.begun; last = Value at l 0 })
+      → Passing chars s at ks (declaration a n l) (record { depth = s.depth; stage = Declarations; begun = s.begun; last = Some (record { start = at; size = l; kinds = 0 }) })
   unfolding stepped
   declaration-passes a n l e h = record { kinds = []; held = none; inside = h; none = sym e; state = refl }
 
   pub text-passes : (l : ℕ) → 0 ≡ test_of chars s at ks (text l)
-      → Passing chars s at ks (text l) (record { depth = s.depth; stage = Children; begun = s.begun; last = Nothing })
+      → Passing chars s at ks (text l) (record { depth = s.depth; stage = Children; begun = s.begun; last = None })
   unfolding stepped
   text-passes l e = record { kinds = []; held = tt; inside = tt; none = sym e; state = refl }
 
   pub other-passes : 0 ≡ test_of chars s at ks other
-      → Passing chars s at ks other (record { depth = s.depth; stage = Children; begun = s.begun; last = Nothing })
+      → Passing chars s at ks other (record { depth = s.depth; stage = Children; begun = s.begun; last = None })
   unfolding stepped
   other-passes e = record { kinds = []; held = tt; inside = tt; none = sym e; state = rw (add-zero at) }
 
   pub close-passes : 0 ≡ test_of chars s at ks closing
-      → Passing chars s at ks closing (record { depth = s.depth - 1; stage = Children; begun = s.begun; last = Nothing })
+      → Passing chars s at ks closing (record { depth = s.depth - 1; stage = Children; begun = s.begun; last = None })
   unfolding stepped
   close-passes e = record { kinds = []; held = tt; inside = tt; none = sym e; state = rw (add-zero at) }
 
 -- A reading behind a value.
-module _ (chars : List ℕ) (s : State) (at : ℕ) (ks : List ℕ) (k o l a n m : ℕ) (e : s.last ≡ Value a n m) (low : 1 ≤ k)
+module _ (chars : List ℕ) (s : State) (at : ℕ) (ks : List ℕ) (k o l : ℕ) (v : LastValue) (e : s.last ≡ Some v) (low : 1 ≤ k)
     (high : k ≤ 10) where
   pub reading-test : Held s.last ks → (t : ℕ)
-      → t ≡ first_of (6 if ltb n (o + l) ∷ 7 if and (not (eqb k 4)) (bit m k) ∷ 9 if not (is_utf8 (slice (a + o) (a + o + l) chars)) ∷ [])
+      → t ≡ first_of (6 if ltb v.size (o + l) ∷ 7 if and (not (eqb k 4)) (bit v.kinds k)
+      ∷ 9 if not (is_utf8 (slice (v.start + o) (v.start + o + l) chars)) ∷ [])
       → t ≡ test_of chars s at ks (reading k o l)
   unfolding tests_of first_of
   reading-test h t f =
-      let w : Kinds m ks = subst (λ v. Held v ks) e h in
+      let w : Kinds v.kinds ks = subst (λ v. Held v ks) e h in
       rw (e, le-leb 1 k low, le-leb k 10 high, ← w.same k high) f
 
-  pub reading-passes : (m' : ℕ) → 0 ≡ test_of chars s at ks (reading k o l) → Kinds m' (k ∷ ks) → a + n ≤ length chars
-      → Passing chars s at ks (reading k o l) (record { depth = s.depth; stage = s.stage; begun = s.begun; last = Value a n m' })
+  pub reading-passes : (m' : ℕ) → 0 ≡ test_of chars s at ks (reading k o l) → Kinds m' (k ∷ ks) → v.start + v.size ≤ length chars
+      → Passing chars s at ks (reading k o l) (record { depth = s.depth; stage = s.stage; begun = s.begun; last = Some (record { start = v.start; size = v.size; kinds = m' }) })
   unfolding stepped
   reading-passes m' f g h = record { kinds = k ∷ ks; held = g; inside = h; none = sym f; state = rw (add-zero at, e) }
 
-pub reading-nowhere : (chars : List ℕ) (s : State) (at : ℕ) (ks : List ℕ) (k o l : ℕ) → s.last ≡ Nothing → 1 ≤ k → k ≤ 10
+pub reading-nowhere : (chars : List ℕ) (s : State) (at : ℕ) (ks : List ℕ) (k o l : ℕ) → s.last ≡ None → 1 ≤ k → k ≤ 10
     → 4 ≡ test_of chars s at ks (reading k o l)
 unfolding tests_of first_of
 reading-nowhere chars s at ks k o l e low high = rw (e, le-leb 1 k low, le-leb k 10 high)
@@ -104,14 +106,15 @@ module _ (script chars : List ℕ) (s : State) (c : Cursor) (ks : List ℕ) wher
   unfolding check_from
   opened x cs e = rw e
 
-  pub stops : (x : Command) (cs : List Command) (n : ℕ) → commands_at script c ≡ x ∷ cs → n ≡ test_of chars s c.chars ks x → (n ≡ 0 → ⊥)
-      → n ≡ check_at script chars s c ks
-  stops x cs n e f z = f ∙ sym (opened x cs e ∙ rw (ne_eqb (test_of chars s c.chars ks x) 0 (λ g. z (f ∙ g))))
+  pub stops : (x : Command) (cs : List Command) (r : Refusal) → commands_at script c ≡ x ∷ cs
+      → number_of r ≡ test_of chars s c.chars ks x → number_of r ≡ check_at script chars s c ks
+  stops x cs r e f =
+      f ∙ sym (opened x cs e ∙ rw (ne_eqb (test_of chars s c.chars ks x) 0 (λ g. number_nonzero r (f ∙ g))))
 
-  pub turned : (x : Command) (n : Cursor) (j : Judgement) → Here script c x n → Fit script n → Judged chars s c.chars ks x j
+  pub turned : (x : Command) (n : Cursor) (j : Result State Refusal) → Here script c x n → Fit script n → Judged chars s c.chars ks x j
       → Turned script chars s c ks (onward_of j n)
-  turned x n (Refused t) h f g = stops x (commands_at script n) t h.more g.0 g.1
-  turned x n (Passed s') h f g = record {
+  turned x n (Err t) h f g = stops x (commands_at script n) t h.more g
+  turned x n (Ok s') h f g = record {
     kinds = g.kinds;
     held = g.held;
     inside = g.inside;
@@ -122,7 +125,7 @@ module _ (script chars : List ℕ) (s : State) (c : Cursor) (ks : List ℕ) wher
         ∙ sym (opened x (commands_at script n) h.more ∙ rw (eq-eqb (test_of chars s c.chars ks x) 0 g.none));
   }
 
-  pub turning : (x : Command) (n : Cursor) (j : Judgement) (r : Turn) → Here script c x n → Fit script n
+  pub turning : (x : Command) (n : Cursor) (j : Result State Refusal) (r : Result (Option (State × Cursor)) Refusal) → Here script c x n → Fit script n
       → Judged chars s c.chars ks x j → r ≡ onward_of j n → Turned script chars s c ks r
   turning x n j r h f g e = subst (Turned script chars s c ks) (sym e) (turned x n j h f g)
 
@@ -141,12 +144,12 @@ pub record Checking (script chars : List ℕ) (s : State) (c : Cursor) : Type 0 
   pub same : check_at script chars s c kinds ≡ check script chars
 
 pub checking : (script chars : List ℕ) (s : State) (c : Cursor) → length script ≤ 1048576 → length chars ≤ 1048576
-    → s ≡ record { depth = 0; stage = Children; begun = false; last = Nothing } → c ≡ record { at = 0; chars = 0; number = 0; texts = 0 }
+    → s ≡ record { depth = 0; stage = Children; begun = false; last = None } → c ≡ record { at = 0; chars = 0; number = 0; texts = 0 }
     → Checking script chars s c
 unfolding check starting commands_at
 checking script chars s c h l e f =
     subst (λ s. Checking script chars s c) (sym e)
-    (subst (λ c. Checking script chars (record { depth = 0; stage = Children; begun = false; last = Nothing }) c) (sym f) (record {
+    (subst (λ c. Checking script chars (record { depth = 0; stage = Children; begun = false; last = None }) c) (sym f) (record {
       kinds = [];
       held = tt;
       inside = tt;

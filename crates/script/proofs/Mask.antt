@@ -7,11 +7,11 @@ use native.Mathlib.Nat.{mod-lt}
 use native.Mathlib.Omega.{arith}
 use borrow.Author.Tests.{eqb-true, ltb-true, not-true}
 use lib.Dec.{eqb, leb, ltb, lit<, lit≤}
+use Rattle.std.specs.Prelude.{Option, Some, None}
 use lib.Bits.{bit_or, or_shr, or_mod, or_zero_r, or_lt}
 use Rattle.model.specs.Base.{pick, and, or, among}
 use Rattle.model.specs.Check.{value, is_half_font}
-use Rattle.script.specs.declared.check.Last.{Last}
-use Rattle.script.specs.declared.check.Last.TheVariants.{Nothing, Value}
+use Rattle.script.specs.declared.check.LastValue.{LastValue}
 use Rattle.script.specs.Known.{bit, Kinds, last_of, Held}
 use Rattle.utf8.proofs.Sequence.{all_below, below}
 
@@ -123,11 +123,11 @@ half_is a n m ks s =
     )
     (alike_is _ _ (below 2048 halves all-halves m s.small))
 
-pub half_at : (last : Last) (a n m : ℕ) → last ≡ Value a n m → (ks : List ℕ) → Held last ks
-    → is_half_font (last_of last ks) ≡ and (leb 32 m) (ltb m 1536)
-half_at last a n m e ks h =
-    ap (λ l. is_half_font (last_of l ks)) e ∙ half_is a n m ks (subst (λ l. Held l ks) e h)
+pub half_at : (last : Option LastValue) (v : LastValue) → last ≡ Some v → (ks : List ℕ) → Held last ks
+    → is_half_font (last_of last ks) ≡ and (leb 32 v.kinds) (ltb v.kinds 1536)
+half_at last v e ks h =
+    ap (λ l. is_half_font (last_of l ks)) e ∙ half_is v.start v.size v.kinds ks (subst (λ l. Held l ks) e h)
 
-pub half-nothing : (last : Last) → last ≡ Nothing → (ks : List ℕ) → false ≡ is_half_font (last_of last ks)
+pub half-nothing : (last : Option LastValue) → last ≡ None → (ks : List ℕ) → false ≡ is_half_font (last_of last ks)
 unfolding is_half_font
 half-nothing last e ks = sym (ap (λ l. is_half_font (last_of l ks)) e)

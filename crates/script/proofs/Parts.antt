@@ -2,9 +2,12 @@
 use mathlib.Core.Path.{◌≡◌, refl, sym, ap, ◌∙◌}
 use mathlib.Core.List.{List, [], ◌∷◌}
 use mathlib.Core.Bool.{Bool, true, false, not, false≢true}
-use Prim.Native.Nat.{ℕ, zero, suc, ◌+◌, ◌-◌}
+use Prim.Native.Nat.{ℕ, zero, suc, ◌+◌, ◌-◌, ◌<◌, ◌≤◌}
 use native.Mathlib.Nat.{suc-add, zero-add}
 use native.Mathlib.Omega.{arith}
+use mathlib.Core.Logic.{◌⊎◌, inl, inr}
+use borrow.Author.Tests.{lt-leb, le-leb}
+use lib.Dec.{leb}
 use lib.ListN.{take, drop}
 use lib.Seq.{slice, take-nil}
 use Rattle.model.specs.Base.{and}
@@ -34,6 +37,14 @@ pub utf8-part : (chars : List ℕ) (a n e : ℕ) (r t : Bool) → r ≡ is_utf8 
     → not (is_utf8 (slice a (a + n) chars)) ≡ not t
 utf8-part chars a n e r t h g f =
     ap not (ap is_utf8 (sym (part-is a n chars) ∙ ap (λ m. take m (drop a chars)) (let z : n ≡ e - a = omega arith in z)) ∙ sym h ∙ f)
+
+-- A code or a number outside its list, and both inside.
+pub code-outside : (r m : Bool) (n k : ℕ) → r ≡ m → ((r ≡ false) ⊎ ((r ≡ true) × (k < n))) → not (and m (leb n k)) ≡ true
+code-outside r m n k e (inl f) = rw (← e, f)
+code-outside r m n k e (inr (t, l)) = rw (← e, t, lt-leb n k l)
+
+pub code-inside : (r m : Bool) (n k : ℕ) → r ≡ m → r ≡ true → n ≤ k → not (and m (leb n k)) ≡ false
+code-inside r m n k e t l = rw (← e, t, le-leb n k l)
 
 -- The first of some tests that applies.
 pub hit : (n : ℕ) {b : Bool} (ts : List Test) → b ≡ true → n ≡ first_of (n if b ∷ ts)

@@ -1,5 +1,5 @@
 -- What the code of check knows, as the model has it. The code keeps the kinds of a value's readings as bits; the model has them as a list.
-use Rattle.std.specs.Prelude.{◌≡◌, ℕ, ◌+◌, ◌/◌, ◌%◌, ◌^◌, ◌<◌, ◌≤◌, Bool, List, eqb, length}
+use Rattle.std.specs.Prelude.{◌≡◌, ℕ, ◌+◌, ◌/◌, ◌%◌, ◌^◌, ◌<◌, ◌≤◌, Bool, List, eqb, length, Option, Some, None, Result, Ok, Err}
 use Rattle.model.specs.Base.{among}
 use Rattle.model.specs.Check as model
 use Rattle.model.specs.Check.{check_from, first_of, tests_of, stepped}
@@ -7,13 +7,10 @@ use Rattle.model.specs.Drawing.{Command, taken}
 use Rattle.script.specs.declared.cursor.Cursor.{Cursor}
 use Rattle.script.specs.declared.check.Stage.{Stage}
 use Rattle.script.specs.declared.check.Stage.TheVariants.{Attributes, Declarations, Children}
-use Rattle.script.specs.declared.check.Last.{Last}
-use Rattle.script.specs.declared.check.Last.TheVariants.{Nothing, Value}
+use Rattle.script.specs.declared.check.LastValue.{LastValue}
 use Rattle.script.specs.declared.check.State.{State}
-use Rattle.script.specs.declared.check.Judgement.{Judgement}
-use Rattle.script.specs.declared.check.Judgement.TheVariants.{Passed, Refused}
-use Rattle.script.specs.declared.check.Turn.{Turn}
-use Rattle.script.specs.declared.check.Turn.TheVariants.{On, Stop}
+use Rattle.refusal.specs.declared.Refusal.{Refusal}
+use Rattle.refusal.specs.Number.{number_of}
 use Rattle.script.specs.Step.{Fit, commands_at}
 
 abbrev pub stage_of : Stage → model.Stage
@@ -30,18 +27,18 @@ pub record Kinds (m : ℕ) (ks : List ℕ) : Type 0 where
   pub small : m < 2048
   pub same : (k : ℕ) → k ≤ 10 → bit m k ≡ among k ks
 
-abbrev pub last_of : Last → List ℕ → model.Last
-last_of Nothing ks = model.nothing
-last_of (Value a n m) ks = model.value a n ks
+abbrev pub last_of : Option LastValue → List ℕ → model.Last
+last_of None ks = model.nothing
+last_of (Some v) ks = model.value v.start v.size ks
 
-abbrev pub Held : Last → List ℕ → Type 0
-Held Nothing ks = Unit {0}
-Held (Value a n m) ks = Kinds m ks
+abbrev pub Held : Option LastValue → List ℕ → Type 0
+Held None ks = Unit {0}
+Held (Some v) ks = Kinds v.kinds ks
 
 -- The value lies inside the characters.
-abbrev pub Inside : List ℕ → Last → Type 0
-Inside chars Nothing = Unit {0}
-Inside chars (Value a n m) = a + n ≤ length chars
+abbrev pub Inside : List ℕ → Option LastValue → Type 0
+Inside chars None = Unit {0}
+Inside chars (Some v) = v.start + v.size ≤ length chars
 
 -- The model's state, for that many characters taken and kinds in that order.
 abbrev pub state_of : State → ℕ → List ℕ → model.State
@@ -60,14 +57,14 @@ pub record Passing (chars : List ℕ) (s : State) (at : ℕ) (ks : List ℕ) (x 
   pub state : state_of s' (at + taken x) kinds ≡ stepped chars (length chars) (state_of s at ks) x
 
 -- A command, rightly judged.
-abbrev pub Judged : List ℕ → State → ℕ → List ℕ → Command → Judgement → Type 0
-Judged chars s at ks x (Passed s') = Passing chars s at ks x s'
-Judged chars s at ks x (Refused n) = (n ≡ test_of chars s at ks x) × (n ≡ 0 → ⊥)
+abbrev pub Judged : List ℕ → State → ℕ → List ℕ → Command → Result State Refusal → Type 0
+Judged chars s at ks x (Ok s') = Passing chars s at ks x s'
+Judged chars s at ks x (Err r) = number_of r ≡ test_of chars s at ks x
 
--- A judgement with the cursor behind its command, as a turn.
-abbrev pub onward_of : Judgement → Cursor → Turn
-onward_of (Passed s) c = On s c
-onward_of (Refused n) c = Stop n
+-- What a command that was judged leads to, with the cursor behind it.
+abbrev pub onward_of : Result State Refusal → Cursor → Result (Option (State × Cursor)) Refusal
+onward_of (Ok s) c = Ok (Some (s, c))
+onward_of (Err r) c = Err r
 
 -- What check gives from the cursor on.
 abbrev pub check_at : List ℕ → List ℕ → State → Cursor → List ℕ → ℕ
@@ -83,6 +80,7 @@ pub record Onward (script chars : List ℕ) (s : State) (c : Cursor) (ks : List 
   pub same : check_at script chars s' c' kinds ≡ check_at script chars s c ks
 
 -- A turn, rightly taken.
-abbrev pub Turned : List ℕ → List ℕ → State → Cursor → List ℕ → Turn → Type 0
-Turned script chars s c ks (On s' c') = Onward script chars s c ks s' c'
-Turned script chars s c ks (Stop n) = n ≡ check_at script chars s c ks
+abbrev pub Turned : List ℕ → List ℕ → State → Cursor → List ℕ → Result (Option (State × Cursor)) Refusal → Type 0
+Turned script chars s c ks (Ok (Some x)) = Onward script chars s c ks x.0 x.1
+Turned script chars s c ks (Ok None) = 0 ≡ check_at script chars s c ks
+Turned script chars s c ks (Err r) = number_of r ≡ check_at script chars s c ks

@@ -1,5 +1,5 @@
-// check (document 01, section 7): one number for a script and its characters, 0 if they are accepted.
-ghost use Rattle.std.specs.Prelude.{◌≡◌, not, false, List, [], ◌∷◌, ℕ, ◌+◌, ◌≤◌, ◌<◌, eqb, leb, ltb, length};
+// check: whether a script and its characters are accepted, or why not.
+ghost use Rattle.std.specs.Prelude.{◌≡◌, not, List, [], ◌∷◌, ℕ, ◌+◌, ◌≤◌, ◌<◌, eqb, leb, ltb, length, None, false};
 ghost use Rattle.std.proofs.Math.Seq.{slice};
 ghost use Rattle.model.specs.Base.{and, or};
 ghost use Rattle.model.specs.Drawing.{opening, attribute, declaration, reading, text, other, closing, broken};
@@ -7,26 +7,29 @@ ghost use Rattle.model.specs.Check.{◌if◌, may_attribute, may_declare, is_hal
 ghost use Rattle.model.specs.Check.{is_element_code, is_attribute_code, is_declaration_code};
 ghost use Rattle.model.specs.Check.{first_of, string_tests, tests_of, tests_at_end, check};
 ghost use Rattle.model.specs.Utf8.{is_utf8};
+ghost use Rattle.refusal.specs.Number.{number_of, answer_of};
 ghost use Rattle.script.specs.Step.{Fit, most_place};
 ghost use Rattle.script.specs.Known.{stage_of, bit, Kinds, last_of, Held, Inside, state_of, test_of, Judged, onward_of, Turned};
 
 use super::cursor::{Cursor, Step};
 use names::{is_attribute, is_element};
+use refusal::Refusal;
 use utf8::is_utf8;
 
 // What may come inside the innermost open element: attributes and all else; declarations and children; children alone.
-#[derive(Clone, Copy)]
+#[derive(Clone, Copy, PartialEq, Eq)]
 pub enum Stage {
     Attributes,
     Declarations,
     Children,
 }
 
-// The value that readings may follow: where it begins, its length, and a bit for each kind of its readings.
+// A value that readings may follow: where it begins, its length, and a bit for each kind of its readings.
 #[derive(Clone, Copy)]
-pub enum Last {
-    Nothing,
-    Value(usize, usize, u32),
+pub struct LastValue {
+    pub start: usize,
+    pub size: usize,
+    pub kinds: u32,
 }
 
 // What check knows between two commands, besides the cursor.
@@ -35,41 +38,25 @@ pub struct State {
     pub depth: usize,
     pub stage: Stage,
     pub begun: bool,
-    pub last: Last,
+    pub last: Option<LastValue>,
 }
 
-// A command judged: what check knows behind it, or the number of its first failing test.
-#[derive(Clone, Copy)]
-pub enum Judgement {
-    Passed(State),
-    Refused(u32),
-}
+// The longest script, and the most characters.
+const MOST_BYTES: usize = 1048576;
 
-// What a turn leads to: the next one, or check's answer.
-#[derive(Clone, Copy)]
-pub enum Turn {
-    On(State, Cursor),
-    Stop(u32),
-}
+// The most elements that may be open at once.
+const MOST_OPEN: usize = 2048;
 
 fn may_attribute(stage: Stage) -> bool
     ensures { result ≡ may_attribute (stage_of stage) }
 {
-    match stage {
-        Stage::Attributes => true,
-        Stage::Declarations => false,
-        Stage::Children => false,
-    }
+    stage == Stage::Attributes
 }
 
 fn may_declare(stage: Stage) -> bool
     ensures { result ≡ may_declare (stage_of stage) }
 {
-    match stage {
-        Stage::Attributes => true,
-        Stage::Declarations => true,
-        Stage::Children => false,
-    }
+    stage != Stage::Children
 }
 
 // A bit of the kinds.
@@ -77,7 +64,7 @@ fn has(kinds: u32, kind: u8) -> bool
     requires { kind ≤ 10 }
     ensures { result ≡ bit kinds kind }
 {
-    let n = kind as u32;
+    let n = u32::from(kind);
     (kinds >> n) % 2 == 1
 }
 
@@ -86,87 +73,46 @@ fn with(kinds: u32, kind: u8) -> u32
     requires { kind ≤ 10 }
     ensures { (ks : List ℕ) → Kinds kinds ks → Kinds result (kind ∷ ks) }
 {
-    let n = kind as u32;
+    let n = u32::from(kind);
     kinds | (1 << n)
 }
 
 // Has the value parts of a font, without both size and family? The bits 5 to 10 are the parts, 9 and 10 are these two.
-fn is_half_font(last: Last) -> bool
+fn is_half_font(last: Option<LastValue>) -> bool
     ensures { (ks : List ℕ) → Held last ks → result ≡ is_half_font (last_of last ks) }
 {
-    match last {
-        Last::Nothing => false,
-        Last::Value(_, _, kinds) => {
-            if kinds < 32 {
-                return false;
-            }
-            if 1536 <= kinds {
-                return false;
-            }
-            true
-        }
-    }
+    let Some(value) = last else {
+        return false;
+    };
+    32 <= value.kinds && value.kinds < 1536
 }
 
-// An element code or a namespace outside its list.
-fn is_bad_open(name: u8, space: u8) -> bool
-    ensures { result ≡ not (and (is_element_code name) (leb space 4)) }
+// A code of an element, or that of a name outside the list.
+fn is_element_code(name: u8) -> bool
+    ensures { result ≡ is_element_code name }
 {
-    if 4 < space {
-        return true;
-    }
-    if is_element(name as u32) {
-        return false;
-    }
-    if name == 255 {
-        return false;
-    }
-    true
+    is_element(u32::from(name)) || name == 255
 }
 
-// An attribute code or a namespace outside its list.
-fn is_bad_attribute(name: u8, space: u8) -> bool
-    ensures { result ≡ not (and (is_attribute_code name) (leb space 4)) }
+// A code of an attribute, or that of a name outside the list.
+fn is_attribute_code(name: u8) -> bool
+    ensures { result ≡ is_attribute_code name }
 {
-    if 4 < space {
-        return true;
-    }
-    if is_attribute(name as u32) {
-        return false;
-    }
-    if name == 255 {
-        return false;
-    }
-    true
+    is_attribute(u32::from(name)) || name == 255
 }
 
-// A declaration's code or importance outside its list.
-fn is_bad_declaration(name: u8, important: u8) -> bool
-    ensures { result ≡ not (and (is_declaration_code name) (leb important 1)) }
+// A code that a declaration may have: 254 is `marker`.
+fn is_declaration_code(name: u8) -> bool
+    ensures { result ≡ is_declaration_code name }
 {
-    if 1 < important {
-        return true;
-    }
-    if is_attribute(name as u32) {
-        return false;
-    }
-    if name == 255 {
-        return false;
-    }
-    if name == 254 {
-        return false;
-    }
-    true
+    is_attribute_code(name) || name == 254
 }
 
 // A second element at the top level.
 fn is_second(depth: usize, begun: bool) -> bool
     ensures { result ≡ and (eqb depth 0) begun }
 {
-    if depth == 0 {
-        return begun;
-    }
-    false
+    depth == 0 && begun
 }
 
 // A kind that the value has already, and may have only once.
@@ -174,95 +120,89 @@ fn is_repeated(kinds: u32, kind: u8) -> bool
     requires { kind ≤ 10 }
     ensures { result ≡ and (not (eqb kind 4)) (bit kinds kind) }
 {
-    if kind == 4 {
-        return false;
-    }
-    has(kinds, kind)
+    kind != 4 && has(kinds, kind)
 }
 
 // The tests of a string of len characters that begins at a place.
-fn test_string(characters: &[u8], at: usize, len: u32) -> u32
+fn test_string(characters: &[u8], at: usize, len: u32) -> Result<(), Refusal>
     requires { at ≤ most_place }
-    ensures { result ≡ first_of (string_tests characters.now (length characters.now) at len) }
+    ensures { answer_of result ≡ first_of (string_tests characters.now (length characters.now) at len) }
 {
     let end = at + len as usize;
     if characters.len() < end {
-        return 6;
+        return Err(Refusal::OutOfCharacters);
     }
-    if is_utf8(&characters[at..end]) {
-        return 0;
+    if !is_utf8(&characters[at..end]) {
+        return Err(Refusal::NotUtf8);
     }
-    9
+    Ok(())
 }
 
 // The tests of a reading's kind and part, for a value of size characters that begins at start.
 fn test_part(
     characters: &[u8],
-    start: usize,
-    size: usize,
-    kinds: u32,
+    value: LastValue,
     kind: u8,
     offset: u32,
     len: u32,
-) -> u32
-    requires { (kind ≤ 10) × (start + size ≤ length characters.now) }
-    ensures { result ≡ first_of (6 if ltb size (offset + len) ∷ 7 if and (not (eqb kind 4)) (bit kinds kind)
-        ∷ 9 if not (is_utf8 (slice (start + offset) (start + offset + len) characters.now)) ∷ []) }
+) -> Result<(), Refusal>
+    requires { (kind ≤ 10) × (value.start + value.size ≤ length characters.now) }
+    ensures { answer_of result ≡ first_of (6 if ltb value.size (offset + len) ∷ 7 if and (not (eqb kind 4)) (bit value.kinds kind)
+        ∷ 9 if not (is_utf8 (slice (value.start + offset) (value.start + offset + len) characters.now)) ∷ []) }
 {
+    let start = value.start;
+    let size = value.size;
     let from = start + offset as usize;
     let end = offset as usize + len as usize;
     let is_behind = size < end;
     if is_behind {
-        return 6;
+        return Err(Refusal::OutOfCharacters);
     }
-    if is_repeated(kinds, kind) {
-        return 7;
+    if is_repeated(value.kinds, kind) {
+        return Err(Refusal::WrongReadings);
     }
     let to = start + end;
-    if is_utf8(&characters[from..to]) {
-        return 0;
+    if !is_utf8(&characters[from..to]) {
+        return Err(Refusal::NotUtf8);
     }
-    9
+    Ok(())
 }
 
 impl State {
     fn start() -> State
-        ensures { result ≡ record { depth = 0; stage = Stage.Children; begun = false; last = Last.Nothing } }
+        ensures { result ≡ record { depth = 0; stage = Stage.Children; begun = false; last = None } }
     {
         State {
             depth: 0,
             stage: Stage::Children,
             begun: false,
-            last: Last::Nothing,
+            last: None,
         }
     }
 }
 
 // THE TESTS OF EACH COMMAND, in their order, and what is known behind it
-fn judge_open(s: State, name: u8, space: u8) -> Judgement
+fn judge_open(s: State, name: u8, space: u8) -> Result<State, Refusal>
     ensures { (chars : List ℕ) (at : ℕ) (ks : List ℕ) → Held s.last ks → Judged chars s at ks (opening name space) result }
 {
-    let depth = s.depth;
-    let begun = s.begun;
-    let last = s.last;
-    if is_half_font(last) {
-        return Judgement::Refused(7);
+    if is_half_font(s.last) {
+        return Err(Refusal::WrongReadings);
     }
-    if is_bad_open(name, space) {
-        return Judgement::Refused(3);
+    if !is_element_code(name) || 4 < space {
+        return Err(Refusal::UnknownCode);
     }
-    if is_second(depth, begun) {
-        return Judgement::Refused(4);
+    if is_second(s.depth, s.begun) {
+        return Err(Refusal::Misplaced);
     }
-    let is_deep = 2048 <= depth;
+    let is_deep = MOST_OPEN <= s.depth;
     if is_deep {
-        return Judgement::Refused(5);
+        return Err(Refusal::TooManyOpen);
     }
-    Judgement::Passed(State {
-        depth: depth + 1,
+    Ok(State {
+        depth: s.depth + 1,
         stage: Stage::Attributes,
         begun: true,
-        last: Last::Nothing,
+        last: None,
     })
 }
 
@@ -273,30 +213,29 @@ fn judge_attribute(
     name: u8,
     space: u8,
     len: u32,
-) -> Judgement
+) -> Result<State, Refusal>
     requires { at ≤ most_place }
     ensures { (ks : List ℕ) → Held s.last ks → Judged characters.now s at ks (attribute name space len) result }
 {
-    let stage = s.stage;
-    let last = s.last;
-    if is_half_font(last) {
-        return Judgement::Refused(7);
+    if is_half_font(s.last) {
+        return Err(Refusal::WrongReadings);
     }
-    if is_bad_attribute(name, space) {
-        return Judgement::Refused(3);
+    if !is_attribute_code(name) || 4 < space {
+        return Err(Refusal::UnknownCode);
     }
-    if !may_attribute(stage) {
-        return Judgement::Refused(4);
+    if !may_attribute(s.stage) {
+        return Err(Refusal::Misplaced);
     }
-    let t = test_string(characters, at, len);
-    if t != 0 {
-        return Judgement::Refused(t);
-    }
-    Judgement::Passed(State {
-        depth: s.depth,
+    test_string(characters, at, len)?;
+    let value = LastValue {
+        start: at,
+        size: len as usize,
+        kinds: 0,
+    };
+    Ok(State {
         stage: Stage::Attributes,
-        begun: s.begun,
-        last: Last::Value(at, len as usize, 0),
+        last: Some(value),
+        ..s
     })
 }
 
@@ -307,172 +246,151 @@ fn judge_declaration(
     name: u8,
     important: u8,
     len: u32,
-) -> Judgement
+) -> Result<State, Refusal>
     requires { at ≤ most_place }
     ensures { (ks : List ℕ) → Held s.last ks → Judged characters.now s at ks (declaration name important len) result }
 {
-    let stage = s.stage;
-    let last = s.last;
-    if is_half_font(last) {
-        return Judgement::Refused(7);
+    if is_half_font(s.last) {
+        return Err(Refusal::WrongReadings);
     }
-    if is_bad_declaration(name, important) {
-        return Judgement::Refused(3);
+    if !is_declaration_code(name) || 1 < important {
+        return Err(Refusal::UnknownCode);
     }
-    if !may_declare(stage) {
-        return Judgement::Refused(4);
+    if !may_declare(s.stage) {
+        return Err(Refusal::Misplaced);
     }
-    let t = test_string(characters, at, len);
-    if t != 0 {
-        return Judgement::Refused(t);
-    }
-    Judgement::Passed(State {
-        depth: s.depth,
+    test_string(characters, at, len)?;
+    let value = LastValue {
+        start: at,
+        size: len as usize,
+        kinds: 0,
+    };
+    Ok(State {
         stage: Stage::Declarations,
-        begun: s.begun,
-        last: Last::Value(at, len as usize, 0),
+        last: Some(value),
+        ..s
     })
 }
 
-fn judge_reading(characters: &[u8], s: State, kind: u8, offset: u32, len: u32) -> Judgement
+fn judge_reading(
+    characters: &[u8],
+    s: State,
+    kind: u8,
+    offset: u32,
+    len: u32,
+) -> Result<State, Refusal>
     requires { Inside characters.now s.last }
     ensures { (at : ℕ) (ks : List ℕ) → Held s.last ks → Judged characters.now s at ks (reading kind offset len) result }
 {
-    let depth = s.depth;
-    let begun = s.begun;
-    let stage = s.stage;
-    let last = s.last;
-    if kind < 1 {
-        return Judgement::Refused(3);
+    if kind < 1 || 10 < kind {
+        return Err(Refusal::UnknownCode);
     }
-    if 10 < kind {
-        return Judgement::Refused(3);
-    }
-    match last {
-        Last::Nothing => Judgement::Refused(4),
-        Last::Value(start, size, kinds) => {
-            let t = test_part(characters, start, size, kinds, kind, offset, len);
-            if t != 0 {
-                return Judgement::Refused(t);
-            }
-            Judgement::Passed(State {
-                depth,
-                stage,
-                begun,
-                last: Last::Value(start, size, with(kinds, kind)),
-            })
-        }
-    }
+    let Some(value) = s.last else {
+        return Err(Refusal::Misplaced);
+    };
+    test_part(characters, value, kind, offset, len)?;
+    let kinds = with(value.kinds, kind);
+    Ok(State {
+        last: Some(LastValue { kinds, ..value }),
+        ..s
+    })
 }
 
-fn judge_text(characters: &[u8], s: State, at: usize, len: u32) -> Judgement
+fn judge_text(characters: &[u8], s: State, at: usize, len: u32) -> Result<State, Refusal>
     requires { at ≤ most_place }
     ensures { (ks : List ℕ) → Held s.last ks → Judged characters.now s at ks (text len) result }
 {
-    let depth = s.depth;
-    let last = s.last;
-    if is_half_font(last) {
-        return Judgement::Refused(7);
+    if is_half_font(s.last) {
+        return Err(Refusal::WrongReadings);
     }
-    if depth == 0 {
-        return Judgement::Refused(4);
+    if s.depth == 0 {
+        return Err(Refusal::Misplaced);
     }
-    let t = test_string(characters, at, len);
-    if t != 0 {
-        return Judgement::Refused(t);
-    }
-    Judgement::Passed(State {
-        depth: depth,
+    test_string(characters, at, len)?;
+    Ok(State {
         stage: Stage::Children,
-        begun: s.begun,
-        last: Last::Nothing,
+        last: None,
+        ..s
     })
 }
 
-fn judge_other(s: State) -> Judgement
+fn judge_other(s: State) -> Result<State, Refusal>
     ensures { (chars : List ℕ) (at : ℕ) (ks : List ℕ) → Held s.last ks → Judged chars s at ks (other) result }
 {
-    let last = s.last;
-    if is_half_font(last) {
-        return Judgement::Refused(7);
+    if is_half_font(s.last) {
+        return Err(Refusal::WrongReadings);
     }
-    Judgement::Passed(State {
-        depth: s.depth,
+    Ok(State {
         stage: Stage::Children,
-        begun: s.begun,
-        last: Last::Nothing,
+        last: None,
+        ..s
     })
 }
 
-fn judge_close(s: State) -> Judgement
+fn judge_close(s: State) -> Result<State, Refusal>
     ensures { (chars : List ℕ) (at : ℕ) (ks : List ℕ) → Held s.last ks → Judged chars s at ks (closing) result }
 {
-    let depth = s.depth;
     let value = s.last;
     if is_half_font(value) {
-        return Judgement::Refused(7);
+        return Err(Refusal::WrongReadings);
     }
-    if depth == 0 {
-        return Judgement::Refused(4);
+    if s.depth == 0 {
+        return Err(Refusal::Misplaced);
     }
-    let left = depth - 1;
-    Judgement::Passed(State {
-        depth: left,
+    Ok(State {
+        depth: s.depth - 1,
         stage: Stage::Children,
-        begun: s.begun,
-        last: Last::Nothing,
+        last: None,
+        ..s
     })
 }
 
-fn judge_broken(s: State, b: u8) -> u32
-    ensures { (chars : List ℕ) (at : ℕ) (ks : List ℕ) → Held s.last ks → (result ≡ test_of chars s at ks (broken b)) × (result ≡ 0 → ⊥) }
+// Of a broken command: a reading has no test of what stands before it.
+fn judge_broken(s: State, b: u8) -> Refusal
+    ensures { (chars : List ℕ) (at : ℕ) (ks : List ℕ) → Held s.last ks → number_of result ≡ test_of chars s at ks (broken b) }
 {
-    let last = s.last;
-    if b == 4 {
-        return 2;
+    if b != 4 && is_half_font(s.last) {
+        return Refusal::WrongReadings;
     }
-    if is_half_font(last) {
-        return 7;
-    }
-    2
+    Refusal::UnknownCommand
 }
 
 // At the end of the script.
-fn judge_end(characters: &[u8], s: State, at: usize) -> u32
+fn judge_end(characters: &[u8], s: State, at: usize) -> Result<(), Refusal>
     ensures { (ks : List ℕ) → Held s.last ks
-        → result ≡ first_of (tests_at_end characters.now (length characters.now) (state_of s at ks)) }
+        → answer_of result ≡ first_of (tests_at_end characters.now (length characters.now) (state_of s at ks)) }
 {
-    let depth = s.depth;
-    let begun = s.begun;
-    let last = s.last;
-    if is_half_font(last) {
-        return 7;
+    if is_half_font(s.last) {
+        return Err(Refusal::WrongReadings);
     }
-    let is_open = 1 <= depth;
+    let is_open = 1 <= s.depth;
     if is_open {
-        return 4;
+        return Err(Refusal::Misplaced); // An element was never closed.
     }
-    if begun {
-        let is_more = at < characters.len();
-        if is_more {
-            return 8;
-        }
-        return 0;
+    if !s.begun {
+        return Err(Refusal::Misplaced); // There is none.
     }
-    4
+    let is_more = at < characters.len();
+    if is_more {
+        return Err(Refusal::CharactersLeft);
+    }
+    Ok(())
 }
 
-fn onward(j: Judgement, c: Cursor) -> Turn
-    ensures { result ≡ onward_of j c }
+// What a command that was judged leads to: the next turn behind it.
+fn onward(judged: Result<State, Refusal>, c: Cursor) -> Result<Option<(State, Cursor)>, Refusal>
+    ensures { result ≡ onward_of judged c }
 {
-    match j {
-        Judgement::Passed(s) => Turn::On(s, c),
-        Judgement::Refused(n) => Turn::Stop(n),
-    }
+    Ok(Some((judged?, c)))
 }
 
-// One command, or the end.
-fn advance(script: &[u8], characters: &[u8], s: State, c: Cursor) -> Turn
+// One command, with what is known behind it; nothing at the end.
+fn advance(
+    script: &[u8],
+    characters: &[u8],
+    s: State,
+    c: Cursor,
+) -> Result<Option<(State, Cursor)>, Refusal>
     requires fit { Fit script.now c }
     requires inside { Inside characters.now s.last }
     ensures { (ks : List ℕ) → Held s.last ks → Turned script.now characters.now s c ks result }
@@ -495,33 +413,30 @@ fn advance(script: &[u8], characters: &[u8], s: State, c: Cursor) -> Turn
         Step::Text(len, n) => onward(judge_text(characters, s, at, len), n),
         Step::Other(n) => onward(judge_other(s), n),
         Step::Close(n) => onward(judge_close(s), n),
-        Step::Broken(b) => Turn::Stop(judge_broken(s, b)),
-        Step::End => Turn::Stop(judge_end(characters, s, at)),
+        Step::Broken(b) => Err(judge_broken(s, b)),
+        Step::End => {
+            judge_end(characters, s, at)?;
+            Ok(None)
+        }
     }
 }
 
-// The number of the first rule that the script or its characters break, 0 where they break none.
-pub fn check(script: &[u8], characters: &[u8]) -> u32
-    ensures { result ≡ check script.now characters.now }
+// Are a script and its characters accepted? If not, the first rule that they break.
+pub fn check(script: &[u8], characters: &[u8]) -> Result<(), Refusal>
+    ensures { answer_of result ≡ check script.now characters.now }
 {
-    if 1048576 < script.len() {
-        return 1;
+    if MOST_BYTES < script.len() {
+        return Err(Refusal::TooLong);
     }
-    let is_long = 1048576 < characters.len();
+    let is_long = MOST_BYTES < characters.len();
     if is_long {
-        return 1;
+        return Err(Refusal::TooLong);
     }
     let mut s = State::start();
     let mut c = Cursor::start();
-    loop {
-        match advance(script, characters, s, c) {
-            Turn::On(next, n) => {
-                s = next;
-                c = n;
-            }
-            Turn::Stop(n) => {
-                return n;
-            }
-        }
+    while let Some((next, n)) = advance(script, characters, s, c)? {
+        s = next;
+        c = n;
     }
+    Ok(())
 }

@@ -1,4 +1,4 @@
-// The commands of a script, one after another (document 01, section 2).
+// The commands of a script, one after another.
 ghost use Rattle.std.specs.Prelude.{◌≡◌, ◌+◌, ◌*◌, ◌^◌, ◌≤◌, ◌<◌, length};
 ghost use Rattle.model.specs.Check.{most_bytes};
 ghost use Rattle.model.specs.Drawing.{operands, word_at};
@@ -41,22 +41,12 @@ fn operands_of(b: u8) -> usize
     }
 }
 
-fn wide(b: u8) -> u32
-    ensures { (result ≡ b) × (result < 256) }
-{
-    b as u32
-}
-
 // The u32 at a place, little-endian.
 fn word(s: &[u8], at: usize) -> u32
     requires { at + 4 ≤ length s.now }
     ensures { result ≡ word_at s.now at }
 {
-    let a = wide(s[at]);
-    let b = wide(s[at + 1]);
-    let c = wide(s[at + 2]);
-    let d = wide(s[at + 3]);
-    a + 256 * b + 65536 * c + 16777216 * d
+    u32::from_le_bytes([s[at], s[at + 1], s[at + 2], s[at + 3]])
 }
 
 impl Cursor {
@@ -91,7 +81,8 @@ impl Cursor {
         }
     }
 
-    // The command at the cursor, with the cursor behind it. The drawing is lent whole.
+    // The command at the cursor, with the cursor behind it. The drawing is lent whole. Every walk calls it in its loop.
+    #[inline(always)]
     pub fn next(self, script: &[u8], characters: &[u8]) -> Step
         requires { Fit script.now self }
         ensures step { result ≡ step_at script.now self }

@@ -18,7 +18,10 @@ use tree::Counts;
 pub extern "C" fn svgtree_check(script: &[u8], characters: &[u8]) -> u32
     ensures { result ≡ check script.now characters.now }
 {
-    script::check::check(script, characters)
+    match script::check::check(script, characters) {
+        Ok(()) => 0,
+        Err(refusal) => refusal.into(),
+    }
 }
 
 // A drawing in the three tables. Every refusal clears them and gives counts of 0.
@@ -34,7 +37,7 @@ pub extern "C" fn svgtree_build(
         ≡ build script.now characters.now (length nodes.old) (length attributes.old)
         (length text.old) }
 {
-    build::whole::build(script, characters, nodes, attributes, text)
+    build::whole::build(script, characters, nodes, attributes, text).into()
 }
 
 // The text with that number becomes these bytes, and the tables are built anew. 1 to 9 and 30 to 33 touch nothing; 20 to 24 leave the
@@ -53,7 +56,7 @@ pub extern "C" fn svgtree_exchange(
         ≡ exchange script.now characters.old number new.now nodes.old
         attributes.old text.old }
 {
-    exchange::whole::exchange(script, characters, number, new, nodes, attributes, text)
+    exchange::whole::exchange(script, characters, number, new, nodes, attributes, text).into()
 }
 
 // The attribute question: the entry that `attribute` reads.
@@ -70,7 +73,7 @@ pub extern "C" fn svgtree_attribute(
     ensures { result ≡ answered (attribute_question characters.now
         (tree_of nodes.now attributes.now text.now counts) node name) }
 {
-    question::attribute(nodes, attributes, text, characters, counts, node, name)
+    question::attribute(nodes, attributes, text, characters, counts, node, name).into()
 }
 
 // The find attribute question: `find_attribute_impl`, and then `attribute` of the node found.
@@ -87,7 +90,7 @@ pub extern "C" fn svgtree_find_attribute(
     ensures { result ≡ answered (find_attribute_question characters.now
         (tree_of nodes.now attributes.now text.now counts) node name) }
 {
-    question::find_attribute(nodes, attributes, text, characters, counts, node, name)
+    question::find_attribute(nodes, attributes, text, characters, counts, node, name).into()
 }
 
 // The id question: the last element with that id.
@@ -103,7 +106,7 @@ pub extern "C" fn svgtree_element_by_id(
     ensures { result ≡ answered (element_by_id_question characters.now
         (tree_of nodes.now attributes.now text.now counts) id.now) }
 {
-    question::element_by_id(nodes, attributes, text, characters, counts, id)
+    question::element_by_id(nodes, attributes, text, characters, counts, id).into()
 }
 
 // The text question: where the text lies in the text table.

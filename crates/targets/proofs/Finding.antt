@@ -5,22 +5,24 @@ use mathlib.Core.List.{List, []}
 use mathlib.Core.Option.{Option, none, some}
 use Prim.Native.Nat.{ℕ, ◌+◌, ◌-◌, ◌*◌, ◌/◌, ◌<◌, ◌≤◌}
 use native.Mathlib.Omega.{arith}
-use borrow.Author.Tests.{eq-eqb, ne_eqb, ltb-false}
+use borrow.Author.Tests.{ne_eqb, ltb-false}
 use lib.Dec.{eqb, ltb}
+use mir.Val.{bool_byte}
 use lib.ListN.{length}
 use Rattle.model.specs.Base.{pick, or, given}
 use Rattle.model.specs.Check.{check, check_from, starting, most_bytes}
 use Rattle.model.specs.Drawing.{Part, Value, commands, reading_of, readings_of}
-use Rattle.model.specs.Tables.{Tree, ELEMENT, kind_of, to_of, entry_at, entry_word, attribute_id, last_with_id, element_by_id}
+use Rattle.model.specs.Tables.{Tree, to_of, entry_at, entry_word, attribute_id, last_with_id, element_by_id}
 use Rattle.model.specs.Repair.{readings_of_attribute, link_of, cut_name}
 use Rattle.script.specs.declared.cursor.Cursor.{Cursor}
 use Rattle.script.specs.Step.{Fit, at_start}
 use Rattle.script.proofs.Commands.{placed_first}
 use Rattle.tree.specs.declared.Counts.{Counts}
 use Rattle.tree.specs.Lent.{read_of, Readable, HeldBy}
+use Rattle.tree.proofs.Entries.{taken, one-less}
 use Rattle.tree.proofs.Alike.{id_same, attribute-same, last-same}
 use Rattle.targets.specs.Targets.{seen_of, pass_kind, mark_for, mark_of, stored_mark, Targeted}
-use Rattle.targets.proofs.Marks.{for_some, for-empty, for-none}
+use Rattle.targets.proofs.Marks.{for_some}
 
 -- THE START
 
@@ -41,28 +43,31 @@ start-fit script chars h c e = placed_first script c e (small script chars h)
 
 -- THE MARK OF AN ID
 
--- The element that was found.
-module _ (chars ns es : List ℕ) (c : Counts) (id : List ℕ) (w : ℕ) (e : w ≡ last_with_id chars (read_of ns es) id c.nodes) where
+-- The element that was found, as its index plus 1, 0 for none.
+module _ (chars ns es : List ℕ) (c : Counts) (id : List ℕ) where
   -- The tree.
   abbrev own : Tree
   own = seen_of ns es c
 
   -- It is the tree's.
-  by-id : w ≡ element_by_id chars own id
+  by-id : (w : ℕ) → w ≡ last_with_id chars (read_of ns es) id c.nodes → w ≡ element_by_id chars own id
   unfolding element_by_id
-  by-id = e ∙ last-same own chars id c.nodes
+  by-id w e = e ∙ last-same own chars id c.nodes
 
   -- The mark is that of an element.
-  pub found_some : 0 < w → w + 1 ≡ mark_for chars own id
-  found_some l = omega (arith, by-id, for_some chars own id (λ z. omega (arith, by-id, z)))
+  pub found_some : (i : ℕ) → i + 1 ≡ last_with_id chars (read_of ns es) id c.nodes → i + 2 ≡ mark_for chars own id
+  found_some i e =
+      let d : i + 1 ≡ element_by_id chars own id = by-id (i + 1) e in
+      omega (arith, d, for_some chars own id (λ z. omega (arith, d, z)))
 
-  -- There is none, and the id is empty.
-  pub found-empty : w ≤ 0 → length id ≡ 0 → 1 ≡ mark_for chars own id
-  found-empty l h = sym (for-empty chars own id (omega (arith, by-id)) h)
-
-  -- There is none, and it is not.
-  pub found_none : w ≤ 0 → (length id ≡ 0 → ⊥) → 0 ≡ mark_for chars own id
-  found_none l h = sym (for-none chars own id (omega (arith, by-id)) h)
+  -- There is none: the mark is 1 for an empty id.
+  pub found_none : 0 ≡ last_with_id chars (read_of ns es) id c.nodes → bool_byte (eqb (length id) 0) ≡ mark_for chars own id
+  unfolding mark_for
+  found_none e = rw (sym (by-id 0 e)) (as_number (eqb (length id) 0))
+    where
+      as_number : (b : Bool) → bool_byte b ≡ pick b (λ u. 1) (λ u. 0)
+      as_number true = refl
+      as_number false = refl
 
 -- THE MARK OF A LINK
 
@@ -100,31 +105,29 @@ module _ (chars : List ℕ) (values : List Value) (ns es : List ℕ) (c : Counts
 
 -- A MARK THAT IS STORED
 
--- The entry of an attribute that is there stands in the table.
-pub held-inside : (t : Tree) (i j : ℕ) → Readable t i → HeldBy t i j → (j ≡ 0 → ⊥) → 5 * (j - 1) + 4 < length t.attributes
-held-inside t i j r h z =
-    let e : kind_of t i ≡ ELEMENT = h.element z in
-    let l : j ≤ to_of t i = h.last in
-    let n : 5 * to_of t i ≤ length t.attributes = r.range e in
-    omega arith
+-- The entry of an attribute stands in the table.
+pub held-inside : (t : Tree) (i j : ℕ) → Readable t i → HeldBy t i j → 5 * j + 4 < length t.attributes
+held-inside t i j r h =
+    let n : 5 * to_of t i ≤ length t.attributes = r.range h.element in
+    omega (arith, h.inside)
 
 -- Node m's attribute a, looked for.
-module _ (t : Tree) (a m j : ℕ) (e : j ≡ attribute_id t m a) where
+module _ (t : Tree) (a m : ℕ) where
   -- It is not there.
-  pub stored-absent : j ≡ 0 → 0 ≡ stored_mark t a m
+  pub stored-absent : 0 ≡ attribute_id t m a → 0 ≡ stored_mark t a m
   unfolding stored_mark
-  stored-absent z = rw (eq-eqb (attribute_id t m a) 0 (sym e ∙ z)) refl
+  stored-absent e = rw (sym e)
 
-  module _ (z : j ≡ 0 → ⊥) (n : ℕ) (d : n ≡ entry_word t (j - 1) 4) where
+  module _ (j : ℕ) (e : j + 1 ≡ attribute_id t m a) (n : ℕ) (d : n ≡ entry_word t j 4) where
     -- It is a fixed value.
     pub stored-fixed : n ≡ 0 → 0 ≡ stored_mark t a m
     unfolding stored_mark
-    stored-fixed y = rw (ne_eqb (attribute_id t m a) 0 (λ x. z (e ∙ x)), ← e, ← d, y) refl
+    stored-fixed y = rw (taken j e, one-less j e, ← d, y) refl
 
     -- It is neither, and the word of its importance was read.
-    pub stored_there : (n ≡ 0 → ⊥) → (x : ℕ) → x ≡ entry_word t (j - 1) 1 → x / 2 ≡ stored_mark t a m
+    pub stored_there : (n ≡ 0 → ⊥) → (x : ℕ) → x ≡ entry_word t j 1 → x / 2 ≡ stored_mark t a m
     unfolding stored_mark
-    stored_there y x q = rw (ne_eqb (attribute_id t m a) 0 (λ o. z (e ∙ o)), ← e, ← d, ne_eqb n 0 y, q) refl
+    stored_there y x q = rw (taken j e, one-less j e, ← d, ne_eqb n 0 y, q) refl
 
 -- What is stored in the tables is what is stored in the tree.
 pub stored-seen : (t : Tree) (a m : ℕ) → stored_mark (read_of t.nodes t.attributes) a m ≡ stored_mark t a m

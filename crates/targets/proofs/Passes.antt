@@ -6,18 +6,18 @@ use lib.Dec.{eqb}
 use Rattle.model.specs.Base.{pick}
 use Rattle.model.specs.AId
 use Rattle.model.specs.Repair.{link_kind, cut_name}
+use Rattle.targets.specs.declared.name.Pass.{Pass}
+use Rattle.targets.specs.declared.name.Pass.TheVariants.{PatternFill, PatternStroke, ClipPath, Mask, Filter, FeImage}
+use Rattle.targets.specs.Pass.{pass_number}
 
--- The last two passes cut the same attribute.
-pub last_name : (k : ℕ) → 1 ≤ k → k ≤ 6 → (k ≡ 1 → ⊥) → (k ≡ 2 → ⊥) → (k ≡ 3 → ⊥) → (k ≡ 4 → ⊥) → AId.Filter ≡ cut_name k
-unfolding cut_name
-last_name zero f l a b c d = absurd (omega arith)
-last_name (suc zero) f l a b c d = absurd (a refl)
-last_name (suc (suc zero)) f l a b c d = absurd (b refl)
-last_name (suc (suc (suc zero))) f l a b c d = absurd (c refl)
-last_name (suc (suc (suc (suc zero)))) f l a b c d = absurd (d refl)
-last_name (suc (suc (suc (suc (suc zero))))) f l a b c d = refl
-last_name (suc (suc (suc (suc (suc (suc zero)))))) f l a b c d = refl
-last_name (suc (suc (suc (suc (suc (suc (suc k))))))) f l a b c d = absurd (omega arith)
+-- The passes count from 1.
+pub pass-first : (p : Pass) → 1 ≤ pass_number p
+pass-first PatternFill = omega arith
+pass-first PatternStroke = omega arith
+pass-first ClipPath = omega arith
+pass-first Mask = omega arith
+pass-first Filter = omega arith
+pass-first FeImage = omega arith
 
 -- No pass leads by an href.
 pub by-func : (k : ℕ) → 1 ≤ k → k ≤ 5 → link_kind (cut_name k) ≡ 2

@@ -1,12 +1,12 @@
 -- The mark of a link with the same value as one before it. Assumes nothing.
-use mathlib.Core.Path.{◌≡◌, refl, sym, ap, ◌∙◌}
-use mathlib.Core.Bool.{Bool, true, false, true≢false}
+use mathlib.Core.Path.{◌≡◌, refl, sym, ap, ◌∙◌, subst}
+use mathlib.Core.Bool.{Bool, true, false}
 use mathlib.Core.List.{List, []}
-use Prim.Native.Nat.{ℕ, ◌+◌, ◌-◌, ◌*◌, ◌/◌, ◌<◌, ◌≤◌}
+use Prim.Native.Nat.{ℕ, ◌+◌, ◌-◌, ◌*◌, ◌/◌}
 use native.Mathlib.Omega.{arith}
-use borrow.Author.Tests.{eqb-true, ne_eqb}
+use borrow.Author.Tests.{ne_eqb}
 use lib.Dec.{eqb}
-use lib.ListN.{length, get_or, set}
+use lib.ListN.{get_or, set}
 use Rattle.model.specs.Base.{pick, and, given, same_bytes}
 use Rattle.model.specs.Drawing.{Reading, Value, readings_of, reading_of}
 use Rattle.model.specs.Names.{is_possible_none, fixed_bytes}
@@ -15,38 +15,13 @@ use Rattle.model.specs.Repair.{readings_of_attribute, cut_name}
 use Rattle.tree.specs.declared.Counts.{Counts}
 use Rattle.tree.specs.Lent.{read_of}
 use Rattle.tree.proofs.Alike.{id_same}
+use Rattle.tree.proofs.Entries.{one-less}
 use Rattle.targets.specs.Targets.{seen_of, pass_kind, mark_for, mark_of, stored_mark}
 use Rattle.targets.specs.Storing.{StoredBefore, SameValue, Twin}
 
 -- A slot is written.
 pub slot-set : (xs : List ℕ) (i j x : ℕ) → i ≡ j → set xs i x ≡ set xs j x
 slot-set xs i j x e = ap (λ (k : ℕ). set xs k x) e
-
--- TWO ENTRIES
-
-pub values_same : (es : List ℕ) (j l a b c d e f : ℕ) → a ≡ get_or es (5 * j + 4) 0 → b ≡ get_or es (5 * l + 4) 0 → a ≡ b
-    → c ≡ get_or es (5 * j + 2) 0 → d ≡ get_or es (5 * l + 2) 0 → c ≡ d → e ≡ get_or es (5 * j + 3) 0 → f ≡ get_or es (5 * l + 3) 0
-    → eqb e f ≡ true → SameValue es j l
-values_same es j l a b c d e f p q x r s y u v z = record {
-  command = sym p ∙ x ∙ q;
-  start = sym r ∙ y ∙ s;
-  size = sym u ∙ eqb-true e f z ∙ v;
-}
-
-pub not_same : (es : List ℕ) (j l : ℕ) → false ≡ true → SameValue es j l
-not_same es j l e = absurd (true≢false (sym e))
-
--- Node q - 1 comes before node m, and has an entry with the same value.
-pub twin-found : (ns es : List ℕ) (a m j q l number : ℕ) → (q ≡ 0 → ⊥) → q ≤ m → l ≡ attribute_id (read_of ns es) (q - 1) a
-    → SameValue es (l - 1) j → number ≡ get_or es (5 * j + 4) 0 → (number ≡ 0 → ⊥) → 5 * (l - 1) + 4 < length es → Twin ns es a m j l
-twin-found ns es a m j q l number z h e v n y i = record {
-  node = q - 1;
-  before = omega (arith, z, h);
-  own = e;
-  value = v;
-  drawn = λ o. y (n ∙ o);
-  inside = i;
-}
 
 -- THE SAME MARK
 
@@ -95,18 +70,21 @@ stored_there t a i h g = rw (ne_eqb (attribute_id t i a) 0 h, ne_eqb (entry_word
 
 -- Node m's mark in pass k is the one that is stored at a twin of its entry.
 pub twin-mark : (chars : List ℕ) (values : List Value) (ns es : List ℕ) (c : Counts) (k m j name r x : ℕ) → name ≡ cut_name k
-    → j ≡ attribute_id (read_of ns es) m name → (j ≡ 0 → ⊥) → Twin ns es name m (j - 1) r → (r ≡ 0 → ⊥)
-    → StoredBefore chars values k (seen_of ns es c) m → x ≡ get_or es (5 * (r - 1) + 1) 0
+    → j + 1 ≡ attribute_id (read_of ns es) m name → Twin ns es name m j r
+    → StoredBefore chars values k (seen_of ns es c) m → x ≡ get_or es (5 * r + 1) 0
     → x / 2 ≡ mark_of chars values k (seen_of ns es c) m
-twin-mark chars values ns es c k m j name r x a e z w y s q =
+twin-mark chars values ns es c k m j name r x a e w s q =
     let t = seen_of ns es c in
     let i : ℕ = w.node in
-    let own : r ≡ attribute_id t i (cut_name k) = w.own ∙ ap (attribute_id (read_of ns es) i) a ∙ id_same t i (cut_name k) in
-    let mine : j ≡ attribute_id t m (cut_name k) = e ∙ ap (attribute_id (read_of ns es) m) a ∙ id_same t m (cut_name k) in
-    let there : attribute_id t i (cut_name k) ≡ 0 → ⊥ = λ o. y (own ∙ o) in
+    let own : r + 1 ≡ attribute_id t i (cut_name k) = w.own ∙ ap (attribute_id (read_of ns es) i) a ∙ id_same t i (cut_name k) in
+    let mine : j + 1 ≡ attribute_id t m (cut_name k) = e ∙ ap (attribute_id (read_of ns es) m) a ∙ id_same t m (cut_name k) in
+    let there : attribute_id t i (cut_name k) ≡ 0 → ⊥ = λ o. let z : r + 1 ≡ 0 = own ∙ o in omega (arith, z) in
+    let here : attribute_id t m (cut_name k) ≡ 0 → ⊥ = λ o. let z : j + 1 ≡ 0 = mine ∙ o in omega (arith, z) in
+    let l : attribute_id t i (cut_name k) - 1 ≡ r = one-less r own in
+    let n : attribute_id t m (cut_name k) - 1 ≡ j = one-less j mine in
     let value : SameValue es (attribute_id t i (cut_name k) - 1) (attribute_id t m (cut_name k) - 1) =
-    rw (own, mine) at w.value in
-    ap (λ (n : ℕ). n / 2) (q ∙ ap (λ (n : ℕ). get_or es (5 * (n - 1) + 1) 0) own)
-    ∙ sym (stored_there t (cut_name k) i there (λ o. w.drawn (ap (λ (n : ℕ). get_or es (5 * (n - 1) + 4) 0) mine ∙ sym value.command ∙ o)))
+    subst (SameValue es (attribute_id t i (cut_name k) - 1)) (sym n) (subst (λ (y : ℕ). SameValue es y j) (sym l) w.value) in
+    ap (λ (y : ℕ). y / 2) (q ∙ ap (λ (y : ℕ). get_or es (5 * y + 1) 0) (sym l))
+    ∙ sym (stored_there t (cut_name k) i there (λ o. w.drawn (ap (λ (y : ℕ). get_or es (5 * y + 4) 0) (sym n) ∙ sym value.command ∙ o)))
     ∙ s.marks i w.before
-    ∙ mark-same chars values k t i m there (λ o. z (mine ∙ o)) value
+    ∙ mark-same chars values k t i m there here value

@@ -24,6 +24,7 @@ use Rattle.script.specs.Step.{Fit}
 use Rattle.tree.specs.declared.Counts.{Counts}
 use Rattle.tree.specs.Lent.{read_of}
 use Rattle.tree.proofs.Alike.{id_same}
+use Rattle.tree.proofs.Entries.{one-less}
 use Rattle.ids.specs.Chains.{Indexed, next_set, Like}
 use Rattle.ids.proofs.Chaining.{chained_same}
 use Rattle.ids.proofs.Likeness.{like-itself, like-next, like-id, like-element, like-tidy}
@@ -271,18 +272,19 @@ resolving-done script chars heads ns c k es₀ es i hint w l = record { marks = 
 -- ONE TURN
 
 -- Node m's attribute of pass k was looked for; its mark is x.
-module _ (ns es : List ℕ) (k m j name x : ℕ) (a : name ≡ cut_name k) (e : j ≡ attribute_id (read_of ns es) m name) where
+module _ (ns es : List ℕ) (k m name x : ℕ) (a : name ≡ cut_name k) where
   -- It is the one that the pass cuts.
-  own : j ≡ attribute_id (read_of ns es) m (cut_name k)
-  own = e ∙ ap (attribute_id (read_of ns es) m) a
+  own : (w : ℕ) → w ≡ attribute_id (read_of ns es) m name → w ≡ attribute_id (read_of ns es) m (cut_name k)
+  own w e = e ∙ ap (attribute_id (read_of ns es) m) a
 
   -- It is not there, and nothing is written.
-  pub turn-none : j ≡ 0 → Stored ns es (cut_name k) m x es
-  turn-none z = record { none = λ y. refl; some = λ y. absurd (y (sym own ∙ z)) }
+  pub turn-none : 0 ≡ attribute_id (read_of ns es) m name → Stored ns es (cut_name k) m x es
+  turn-none e = record { none = λ y. refl; some = λ y. absurd (y (sym (own 0 e))) }
 
   -- It is there, and what was found is stored.
-  pub turn-some : (j ≡ 0 → ⊥) → (y : ℕ) → y ≡ x → (es' : List ℕ) → es' ≡ next_set es (j - 1) y → Stored ns es (cut_name k) m x es'
-  turn-some z y f fs q = record {
-    none = λ o. absurd (z (own ∙ o));
-    some = λ o. q ∙ ap (next_set es (j - 1)) f ∙ ap (λ (i : ℕ). next_set es (i - 1) x) own;
+  pub turn-some : (j : ℕ) → j + 1 ≡ attribute_id (read_of ns es) m name → (y : ℕ) → y ≡ x → (es' : List ℕ) → es' ≡ next_set es j y
+      → Stored ns es (cut_name k) m x es'
+  turn-some j e y f es' q = record {
+    none = λ o. absurd (let z : j + 1 ≡ 0 = own (j + 1) e ∙ o in omega (arith, z));
+    some = λ o. q ∙ ap (next_set es j) f ∙ ap (λ (i : ℕ). next_set es i x) (sym (one-less j (own (j + 1) e)));
   }

@@ -28,11 +28,11 @@ pub record SameValue (es : List ℕ) (j l : ℕ) : Type 0 where
   pub start : get_or es (5 * j + 2) 0 ≡ get_or es (5 * l + 2) 0
   pub size : get_or es (5 * j + 3) 0 ≡ get_or es (5 * l + 3) 0
 
--- Entry r - 1 has the value of entry j, which is no fixed one, and is the attribute a of a node before node m.
-pub record Twin (ns es : List ℕ) (a m j r : ℕ) : Type 0 where
+-- Entry l has the value of entry j, which is no fixed one, and is the attribute a of a node before node m.
+pub record Twin (ns es : List ℕ) (a m j l : ℕ) : Type 0 where
   pub node : ℕ
   pub before : node < m
-  pub own : r ≡ attribute_id (read_of ns es) node a
-  pub value : SameValue es (r - 1) j
+  pub own : l + 1 ≡ attribute_id (read_of ns es) node a
+  pub value : SameValue es l j
   pub drawn : get_or es (5 * j + 4) 0 ≡ 0 → ⊥
-  pub inside : 5 * (r - 1) + 4 < length es
+  pub inside : 5 * l + 4 < length es

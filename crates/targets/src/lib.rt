@@ -1,4 +1,4 @@
-// Where the links of nodes lead (document 01, section 5), found once for each pass and kept behind the importance of their entries.
+// Where the links of nodes lead, found once for each pass and kept behind the importance of their entries.
 #![tactic(auto)]
 
 pub mod mark;

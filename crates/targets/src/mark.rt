@@ -7,11 +7,13 @@ ghost use Rattle.places.specs.Marks.{Marked};
 ghost use Rattle.tree.specs.Lent.{read_of, Readable};
 ghost use Rattle.ids.specs.Chains.{Indexed};
 ghost use Rattle.leads.specs.Links.{Drawn, values_of};
+ghost use Rattle.targets.specs.Pass.{pass_number};
 ghost use Rattle.targets.specs.Targets.{seen_of, mark_for, mark_of, stored_mark, Targeted};
 
-use crate::name::{cut_name, pass_kind};
+use crate::name::{Pass, cut_name, pass_kind};
 use ids::find::find_id;
-use leads::link::{FoundLink, link_of};
+use leads::link::link_of;
+use places::marks::Marks;
 use script::cursor::Cursor;
 use tree::read::attribute_id;
 use tree::word::entry_word;
@@ -40,50 +42,50 @@ fn mark_for(
         ≡ mark_for characters.now (seen_of nodes.now attributes.now counts) id.now }
     ensures within { result ≤ counts.nodes + 1 }
 {
-    let w = find_id(nodes, attributes, characters, heads, id, counts.nodes);
-    if w > 0 {
-        return w as usize + 1;
+    match find_id(nodes, attributes, characters, heads, id, counts.nodes) {
+        Some(w) => w as usize + 2,
+        None => usize::from(id.len() == 0),
     }
-    if id.len() == 0 {
-        return 1;
-    }
-    0
 }
 
-// The mark of node m's link in one of the passes 1 to 5: the link is read in the script and its element searched for.
+// The mark of node m's link in a pass: the link is read in the script and its element searched for.
 pub fn find_mark(
     script: &[u8],
     characters: &[u8],
-    marks: &[usize; 1025],
+    marks: &Marks,
     heads: &[u32; 2049],
     nodes: &[u32],
     attributes: &[u32],
     counts: Counts,
-    pass: u32,
+    pass: Pass,
     m: u32,
     hint: Cursor,
 ) -> FoundMark
     requires drawn { Drawn script.now characters.now marks.now hint }
     requires kept { Kept (length characters.now) (seen_of nodes.now attributes.now counts) }
     requires indexed { Indexed characters.now (read_of nodes.now attributes.now) heads.now counts.nodes }
-    requires le_pass { (1 ≤ pass) × (pass ≤ 5) }
     requires m_lt_nodes { m < counts.nodes }
     ensures same { result.mark
-        ≡ mark_of characters.now (values_of script.now characters.now) pass
+        ≡ mark_of characters.now (values_of script.now characters.now) (pass_number pass)
         (seen_of nodes.now attributes.now counts) m }
     ensures fit { Fit script.now result.hint × (result.mark ≤ counts.nodes + 1) }
 {
     let name = cut_name(pass);
     let kind = pass_kind(pass);
-    match link_of(
+    let found = link_of(
         script, characters, marks, nodes, attributes, m, name, kind, hint,
-    ) {
-        FoundLink::At(start, len, c) => {
-            let id = part_at(characters, start, len);
-            let mark = mark_for(nodes, attributes, characters, heads, id, counts);
-            FoundMark { mark, hint: c }
-        }
-        FoundLink::Nothing(c) => FoundMark { mark: 0, hint: c },
+    );
+    let Some(p) = found.part else {
+        return FoundMark {
+            mark: 0,
+            hint: found.hint,
+        };
+    };
+    let id = part_at(characters, p.start, p.len);
+    let mark = mark_for(nodes, attributes, characters, heads, id, counts);
+    FoundMark {
+        mark,
+        hint: found.hint,
     }
 }
 
@@ -92,38 +94,36 @@ fn stored_mark(nodes: &[u32], attributes: &[u32], m: u32, name: u32) -> u32
     requires { Readable (read_of nodes.now attributes.now) m }
     ensures { result ≡ stored_mark (read_of nodes.now attributes.now) name m }
 {
-    let j = attribute_id(nodes, attributes, m, name);
-    if j == 0 {
+    let Some(j) = attribute_id(nodes, attributes, m, name) else {
+        return 0;
+    };
+    if entry_word(attributes, j, word::COMMAND) == 0 {
         return 0;
     }
-    if entry_word(attributes, j - 1, word::COMMAND) == 0 {
-        return 0;
-    }
-    entry_word(attributes, j - 1, word::IMPORTANT) / 2
+    entry_word(attributes, j, word::IMPORTANT) / 2
 }
 
-// The mark of node m's link in one of the passes 1 to 5: as it is stored. Where the word behind the heads is 0 none is, and it is found.
+// The mark of node m's link in a pass: as it is stored. Where the word behind the heads is 0 none is, and it is found.
 pub fn mark_of(
     script: &[u8],
     characters: &[u8],
-    marks: &[usize; 1025],
+    marks: &Marks,
     heads: &[u32; 2049],
     nodes: &[u32],
     attributes: &[u32],
     counts: Counts,
-    pass: u32,
+    pass: Pass,
     m: u32,
 ) -> usize
     requires characters_value { check script.now characters.now ≡ 0 }
     requires marked { Marked script.now marks.now }
     requires kept { Kept (length characters.now) (seen_of nodes.now attributes.now counts) }
     requires indexed { Indexed characters.now (read_of nodes.now attributes.now) heads.now counts.nodes }
-    requires le_pass { (1 ≤ pass) × (pass ≤ 5) }
     requires m_lt_nodes { m < counts.nodes }
     requires targeted { (get_or heads.now 2048 0 ≡ 0 → ⊥)
-        → Targeted characters.now (values_of script.now characters.now) pass (seen_of nodes.now attributes.now counts) }
+        → Targeted characters.now (values_of script.now characters.now) (pass_number pass) (seen_of nodes.now attributes.now counts) }
     ensures { result
-        ≡ mark_of characters.now (values_of script.now characters.now) pass
+        ≡ mark_of characters.now (values_of script.now characters.now) (pass_number pass)
         (seen_of nodes.now attributes.now counts) m }
 {
     if heads[2048] == 0 {

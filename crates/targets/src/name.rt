@@ -1,36 +1,42 @@
-// The attributes of the passes, and how they lead.
-ghost use Rattle.std.specs.Prelude.{◌≡◌, ◌≤◌};
+// The passes of the repairs: the attributes that they cut, and how these lead.
+ghost use Rattle.std.specs.Prelude.{◌≡◌};
 ghost use Rattle.model.specs.Repair.{cut_name};
 ghost use Rattle.targets.specs.Targets.{pass_kind};
+ghost use Rattle.targets.specs.Pass.{pass_number};
 
 use names::aid;
 
-// The passes: 1 pattern fill, 2 pattern stroke, 3 clip path, 4 mask, 5 filter, 6 feImage. The attribute that a pass cuts.
-pub fn cut_name(pass: u32) -> u32
-    requires { (1 ≤ pass) × (pass ≤ 6) }
-    ensures { result ≡ cut_name pass }
+// The passes, each with its number in the model. The first five look for links that lead back, the last cuts filters of images.
+#[derive(Clone, Copy, PartialEq, Eq, Debug)]
+pub enum Pass {
+    PatternFill = 1,
+    PatternStroke = 2,
+    ClipPath = 3,
+    Mask = 4,
+    Filter = 5,
+    FeImage = 6,
+}
+
+// The attribute that a pass cuts.
+#[tactic(auto, unfolding(model::specs::Repair::cut_name))]
+pub fn cut_name(pass: Pass) -> u32
+    ensures { result ≡ cut_name (pass_number pass) }
 {
-    if pass == 1 {
-        return aid::FILL;
+    match pass {
+        Pass::PatternFill => aid::FILL,
+        Pass::PatternStroke => aid::STROKE,
+        Pass::ClipPath => aid::CLIP_PATH,
+        Pass::Mask => aid::MASK,
+        Pass::Filter | Pass::FeImage => aid::FILTER,
     }
-    if pass == 2 {
-        return aid::STROKE;
-    }
-    if pass == 3 {
-        return aid::CLIP_PATH;
-    }
-    if pass == 4 {
-        return aid::MASK;
-    }
-    aid::FILTER
 }
 
 // The kind of reading by which it leads.
-pub fn pass_kind(pass: u32) -> u8
-    ensures { result ≡ pass_kind pass }
+pub fn pass_kind(pass: Pass) -> u8
+    ensures { result ≡ pass_kind (pass_number pass) }
 {
-    if pass <= 2 {
-        return 3;
+    match pass {
+        Pass::PatternFill | Pass::PatternStroke => 3,
+        _ => 2,
     }
-    2
 }

@@ -1,6 +1,6 @@
 // Nodes whose links were read last, in 512 slots by the numbers of commands. The copies of an element have the values of the same commands,
 // and so the same marks.
-ghost use Rattle.std.specs.Prelude.{◌≡◌, true, ℕ, ◌+◌, ◌*◌, ◌<◌, ◌≤◌, length, set};
+ghost use Rattle.std.specs.Prelude.{◌≡◌, true, ℕ, ◌+◌, ◌*◌, ◌<◌, ◌≤◌, IfSome, length, set};
 ghost use Rattle.tree.specs.Lent.{read_of, Readable};
 ghost use Rattle.targets.specs.Storing.{slot_of, SameValue, Twin};
 
@@ -14,13 +14,9 @@ fn same_value(attributes: &[u32], j: u32, l: u32) -> bool
     requires l_in_bounds { 5 * l + 4 < length attributes.now }
     ensures { result ≡ true → SameValue attributes.now j l }
 {
-    if entry_word(attributes, j, word::COMMAND) != entry_word(attributes, l, word::COMMAND) {
-        return false;
-    }
-    if entry_word(attributes, j, word::START) != entry_word(attributes, l, word::START) {
-        return false;
-    }
-    entry_word(attributes, j, word::SIZE) == entry_word(attributes, l, word::SIZE)
+    entry_word(attributes, j, word::COMMAND) == entry_word(attributes, l, word::COMMAND)
+        && entry_word(attributes, j, word::START) == entry_word(attributes, l, word::START)
+        && entry_word(attributes, j, word::SIZE) == entry_word(attributes, l, word::SIZE)
 }
 
 // Where the node is kept that has a value of the command with that number. Numbers that lie evenly apart have different slots.
@@ -31,8 +27,7 @@ fn slot_of(number: u32) -> usize
     (number as usize) * 2654435769 % 4294967296 / 8388608
 }
 
-// An entry of a node before m, as its number plus 1: of the same name and value as node m's entry j. 0 where none is known, and for fixed
-// values.
+// An entry of a node before m, of the same name and value as node m's entry j. None where none is known, and for fixed values.
 pub fn twin_of(
     nodes: &[u32],
     attributes: &[u32],
@@ -40,30 +35,24 @@ pub fn twin_of(
     name: u32,
     m: u32,
     j: u32,
-) -> u32
+) -> Option<u32>
     requires by_index { (i : ℕ) → i ≤ m → Readable (read_of nodes.now attributes.now) i }
     requires j_in_bounds { 5 * j + 4 < length attributes.now }
-    ensures { (result ≡ 0 → ⊥) → Twin nodes.now attributes.now name m j result }
+    ensures { IfSome result (Twin nodes.now attributes.now name m j) }
 {
     let number = entry_word(attributes, j, word::COMMAND);
     if number == 0 {
-        return 0;
+        return None;
     }
-    let q = recent[slot_of(number)];
-    if q == 0 {
-        return 0;
+    let q = recent[slot_of(number)].checked_sub(1)?;
+    if m <= q {
+        return None;
     }
-    if m < q {
-        return 0;
+    let l = attribute_id(nodes, attributes, q, name)?;
+    if same_value(attributes, l, j) {
+        return Some(l);
     }
-    let l = attribute_id(nodes, attributes, q - 1, name);
-    if l == 0 {
-        return 0;
-    }
-    if same_value(attributes, l - 1, j) {
-        return l;
-    }
-    0
+    None
 }
 
 // Node m is the last one that has a value of the command with that number.

@@ -9,9 +9,10 @@ ghost use Rattle.text.specs.Append.{Appendable, append_in, source_of};
 
 use crate::trim::trim_text;
 use crate::{Source, Trimmed, XmlSpace};
+use refusal::Refusal;
 use tree::room::{node_room, text_room};
 use tree::write::append;
-use tree::{Counts, Outcome, word};
+use tree::{Counts, Kind, NewNode};
 
 // The text made from one source, put at the beginning of its place in the text table. The answer is where it ends.
 fn put_text(
@@ -47,17 +48,17 @@ pub fn append_text(
     p: u32,
     source: Source,
     space: XmlSpace,
-) -> Outcome
+) -> Result<Counts, Refusal>
     requires appendable { Appendable (tree_of nodes.old [] text.old counts) p }
     requires size_in_bounds { source.start + source.size ≤ length characters.now }
     ensures { out_of nodes.new [] text.new result ≡ append_in (space_in space) characters.now
         (source_of source ∷ []) p (tree_of nodes.old [] text.old counts) }
 {
     if text_room(text) - counts.text < source.size {
-        return Outcome::Refused(24);
+        return Err(Refusal::TextFull);
     }
     if node_room(nodes) <= counts.nodes {
-        return Outcome::Refused(22);
+        return Err(Refusal::NodesFull);
     }
     let end = put_text(
         text,
@@ -67,10 +68,16 @@ pub fn append_text(
         source.size,
         space,
     );
-    append(nodes, word::TEXT, 0, counts.text, end, p, counts.nodes);
-    Outcome::Done(Counts {
+    let node = NewNode {
+        kind: Kind::Text,
+        code: 0,
+        from: counts.text,
+        to: end,
+    };
+    append(nodes, node, p, counts.nodes);
+    Ok(Counts {
         nodes: counts.nodes + 1,
-        attributes: counts.attributes,
         text: counts.text + source.size,
+        ..counts
     })
 }

@@ -6,7 +6,7 @@ pub mod space;
 pub mod trim;
 
 // `XmlSpace`
-#[derive(Clone, Copy)]
+#[derive(Clone, Copy, PartialEq, Eq)]
 pub enum XmlSpace {
     Default,
     Preserve,

@@ -15,10 +15,7 @@ use tree::word::node_word;
 pub fn is_default(space: XmlSpace) -> bool
     ensures { result ≡ is_default (space_in space) }
 {
-    match space {
-        XmlSpace::Default => true,
-        XmlSpace::Preserve => false,
-    }
+    space == XmlSpace::Default
 }
 
 // `get_xmlspace`: what node i says itself, else `space`.
@@ -33,14 +30,10 @@ pub fn get_xmlspace(
     ensures { space_in result
         ≡ get_xmlspace characters.now (read_of nodes.now attributes.now) i (space_in space) }
 {
-    let j = attribute_id(nodes, attributes, i, aid::SPACE);
-    if j == 0 {
+    let Some(j) = attribute_id(nodes, attributes, i, aid::SPACE) else {
         return space;
-    }
-    if has_value(attributes, characters, j - 1, b"preserve") {
-        return XmlSpace::Preserve;
-    }
-    XmlSpace::Default
+    };
+    space_by(!has_value(attributes, characters, j, b"preserve"))
 }
 
 // The space that is handed down to node i: what the nearest of it and its ancestors says that says anything.
@@ -49,11 +42,10 @@ pub fn space_of(nodes: &[u32], attributes: &[u32], characters: &[u8], i: u32) ->
     requires by_index { (k : ℕ) → k ≤ i → ReadableIn (length characters.now) (read_of nodes.now attributes.now) k }
     ensures { space_in result ≡ space_of characters.now (read_of nodes.now attributes.now) i }
 {
-    let w = holder_of(nodes, attributes, aid::SPACE, i);
-    if w == 0 {
-        return XmlSpace::Default;
+    match holder_of(nodes, attributes, aid::SPACE, i) {
+        Some(k) => get_xmlspace(nodes, attributes, characters, k, XmlSpace::Default),
+        None => XmlSpace::Default,
     }
-    get_xmlspace(nodes, attributes, characters, w - 1, XmlSpace::Default)
 }
 
 // The space by whether it is Default.
@@ -61,9 +53,10 @@ fn space_by(default: bool) -> XmlSpace
     ensures { space_in result ≡ space_by default }
 {
     if default {
-        return XmlSpace::Default;
+        XmlSpace::Default
+    } else {
+        XmlSpace::Preserve
     }
-    XmlSpace::Preserve
 }
 
 // Is the space Default that the parent of node i says? Where it says none, the text element's is asked.

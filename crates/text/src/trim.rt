@@ -7,7 +7,7 @@ ghost use Rattle.text.specs.Spaces.{space_in, trimmed, is_dropped};
 use crate::space::is_default;
 use crate::{Trimmed, XmlSpace};
 
-// Carriage return, newline and tab become a space.
+// Carriage return, newline and tab become a space. Each is tested alone: 9 and 10 in one pattern would make a range, with goals of its own.
 fn converted(b: u8) -> u8
     ensures { result ≡ converted b }
 {
@@ -28,13 +28,7 @@ fn is_dropped(default: bool, prev: u8, c: u8) -> bool
     ensures { result ≡ is_dropped default prev c }
 {
     let is_preserved = !default;
-    if is_preserved {
-        return false;
-    }
-    if c != 32 {
-        return false;
-    }
-    c == prev
+    !is_preserved && c == 32 && c == prev
 }
 
 // `trim_text` of one source, written into the node's place from the byte on that `begun` names. The bytes before it, and those behind what
@@ -48,15 +42,13 @@ pub fn trim_text(source: &[u8], place: &mut [u8], space: XmlSpace, begun: Trimme
     let default = is_default(space);
     let mut n = begun.size;
     let mut prev = begun.prev;
-    let mut i = 0;
-    while i < source.len() {
-        let c = converted(source[i]);
+    for &b in source {
+        let c = converted(b);
         if !is_dropped(default, prev, c) {
             place[n] = c;
             n += 1;
         }
         prev = c;
-        i += 1;
     }
     Trimmed { size: n, prev }
 }

@@ -2,17 +2,17 @@
 #![tactic(auto)]
 
 use links::link::use_target;
-use links::uses::{NextUse, next_use};
+use links::uses::next_use;
 use memo::fill::fill;
-use memo::plain::FoundElement;
 use places::seek::seek;
 use script::cursor::Cursor;
+use walk::node::Opened;
 
 // The commands before an element that was found; 0 where none was.
-fn number_in(found: FoundElement) -> usize {
+fn number_in(found: Option<Opened>) -> usize {
     match found {
-        FoundElement::At(l) => l.own.number,
-        FoundElement::Nothing => 0,
+        Some(l) => l.own.number,
+        None => 0,
     }
 }
 
@@ -26,8 +26,8 @@ pub extern "C" fn timing_first_use(script: &[u8], characters: &[u8]) -> usize {
     fill(script, characters, &mut slots);
     let c = Cursor::start();
     match next_use(script, characters, c, 0) {
-        NextUse::At(u, _) => number_in(use_target(script, characters, &slots, u, 0)),
-        NextUse::End => 0,
+        Some(u) => number_in(use_target(script, characters, &slots, u.element, 0)),
+        None => 0,
     }
 }
 
@@ -42,18 +42,12 @@ pub extern "C" fn timing_every_use(script: &[u8], characters: &[u8]) -> usize {
     let mut c = Cursor::start();
     let mut level: usize = 0;
     let mut last: usize = 0;
-    loop {
-        match next_use(script, characters, c, level) {
-            NextUse::At(u, k) => {
-                last = number_in(use_target(script, characters, &slots, u, 0));
-                level = k;
-                c = u.inside;
-            }
-            NextUse::End => {
-                return last;
-            }
-        }
+    while let Some(u) = next_use(script, characters, c, level) {
+        last = number_in(use_target(script, characters, &slots, u.element, 0));
+        level = u.open_elements;
+        c = u.element.inside;
     }
+    last
 }
 
 // The places of the first n commands, in order, each sought from the one before.
@@ -63,10 +57,8 @@ pub extern "C" fn timing_seek(script: &[u8], characters: &[u8], n: usize) -> usi
         return 0;
     }
     let mut c = Cursor::start();
-    let mut i: usize = 0;
-    while i < n {
+    for i in 0..n {
         c = seek(script, characters, i, c);
-        i += 1;
     }
     c.at
 }

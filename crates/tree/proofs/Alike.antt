@@ -9,8 +9,9 @@ use lib.Dec.{eqb}
 use Rattle.model.specs.Base.{pick, and, same_bytes}
 use Rattle.model.specs.Names.{fixed_bytes, is_possible_none}
 use Rattle.model.specs.Tables.{Tree, ELEMENT, kind_of, parent_of, from_of, to_of, entry_at, entry_word, find_entry, attribute_id}
-use Rattle.model.specs.Tables.{has_attribute, value_at_entry, attribute_of, holder_from, has_id_bytes, last_with_id}
+use Rattle.model.specs.Tables.{has_attribute, value_of, value_at_entry, attribute_of, holder_from, has_id_bytes, last_with_id}
 use Rattle.tree.specs.Lent.{read_of, entries_of, Valued, ReadableIn, HeldBy}
+use Rattle.tree.proofs.Entries.{taken, one-less}
 use Rattle.tree.proofs.Climbs.{climb-same, holder-climbs}
 
 pub else_same : (b : Bool) (z : ℕ) {x y : ℕ} → x ≡ y → pick b (λ u. z) (λ u. x) ≡ pick b (λ u. z) (λ u. y)
@@ -68,17 +69,31 @@ pub last_end : (chars : List ℕ) (t : Tree) (id : List ℕ) (n : ℕ) → n ≤
 unfolding last_with_id
 last_end chars t id n h = let e : n ≡ 0 = omega arith in ap (last_with_id chars t id) (sym e)
 
--- An attribute that is not there is absent by any test.
-pub absent : (b : Bool) {j : ℕ} → j ≡ 0 → 0 ≡ pick b (λ u. 0) (λ u. j)
-absent true e = refl
-absent false e = sym e
-
 -- The entry of an attribute that is there can be read.
-pub held-value : (size : ℕ) (t : Tree) (i j : ℕ) → ReadableIn size t i → HeldBy t i j → (j ≡ 0 → ⊥)
-    → (5 * (j - 1) + 4 < length t.attributes) × Valued size (entry_at (entries_of t.attributes) (j - 1))
+pub held-value : (size : ℕ) (t : Tree) (i j : ℕ) → ReadableIn size t i → HeldBy t i j
+    → (5 * j + 4 < length t.attributes) × Valued size (entry_at (entries_of t.attributes) j)
 unfolding entry_at
-held-value size t i j r h z =
-    let e : kind_of t i ≡ ELEMENT = h.element z in
-    let l : j ≤ to_of t i = h.last in
-    let m : 5 * to_of t i ≤ length t.attributes = r.readable.range e in
-    (omega arith, r.values e (j - 1) (omega arith))
+held-value size t i j r h =
+    let m : 5 * to_of t i ≤ length t.attributes = r.readable.range h.element in
+    (omega (arith, h.inside), r.values h.element j h.inside)
+
+-- What `attribute` finds, by what `attribute_id` finds and by the test of the value.
+pub attribute-none : (chars : List ℕ) (t : Tree) (i a : ℕ) → 0 ≡ attribute_id t i a → 0 ≡ attribute_of chars t i a
+unfolding attribute_of
+attribute-none chars t i a e = rw (sym e)
+
+pub attribute-some : (chars : List ℕ) (t : Tree) (i a j : ℕ) (b : Bool) → j + 1 ≡ attribute_id t i a
+    → b ≡ and (is_possible_none a) (same_bytes (value_of chars (entry_at t j)) (fixed_bytes 1))
+    → attribute_of chars t i a ≡ pick b (λ u. 0) (λ u. j + 1)
+unfolding attribute_of
+attribute-some chars t i a j b e d = rw (taken j e, one-less j e, sym e, sym d)
+
+-- Whether an element has the id, by what `attribute_id` finds.
+pub id-none : (chars : List ℕ) (t : Tree) (id : List ℕ) (i : ℕ) → 0 ≡ attribute_id t i 65 → false ≡ has_id_bytes chars t id i
+unfolding has_id_bytes
+id-none chars t id i e = rw (sym e)
+
+pub id-some : (chars : List ℕ) (t : Tree) (id : List ℕ) (i j : ℕ) → j + 1 ≡ attribute_id t i 65
+    → has_id_bytes chars t id i ≡ same_bytes (value_of chars (entry_at t j)) id
+unfolding has_id_bytes
+id-some chars t id i j e = rw (taken j e, one-less j e)

@@ -1,12 +1,16 @@
 -- Going up by the parents until a test holds: one law for every such search. Assumes nothing.
 use mathlib.Core.Path.{◌≡◌, refl, sym, ap, ◌∙◌}
-use mathlib.Core.Bool.{Bool, true, false}
-use Prim.Native.Nat.{ℕ, zero, suc, ◌-◌, ◌<◌, ◌≤◌}
+use mathlib.Core.Bool.{Bool, true, false, not}
+use Prim.Native.Nat.{ℕ, zero, suc, ◌+◌, ◌-◌, ◌<◌, ◌≤◌}
 use native.Mathlib.Omega.{arith}
 use lib.Dec.{eqb}
 use borrow.Author.Tests.{eqb-false, ne_eqb}
+use Rattle.std.specs.Option.{is_some}
+use Rattle.std.proofs.Common.{Option}
 use Rattle.model.specs.Base.{pick}
-use Rattle.model.specs.Tables.{Tree, parent_of, has_attribute, holder_from}
+use Rattle.model.specs.Tables.{Tree, parent_of, attribute_id, has_attribute, holder_from}
+use Rattle.tree.specs.Lent.{plus_one}
+use Rattle.tree.proofs.Entries.{there}
 
 -- The nearest node that passes, from the one whose index plus 1 is w up, in n steps.
 unfoldable pub climb : (ℕ → Bool) → (ℕ → ℕ) → ℕ → ℕ → ℕ
@@ -54,20 +58,30 @@ module _ (f : ℕ → Bool) (p : ℕ → ℕ) where
       (λ e. let d : (w ≡ 0 → ⊥) = eqb-false w 0 e in let s : p (w - 1) ≤ w - 1 = q (w - 1) (omega arith) in
       enough n m (p (w - 1)) (omega arith) (omega arith) (λ k l. q k (omega arith)))
 
-  -- A turn of the loop.
-  pub climb-step : (w : ℕ) → 0 < w → ((k : ℕ) → k < w → p k ≤ k)
-      → climb f p w w ≡ pick (f (w - 1)) (λ v. w) (λ v. climb f p (p (w - 1)) (p (w - 1)))
+  -- A turn of the loop, at node k.
+  pub climb-step : (k : ℕ) → ((j : ℕ) → j ≤ k → p j ≤ j)
+      → climb f p (k + 1) (k + 1) ≡ pick (f k) (λ v. k + 1) (λ v. climb f p (p k) (p k))
   unfolding climb
-  climb-step w h q =
-      let e : w ≡ suc (w - 1) = omega arith in
-      let z : eqb w 0 ≡ false = ne_eqb w 0 (λ x. omega arith) in
-      let s : p (w - 1) ≤ w - 1 = q (w - 1) (omega arith) in
-      ap (λ (n : ℕ). climb f p n w) e
-      ∙ rw z (settled (f (w - 1)) (enough (w - 1) (p (w - 1)) (p (w - 1)) s (omega arith) (λ k l. q k (omega arith))))
+  climb-step k q =
+      let e : k + 1 ≡ suc k = omega arith in
+      let z : eqb (suc k) 0 ≡ false = ne_eqb (suc k) 0 (λ x. omega arith) in
+      let m : suc k - 1 ≡ k = omega arith in
+      let s : p k ≤ k = q k (omega arith) in
+      rw (e, z, m) (settled (f k) _ (enough k (p k) (p k) s (omega arith) (λ j l. q j (omega arith))))
     where
-      settled : (b : Bool) {x y : ℕ} → x ≡ y → pick b (λ v. w) (λ v. x) ≡ pick b (λ v. w) (λ v. y)
-      settled true e = refl
-      settled false e = e
+      settled : (b : Bool) (w : ℕ) {x y : ℕ} → x ≡ y → pick b (λ v. w) (λ v. x) ≡ pick b (λ v. w) (λ v. y)
+      settled true w e = refl
+      settled false w e = e
 
-  pub climb-end : (w : ℕ) → w ≤ 0 → 0 ≡ climb f p w w
-  climb-end w h = sym (none_left w w h)
+  -- The same with the answer of the test, from where the loop stands.
+  pub climb-turn : (k w v : ℕ) (b : Bool) → ((j : ℕ) → j ≤ k → p j ≤ j) → b ≡ f k → w ≡ k + 1 → climb f p w w ≡ v
+      → pick b (λ u. k + 1) (λ u. climb f p (p k) (p k)) ≡ v
+  climb-turn k w v b q e z h = rw e (sym (climb-step k q) ∙ ap (λ (n : ℕ). climb f p n n) (sym z) ∙ h)
+
+  pub climb-end : 0 ≡ climb f p 0 0
+  unfolding climb
+  climb-end = refl
+
+-- Whether a node has the attribute, by what `attribute_id` finds there.
+pub has_attribute-by : (t : Tree) (i a : ℕ) (o : Option ℕ) → plus_one o ≡ attribute_id t i a → is_some o ≡ has_attribute t i a
+has_attribute-by t i a o e = there o ∙ ap (λ (n : ℕ). not (eqb n 0)) e

@@ -1,13 +1,16 @@
 -- Searching the entries, and the bytes of a value. Assumes nothing.
-use mathlib.Core.Path.{◌≡◌, sym, ap, ◌∙◌}
-use mathlib.Core.Bool.{true, false, not}
+use mathlib.Core.Path.{◌≡◌, refl, sym, ap, ◌∙◌}
+use mathlib.Core.Bool.{false, not}
+use Rattle.std.specs.Option.{is_some}
+use Rattle.std.proofs.Common.{Option, Some, None}
+use Rattle.tree.specs.Lent.{plus_one}
 use mathlib.Core.List.{List, [], ◌∷◌}
 use Prim.Native.Nat.{ℕ, zero, suc, ◌+◌, ◌-◌, ◌<◌, ◌≤◌}
 use native.Mathlib.Omega.{arith}
 use lib.ListN.{take, drop}
 use lib.Seq.{slice, take-nil}
 use lib.Dec.{eqb}
-use borrow.Author.Tests.{eq-eqb, ne_eqb}
+use borrow.Author.Tests.{ne_eqb}
 use Rattle.model.specs.Base.{pick}
 use Rattle.model.specs.Tables.{Tree, entry_word, find_entry}
 
@@ -28,18 +31,20 @@ part_slice (suc f) n (x ∷ l) =
     let e : suc f + n ≡ suc (f + n) = omega arith in
     part_slice f n l ∙ sym (ap (λ (k : ℕ). drop (suc f) (take k (x ∷ l))) e)
 
--- An attribute is there, or it is not.
-pub some-there : {r v : ℕ} → r ≡ v → (r ≡ 0 → ⊥) → eqb v 0 ≡ false
-some-there {r} {v} e h = ne_eqb v 0 (λ z. h (e ∙ z))
+-- An index is there if its number plus 1 is not 0.
+pub there : (o : Option ℕ) → is_some o ≡ not (eqb (plus_one o) 0)
+there None = refl
+there (Some i) = let e : eqb (i + 1) 0 ≡ false = ne_eqb (i + 1) 0 (λ z. omega arith) in rw e
 
-pub none-there : {r v : ℕ} → r ≡ v → r ≡ 0 → eqb v 0 ≡ true
-none-there {r} {v} e h = eq-eqb v 0 (sym e ∙ h)
+pub taken : (i : ℕ) {v : ℕ} → i + 1 ≡ v → eqb v 0 ≡ false
+taken i {v} e = ne_eqb v 0 (λ z. omega arith)
 
-pub has : {r v : ℕ} → r ≡ v → (r ≡ 0 → ⊥) → not (eqb v 0) ≡ true
-has e h = rw (some-there e h)
+pub there-not : (o : Option ℕ) {v : ℕ} → plus_one o ≡ v → eqb v 0 ≡ not (is_some o)
+there-not None e = rw (sym e)
+there-not (Some i) e = taken i e
 
-pub has-not : {r v : ℕ} → r ≡ v → r ≡ 0 → not (eqb v 0) ≡ false
-has-not e h = rw (none-there e h)
+pub one-less : (i : ℕ) {v : ℕ} → i + 1 ≡ v → v - 1 ≡ i
+one-less i e = omega arith
 
 pub part_of : (s n : ℕ) (l : List ℕ) → take (s + n - s) (drop s l) ≡ slice s (s + n) l
 part_of s n l = let e : s + n - s ≡ n = omega arith in ap (λ (k : ℕ). take k (drop s l)) e ∙ part_slice s n l

@@ -1,11 +1,24 @@
 -- The lent tables as the model's Tree, and what reading them asks.
-use Rattle.std.specs.Prelude.{ℕ, ◌+◌, ◌*◌, ◌<◌, ◌≤◌, ◌≡◌, List, [], length}
-use Rattle.model.specs.Tables.{Tree, Out, refused, done, ELEMENT, word, kind_of, to_of, entry_at}
+use Rattle.std.specs.Prelude.{ℕ, ◌+◌, ◌*◌, ◌<◌, ◌≤◌, ◌≡◌, List, [], length, Option, Some, None, Result, Ok, Err}
+use Rattle.model.specs.Tables.{Tree, Out, refused, done, ROOT, ELEMENT, TEXT, word, kind_of, to_of, entry_at}
 use Rattle.model.specs.Tables as M
 use Rattle.tree.specs.declared.Counts.{Counts}
 use Rattle.tree.specs.declared.Entry.{Entry}
-use Rattle.tree.specs.declared.Outcome.{Outcome}
-use Rattle.tree.specs.declared.Outcome.TheVariants.{Refused, Done}
+use Rattle.tree.specs.declared.Kind.{Kind}
+use Rattle.tree.specs.declared.Kind.TheVariants.{Root, Element, Text}
+use Rattle.refusal.specs.declared.Refusal.{Refusal}
+use Rattle.refusal.specs.Number.{number_of}
+
+-- An index as the model has it, where there may be none: plus 1, and 0 for none.
+abbrev pub plus_one : Option ℕ → ℕ
+plus_one None = 0
+plus_one (Some i) = i + 1
+
+-- The number of a kind of node.
+abbrev pub number_of_kind : Kind → ℕ
+number_of_kind Root = ROOT
+number_of_kind Element = ELEMENT
+number_of_kind Text = TEXT
 
 -- The three tables at their full length, with the counts.
 abbrev pub tree_of : List ℕ → List ℕ → List ℕ → Counts → Tree
@@ -39,9 +52,9 @@ abbrev pub texts_of : List ℕ → List ℕ → Tree
 texts_of ns bs = tree_of ns [] bs (record { nodes = 0; attributes = 0; text = 0 })
 
 -- What a step of the build comes to, with the tables as it leaves them.
-abbrev pub out_of : List ℕ → List ℕ → List ℕ → Outcome → Out Tree
-out_of ns es bs (Refused k) = refused k
-out_of ns es bs (Done c) = done (tree_of ns es bs c)
+abbrev pub out_of : List ℕ → List ℕ → List ℕ → Result Counts Refusal → Out Tree
+out_of ns es bs (Err r) = refused (number_of r)
+out_of ns es bs (Ok c) = done (tree_of ns es bs c)
 
 -- An attribute's record as the model has it.
 abbrev pub entry_of : Entry → M.Entry
@@ -72,7 +85,7 @@ pub record ReadableIn (size : ℕ) (t : Tree) (i : ℕ) : Type 0 where
   pub readable : Readable t i
   pub values : kind_of t i ≡ ELEMENT → (j : ℕ) → j < to_of t i → Valued size (entry_at t j)
 
--- An attribute of node i, an entry's number plus 1, or 0: the node is an element with the entry in its range.
-pub record HeldBy (t : Tree) (i w : ℕ) : Type 0 where
-  pub element : (w ≡ 0 → ⊥) → kind_of t i ≡ ELEMENT
-  pub last : w ≤ to_of t i
+-- Entry j is an attribute of node i: the node is an element with the entry in its range.
+pub record HeldBy (t : Tree) (i j : ℕ) : Type 0 where
+  pub element : kind_of t i ≡ ELEMENT
+  pub inside : j < to_of t i

@@ -1,6 +1,9 @@
 // The three tables of the tree, lent by the caller: what is read in them, and what a build writes.
 #![tactic(auto)]
 
+ghost use Rattle.std.specs.Prelude.{◌≡◌};
+ghost use Rattle.tree.specs.Lent.{number_of_kind};
+
 pub mod read;
 pub mod room;
 pub mod word;
@@ -15,6 +18,31 @@ pub struct Counts {
     pub text: u32,
 }
 
+// The kinds of node.
+#[derive(Clone, Copy, PartialEq, Eq, Debug)]
+pub enum Kind {
+    Root = 1,
+    Element = 2,
+    Text = 3,
+}
+
+impl From<Kind> for u32 {
+    ghost from_gives = { λ kind n. n ≡ number_of_kind kind };
+
+    fn from(kind: Kind) -> u32 {
+        kind as u32
+    }
+}
+
+// What the record of a new node says of it: the element code, and its entries or the bytes of its text.
+#[derive(Clone, Copy)]
+pub struct NewNode {
+    pub kind: Kind,
+    pub code: u32,
+    pub from: u32,
+    pub to: u32,
+}
+
 // An attribute's record. A fixed value has command 0, its number as start, and size 0.
 #[derive(Clone, Copy)]
 pub struct Entry {
@@ -23,11 +51,4 @@ pub struct Entry {
     pub start: u32,
     pub size: u32,
     pub command: u32,
-}
-
-// What a step of the build comes to: a refusal's number, or how much of the tables is taken then.
-#[derive(Clone, Copy)]
-pub enum Outcome {
-    Refused(u32),
-    Done(Counts),
 }

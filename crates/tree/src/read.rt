@@ -1,28 +1,25 @@
 // Reading the tables: the attributes of a node, and the nodes above it.
-// A node or an entry that may be missing is its index plus 1, 0 for none.
-ghost use Rattle.std.specs.Prelude.{◌≡◌, ℕ, ◌+◌, ◌-◌, ◌*◌, ◌<◌, ◌≤◌, length};
+ghost use Rattle.std.specs.Prelude.{◌≡◌, ℕ, ◌+◌, ◌-◌, ◌*◌, ◌<◌, ◌≤◌, length, IfSome};
 ghost use Rattle.model.specs.Base.{same_bytes};
 ghost use Rattle.model.specs.Tables.{entry_at, value_of, find_entry, attribute_id, attribute_of, holder_of, has_id_bytes, last_with_id};
-ghost use Rattle.tree.specs.Lent.{read_of, entries_of, entry_of, Valued, Readable, ReadableIn, Climbable, HeldBy};
+ghost use Rattle.tree.specs.Lent.{plus_one, read_of, entries_of, entry_of, Valued, Readable, ReadableIn, Climbable, HeldBy};
 
-use crate::word::{entry_word, node_word};
-use crate::{Entry, word};
+use crate::word::{entry_word, has_kind, node_link, node_word};
+use crate::{Entry, Kind, word};
 use names::{aid, is_fixed, is_possible_none, same};
 
 // The first entry of that name from `from` up to `to`.
-pub fn find_entry(attributes: &[u32], a: u32, from: u32, to: u32) -> u32
+pub fn find_entry(attributes: &[u32], a: u32, from: u32, to: u32) -> Option<u32>
     requires { 5 * to ≤ length attributes.now }
-    ensures found { result ≡ find_entry (entries_of attributes.now) a from (to - from) }
-    ensures within { result ≤ to }
+    ensures found { plus_one result ≡ find_entry (entries_of attributes.now) a from (to - from) }
+    ensures within { IfSome result (λ j. j < to) }
 {
-    let mut j = from;
-    while j < to {
+    for j in from..to {
         if entry_word(attributes, j, word::NAME) == a {
-            return j + 1;
+            return Some(j);
         }
-        j += 1;
     }
-    0
+    None
 }
 
 // Entry j.
@@ -40,13 +37,13 @@ pub fn entry_at(attributes: &[u32], j: u32) -> Entry
 }
 
 // `attribute_id`: the first attribute of that name of node i, which only an element has.
-pub fn attribute_id(nodes: &[u32], attributes: &[u32], i: u32, a: u32) -> u32
+pub fn attribute_id(nodes: &[u32], attributes: &[u32], i: u32, a: u32) -> Option<u32>
     requires { Readable (read_of nodes.now attributes.now) i }
-    ensures found { result ≡ attribute_id (read_of nodes.now attributes.now) i a }
-    ensures held { HeldBy (read_of nodes.now attributes.now) i result }
+    ensures found { plus_one result ≡ attribute_id (read_of nodes.now attributes.now) i a }
+    ensures held { IfSome result (HeldBy (read_of nodes.now attributes.now) i) }
 {
-    if node_word(nodes, i, word::KIND) != word::ELEMENT {
-        return 0;
+    if !has_kind(nodes, i, Kind::Element) {
+        return None;
     }
     let from = node_word(nodes, i, word::FROM);
     let to = node_word(nodes, i, word::TO);
@@ -69,39 +66,39 @@ pub fn has_value(attributes: &[u32], characters: &[u8], j: u32, value: &[u8]) ->
 }
 
 // `attribute`: for ten names the value none counts as absent.
-pub fn attribute_of(nodes: &[u32], attributes: &[u32], characters: &[u8], i: u32, a: u32) -> u32
+pub fn attribute_of(
+    nodes: &[u32],
+    attributes: &[u32],
+    characters: &[u8],
+    i: u32,
+    a: u32,
+) -> Option<u32>
     requires { ReadableIn (length characters.now) (read_of nodes.now attributes.now) i }
-    ensures found { result ≡ attribute_of characters.now (read_of nodes.now attributes.now) i a }
-    ensures held { HeldBy (read_of nodes.now attributes.now) i result }
+    ensures found { plus_one result ≡ attribute_of characters.now (read_of nodes.now attributes.now) i a }
+    ensures held { IfSome result (HeldBy (read_of nodes.now attributes.now) i) }
 {
-    let j = attribute_id(nodes, attributes, i, a);
-    if j == 0 {
-        return 0;
+    let j = attribute_id(nodes, attributes, i, a)?;
+    if is_possible_none(a) && has_value(attributes, characters, j, b"none") {
+        return None;
     }
-    if !is_possible_none(a) {
-        return j;
-    }
-    if has_value(attributes, characters, j - 1, b"none") {
-        return 0;
-    }
-    j
+    Some(j)
 }
 
 // The nearest node with the attribute, from node i up.
-pub fn holder_of(nodes: &[u32], attributes: &[u32], a: u32, i: u32) -> u32
+pub fn holder_of(nodes: &[u32], attributes: &[u32], a: u32, i: u32) -> Option<u32>
     requires { Climbable (read_of nodes.now attributes.now) i }
-    ensures found { result ≡ holder_of (read_of nodes.now attributes.now) a i }
-    ensures within { result ≤ i + 1 }
+    ensures found { plus_one result ≡ holder_of (read_of nodes.now attributes.now) a i }
+    ensures within { IfSome result (λ k. k ≤ i) }
 {
-    let mut w = i + 1;
-    while w > 0 {
-        let is_holder = attribute_id(nodes, attributes, w - 1, a) != 0;
+    let mut above = Some(i);
+    while let Some(k) = above {
+        let is_holder = attribute_id(nodes, attributes, k, a).is_some();
         if is_holder {
-            return w;
+            return Some(k);
         }
-        w = node_word(nodes, w - 1, word::PARENT);
+        above = node_link(nodes, k, word::PARENT);
     }
-    0
+    None
 }
 
 // Is node i an element with that id?
@@ -110,11 +107,10 @@ pub fn has_id(nodes: &[u32], attributes: &[u32], characters: &[u8], i: u32, id: 
     ensures { result ≡
         has_id_bytes characters.now (read_of nodes.now attributes.now) id.now i }
 {
-    let j = attribute_id(nodes, attributes, i, aid::ID);
-    if j == 0 {
-        return false;
+    match attribute_id(nodes, attributes, i, aid::ID) {
+        Some(j) => has_value(attributes, characters, j, id),
+        None => false,
     }
-    has_value(attributes, characters, j - 1, id)
 }
 
 // The last of the first `count` nodes that is an element with that id.
@@ -124,18 +120,16 @@ pub fn last_with_id(
     characters: &[u8],
     id: &[u8],
     count: u32,
-) -> u32
+) -> Option<u32>
     requires { (k : ℕ) → k < count → ReadableIn (length characters.now) (read_of nodes.now attributes.now) k }
-    ensures found { result ≡
+    ensures found { plus_one result ≡
         last_with_id characters.now (read_of nodes.now attributes.now) id.now count }
-    ensures within { result ≤ count }
+    ensures within { IfSome result (λ k. k < count) }
 {
-    let mut n = count;
-    while n > 0 {
-        if has_id(nodes, attributes, characters, n - 1, id) {
-            return n;
+    for n in (0..count).rev() {
+        if has_id(nodes, attributes, characters, n, id) {
+            return Some(n);
         }
-        n -= 1;
     }
-    0
+    None
 }

@@ -1,14 +1,11 @@
 // The words of the records.
-ghost use Rattle.std.specs.Prelude.{◌≡◌, ◌+◌, ◌*◌, ◌<◌, length, get_or};
+ghost use Rattle.std.specs.Prelude.{◌≡◌, ◌+◌, ◌*◌, ◌<◌, eqb, length, get_or};
 ghost use Rattle.model.specs.Tables.{word};
+ghost use Rattle.tree.specs.Lent.{plus_one, number_of_kind};
 
-// The kinds of node.
-pub const ROOT: u32 = 1;
+use crate::Kind;
 
-pub const ELEMENT: u32 = 2;
-
-pub const TEXT: u32 = 3;
-
+// The places of words are numbers, since they are added to the index where a record begins: an enum would be cast at each use.
 // The words of a node's record.
 pub const KIND: usize = 0;
 
@@ -43,6 +40,22 @@ pub fn node_word(nodes: &[u32], i: u32, k: usize) -> u32
     ensures { result ≡ word nodes.now i k }
 {
     nodes[8 * (i as usize) + k]
+}
+
+// Is node i of that kind?
+pub fn has_kind(nodes: &[u32], i: u32, kind: Kind) -> bool
+    requires { 8 * i < length nodes.now }
+    ensures { result ≡ eqb (word nodes.now i 0) (number_of_kind kind) }
+{
+    node_word(nodes, i, KIND) == u32::from(kind)
+}
+
+// The node that word k of node i links to. In the table a link is an index plus 1, 0 for none.
+pub fn node_link(nodes: &[u32], i: u32, k: usize) -> Option<u32>
+    requires { 8 * i + k < length nodes.now }
+    ensures { plus_one result ≡ word nodes.now i k }
+{
+    node_word(nodes, i, k).checked_sub(1)
 }
 
 // Word k of attribute entry j.

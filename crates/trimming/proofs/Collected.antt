@@ -1,17 +1,17 @@
 -- The text nodes of an element, found one after another, and what trimming leaves of the nodes. Assumes nothing.
 use Prim.Native.Nat.{ℕ, zero, suc, ◌+◌, ◌-◌, ◌≤◌, ◌<◌}
 use mathlib.Core.Path.{◌≡◌, refl, sym, ap, ◌∙◌}
-use mathlib.Core.Bool.{Bool, true, false}
+use mathlib.Core.Bool.{Bool, true, false, not}
 use mathlib.Core.List.{List, [], ◌∷◌}
 use native.Mathlib.Omega.{arith}
 use native.Mathlib.Decide.{ℕ_discrete}
 use borrow.Author.Tests.{eq-eqb, ne_eqb, eqb-true}
 use lib.Dec.{eqb}
 use lib.ListN.{length}
+use Rattle.std.specs.Prelude.{Option, Some, None, SomeIff, IfSome, unwrap_or, is_some}
 use Rattle.model.specs.Base.{pick}
 use Rattle.model.specs.AId
-use Rattle.model.specs.Utf8.{is_blank}
-use Rattle.model.specs.Tables.{Tree, ELEMENT, TEXT, word, kind_of, entry_at, find_entry, attribute_id, value_at_entry, text_of}
+use Rattle.model.specs.Tables.{Tree, ELEMENT, TEXT, word, kind_of, entry_at, find_entry, attribute_id, value_at_entry}
 use Rattle.model.specs.Text.{XmlSpace, default, preserve, preserve_word, is_nil, get_xmlspace, text_nodes}
 use Rattle.model.specs.Text.{cut_text}
 use Rattle.model.specs.Base.{same_bytes}
@@ -21,7 +21,7 @@ use Rattle.edges.specs.declared.Pair.{Pair}
 use Rattle.trimming.specs.declared.Turn.{Turn}
 use Rattle.text.specs.Spaces.{space_at}
 use Rattle.edges.specs.Pairs.{Ranged, after_pair}
-use Rattle.trimming.specs.Nodes.{Fair, node_at, next_text, stands_by, pair_of, kept_behind}
+use Rattle.trimming.specs.Nodes.{Fair, node_at, next_text, stands_by, pair_of}
 use Rattle.trimming.proofs.Depths.{depth_same}
 use Rattle.edges.proofs.Steps.{cut-words, cut-long, cut-text-long, ranged-cut, keep_pair}
 use Rattle.trimming.proofs.Following.{pair_at}
@@ -67,6 +67,24 @@ next-in ns i to r h e =
       high = omega (arith, e, f.high);
       text = λ l. ap (λ k. word ns k 0) e ∙ f.text (omega (arith, e));
     }
+
+-- The place that was found, or the end.
+pub next-or : (ns : List ℕ) (i to : ℕ) (r : Option ℕ) → i ≤ to
+    → SomeIff r (next_text ns i (to - i) < to) (next_text ns i (to - i)) → unwrap_or r to ≡ next_text ns i (to - i)
+next-or ns i to (Some k) h e = e.1
+next-or ns i to None h e =
+    let high = (next-in ns i to (next_text ns i (to - i)) h refl).high in
+    omega (arith, e)
+
+pub next-some : (v to : ℕ) (r : Option ℕ) → SomeIff r (v < to) v → IfSome r (λ k. k < to)
+next-some v to (Some k) e = omega (arith, e.0, e.1)
+next-some v to None e = tt
+
+pub next-none : (to : ℕ) (r : Option ℕ) (b : Bool) → is_some r ≡ not b → IfSome r (λ k. k < to) → b ≡ eqb (unwrap_or r to) to
+next-none to (Some k) false e h = sym (ne_eqb k to (λ z. omega arith))
+next-none to (Some k) true e h = absurd (let z : ◌≡◌ {A = ℕ} 0 1 = cc in omega arith)
+next-none to None false e h = absurd (let z : ◌≡◌ {A = ℕ} 0 1 = cc in omega arith)
+next-none to None true e h = sym (eq-eqb to to refl)
 
 -- THE LIST
 
@@ -120,9 +138,6 @@ pub record Steady (ns₀ ns : List ℕ) : Type 0 where
   pub kinds : (j : ℕ) → word ns j 0 ≡ word ns₀ j 0
   pub parents : (j : ℕ) → word ns j 1 ≡ word ns₀ j 1
   pub bounds : (j : ℕ) → (word ns₀ j 0 ≡ TEXT → ⊥) → (word ns j 6 ≡ word ns₀ j 6) × (word ns j 7 ≡ word ns₀ j 7)
-
-pub steady-none : (ns : List ℕ) → Steady ns ns
-steady-none ns = record { kinds = λ j. refl; parents = λ j. refl; bounds = λ j h. (refl, refl) }
 
 module _ (i f b : ℕ) (t : Tree) where
   steady-cut : (ns₀ : List ℕ) → word ns₀ i 0 ≡ TEXT → Steady ns₀ t.nodes → Steady ns₀ (cut_text i f b t).nodes
@@ -254,11 +269,3 @@ module _ (chars ns₀ ns es : List ℕ) (s : Steady ns₀ ns) where
         space-steady w (stands_by ns k.a k.kept),
         space-steady w k.b,
       ) refl
-
--- A text that was kept before stays kept.
-pub kept_same : (t : Tree) (c kept : ℕ) → c + 1 ≡ kept → kept ≡ kept_behind t c kept
-kept_same t c kept e = go (is_blank (text_of t c))
-  where
-    go : (b : Bool) → kept ≡ pick b (λ u. kept) (λ u. c + 1)
-    go true = refl
-    go false = sym e

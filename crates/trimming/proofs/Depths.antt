@@ -81,21 +81,6 @@ module _ (ns : List ℕ) (e n : ℕ) (b : Below ns e n) where
   under-step : (x : ℕ) → e + 1 < x → x ≤ n → under ns e x ≡ suc (under ns e (word ns (x - 1) 1))
   under-step x l h = rw (ne_eqb x (e + 1) (λ z. omega arith)) (ap suc (depth-under (x - 1) (omega arith) (omega arith)))
 
-  pub level-none : (a c : ℕ) → e < a → a < n → e < c → c < n → (x y : ℕ) → x ≡ word ns a 1 → y ≡ word ns c 1 → Level ns e n x y x y 0 0
-  level-none a c l h m k x y p q =
-      let s = b.under a l h in
-      let r = b.under c m k in
-      record {
-        low1 = omega (arith, s.0);
-        low2 = omega (arith, r.0);
-        high1 = omega arith;
-        high2 = omega arith;
-        most1 = omega (arith, s.1);
-        most2 = omega (arith, r.1);
-        up1 = omega arith;
-        up2 = omega arith;
-      }
-
   module _ (x₀ y₀ x y u v : ℕ) (z : Level ns e n x₀ y₀ x y u v) where
     pub parent-inside : (w : ℕ) → e + 1 < w → w ≤ n → (e + 1 ≤ word ns (w - 1) 1) × (word ns (w - 1) 1 ≤ w - 1)
     parent-inside w l h = b.under (w - 1) (omega arith) (omega arith)

@@ -11,9 +11,9 @@ use Rattle.model.specs.Base.{pick}
 use Rattle.model.specs.Tables.{Tree, TEXT, kind_of, parent_of}
 use Rattle.model.specs.Text.{XmlSpace, TextNode, is_default, space_of, text_nodes}
 use Rattle.model.specs.Text.{own_text_nodes, pairs, trimming, run, trim_text_nodes}
-use Rattle.tree.specs.Lent.{read_of, tree_of, texts_of, ReadableIn, Climbable}
+use Rattle.tree.specs.Lent.{read_of, tree_of, texts_of, ReadableIn}
 use Rattle.tree.specs.declared.Counts.{Counts}
-use Rattle.tree.proofs.Facts.{readable-in, climbable}
+use Rattle.tree.proofs.Facts.{readable-in}
 use Rattle.text.specs.Spaces.{space_by}
 use Rattle.edges.specs.Pairs.{after_single}
 use Rattle.trimming.specs.Nodes.{Fair, IsTextOf, node_at, next_text, Trimmable}
@@ -47,9 +47,6 @@ module _ (chars : List ℕ) (t : Tree) where
 module _ (chars ns es bs : List ℕ) (c : Counts) (e : ℕ) (h : Trimmable chars (tree_of ns es bs c) e) where
   abbrev t : Tree
   t = tree_of ns es bs c
-
-  pub element-climbs : Climbable (read_of ns es) e
-  element-climbs = climbable (length chars) (tree_of ns es bs c) h.kept e h.inside h.small
 
   pub element-reads : (k : ℕ) → k ≤ e → ReadableIn (length chars) (read_of ns es) k
   element-reads k l = readable-in (length chars) (tree_of ns es bs c) h.kept k (omega (arith, h.inside))

@@ -1,11 +1,11 @@
 -- One turn of the model's program after another. Assumes nothing.
-use Prim.Native.Nat.{ℕ, ◌+◌, ◌-◌}
+use Prim.Native.Nat.{ℕ}
 use mathlib.Core.Path.{◌≡◌, refl, ap, ◌∙◌}
 use mathlib.Core.Bool.{Bool, true, false}
 use mathlib.Core.List.{List, ◌∷◌}
 use mathlib.Core.Option.{Option, none, some}
-use native.Mathlib.Omega.{arith}
-use borrow.Author.Tests.{ne_eqb}
+use Rattle.std.specs.Prelude as Std
+use Rattle.std.specs.Prelude.{Some, None, unwrap_or}
 use lib.Dec.{eqb, ltb}
 use Rattle.model.specs.Base.{pick, given}
 use Rattle.model.specs.Utf8.{is_blank}
@@ -20,12 +20,13 @@ use Rattle.edges.proofs.Programs.{run-pair}
 use Rattle.edges.proofs.Looking.{empty-is}
 
 module _ (chars : List ℕ) (t₀ : Tree) (w : XmlSpace) (e : ℕ) where
-  -- The text that is kept, an index plus 1, as the program has it.
-  abbrev pub kept_node : ℕ → Option TextNode
-  kept_node kept = pick (eqb kept 0) (λ u. none) (λ u. some (node_at chars t₀ w e (kept - 1)))
+  -- The text that is kept, as the program has it.
+  abbrev pub kept_node : Std.Option ℕ → Option TextNode
+  kept_node None = none
+  kept_node (Some k) = some (node_at chars t₀ w e k)
 
   -- The pair of a turn, by the tables as they were at first.
-  abbrev pub pair_at : List ℕ → ℕ → ℕ → ℕ → Bool → Bool → Pair
+  abbrev pub pair_at : List ℕ → ℕ → ℕ → Std.Option ℕ → Bool → Bool → Pair
   pair_at ns a b kept f l = record {
     node1 = stands_by ns a kept;
     node2 = b;
@@ -36,26 +37,19 @@ module _ (chars : List ℕ) (t₀ : Tree) (w : XmlSpace) (e : ℕ) where
     default2 = is_default (space_at chars t₀ w b);
   }
 
-  stands : (b : Bool) (a kept : ℕ) →
+  stands : (b : Bool) (a : ℕ) (kept : Std.Option ℕ) →
       pick b (λ u. given (kept_node kept) (λ n. n) (λ x. node_at chars t₀ w e a)) (λ u. node_at chars t₀ w e a) ≡
-      node_at chars t₀ w e (pick b (λ u. pick (eqb kept 0) (λ v. a) (λ v. kept - 1)) (λ u. a))
+      node_at chars t₀ w e (pick b (λ u. unwrap_or kept a) (λ u. a))
   stands false a kept = refl
-  stands true a kept = go (eqb kept 0)
-    where
-      go : (b : Bool) →
-          given (pick b (λ u. none) (λ u. some (node_at chars t₀ w e (kept - 1)))) (λ n. n) (λ x. node_at chars t₀ w e a) ≡
-          node_at chars t₀ w e (pick b (λ v. a) (λ v. kept - 1))
-      go true = refl
-      go false = refl
+  stands true a None = refl
+  stands true a (Some k) = refl
 
-  kept_next : (b : Bool) (c kept : ℕ) →
-      pick b (λ u. kept_node kept) (λ u. some (node_at chars t₀ w e c)) ≡ kept_node (pick b (λ u. kept) (λ u. c + 1))
+  kept_next : (b : Bool) (c : ℕ) (kept : Std.Option ℕ) →
+      pick b (λ u. kept_node kept) (λ u. some (node_at chars t₀ w e c)) ≡ kept_node (pick b (λ u. kept) (λ u. Some c))
   kept_next true c kept = refl
-  kept_next false c kept =
-      let z : c + 1 - 1 ≡ c = omega arith in
-      rw (ne_eqb (c + 1) 0 (λ q. omega arith), z) refl
+  kept_next false c kept = refl
 
-  pub pairs-turn : (t : Tree) (f : Bool) (kept a b : ℕ) (more : List TextNode) → Ranged t a →
+  pub pairs-turn : (t : Tree) (f : Bool) (kept : Std.Option ℕ) (a b : ℕ) (more : List TextNode) → Ranged t a →
       run (pairs f (kept_node kept) (node_at chars t₀ w e a) (node_at chars t₀ w e b ∷ more)) t ≡
       run (pairs false (kept_node (kept_behind (after_pair (pair_at t.nodes a b kept f (is_nil more)) t) (stands_by t.nodes a kept) kept))
       (node_at chars t₀ w e b) more) (after_pair (pair_at t.nodes a b kept f (is_nil more)) t)

@@ -5,9 +5,10 @@ use mathlib.Core.Bool.{Bool, true, false}
 use mathlib.Core.List.{List, ◌∷◌}
 use mathlib.Core.Option.{none}
 use native.Mathlib.Omega.{arith}
-use borrow.Author.Tests.{eq-eqb, ne_eqb}
+use borrow.Author.Tests.{ne_eqb}
 use lib.Dec.{eqb}
 use lib.ListN.{length}
+use Rattle.std.specs.Prelude.{Option, Some, IfSome}
 use Rattle.model.specs.Base.{pick}
 use Rattle.model.specs.Utf8.{is_blank}
 use Rattle.model.specs.Tables.{Tree, TEXT, word, text_of}
@@ -16,9 +17,9 @@ use Rattle.tree.specs.Lent.{read_of, texts_of}
 use Rattle.edges.specs.declared.Pair.{Pair}
 use Rattle.trimming.specs.declared.Turn.{Turn}
 use Rattle.edges.specs.Pairs.{after_pair}
-use Rattle.trimming.specs.Nodes.{Fair, IsTextOf, node_at, next_text, stands_by, pair_of, kept_behind}
+use Rattle.trimming.specs.Nodes.{IsTextOf, node_at, next_text, stands_by, pair_of, kept_behind}
 use Rattle.trimming.proofs.Following.{kept_node, pair_at, pairs-turn}
-use Rattle.trimming.proofs.Collected.{steady-none, Held, held-pair, NextIn, next-in, texts-next, texts-here, texts-none}
+use Rattle.trimming.proofs.Collected.{Held, held-pair, NextIn, next-in, texts-next, texts-here, texts-none}
 use Rattle.trimming.proofs.Collected.{texts-nil, pair-steady, fair-ranged, long-pair}
 use Rattle.trimming.proofs.Turning.{stands-text}
 
@@ -33,7 +34,7 @@ next-same ns ms h (suc n) i = rw (h i) (go (eqb (word ms i 0) TEXT) (next-same n
 
 module _ (chars es : List ℕ) (w : XmlSpace) (e n : ℕ) where
   -- The program from the text nodes a and b on.
-  abbrev from : List ℕ → ℕ → ℕ → ℕ → ℕ → Tree → Tree
+  abbrev from : List ℕ → ℕ → ℕ → ℕ → Option ℕ → Tree → Tree
   from ns₀ first a b kept t =
       run (pairs (eqb a first) (kept_node chars (read_of ns₀ es) w e kept) (node_at chars (read_of ns₀ es) w e a)
       (text_nodes chars (read_of ns₀ es) w e b (n - b))) t
@@ -44,7 +45,7 @@ module _ (chars es : List ℕ) (w : XmlSpace) (e n : ℕ) where
       run (pairs true none (node_at chars (read_of ns₀ es) w e first) (text_nodes chars (read_of ns₀ es) w e second (n - second)))
       (texts_of ns₀ bs₀)
 
-  pub record Paired (first second : ℕ) (ns₀ bs₀ ns bs : List ℕ) (a b kept : ℕ) : Type 0 where
+  pub record Paired (first second : ℕ) (ns₀ bs₀ ns bs : List ℕ) (a b : ℕ) (kept : Option ℕ) : Type 0 where
     pub held : Held (length chars) es e n ns₀ (texts_of ns bs)
     pub long : length ns ≡ length ns₀
     pub text-long : length bs ≡ length bs₀
@@ -53,44 +54,19 @@ module _ (chars es : List ℕ) (w : XmlSpace) (e n : ℕ) where
     pub low : a < b
     pub high : b ≤ n
     pub text : b < n → word ns₀ b 0 ≡ TEXT
-    pub last : (kept ≡ 0 → ⊥) → IsTextOf ns₀ e n (kept - 1)
+    pub last : IfSome kept (IsTextOf ns₀ e n)
     pub same : from ns₀ first a b kept (texts_of ns bs) ≡ whole ns₀ bs₀ first second
 
-  pub paired_none : (first second : ℕ) (ns bs : List ℕ) → Fair (length chars) ns es bs e n → IsTextOf ns e n first →
-      IsTextOf ns e n second → first < second → Paired first second ns bs ns bs first second 0
-  paired_none first second ns bs h x y l = record {
-    held = record { steady = steady-none ns; fair = h };
-    long = refl;
-    text-long = refl;
-    at = x;
-    start = omega arith;
-    low = l;
-    high = omega (arith, y.1.0);
-    text = λ m. y.1.1;
-    last = λ z. absurd (z refl);
-    same = rw (eq-eqb first first refl) refl;
-  }
-
-  module _ (first second : ℕ) (ns₀ bs₀ ns bs : List ℕ) (a b kept : ℕ) (p : Paired first second ns₀ bs₀ ns bs a b kept) where
-    here : (i : ℕ) → IsTextOf ns₀ e n i → IsTextOf ns e n i
-    here i x = (x.0, (x.1.0, p.held.steady.kinds i ∙ x.1.1))
-
-    -- What the turn asks.
-    pub paired-asks : b < n → IsTextOf ns e n a × (IsTextOf ns e n b × ((kept ≡ 0 → ⊥) → IsTextOf ns e n (kept - 1)))
-    paired-asks l = (
-      here a p.at,
-      (here b (omega (arith, p.at.0, p.low), (l, p.text l)), λ z. here (kept - 1) (p.last z)),
-    )
-
+  module _ (first second : ℕ) (ns₀ bs₀ ns bs : List ℕ) (a b : ℕ) (kept : Option ℕ) (p : Paired first second ns₀ bs₀ ns bs a b kept) where
     pub paired-done : n ≤ b → texts_of ns bs ≡ whole ns₀ bs₀ first second
     unfolding pairs run
     paired-done l =
         sym (ap (λ (m : List TextNode). run (pairs (eqb a first) (kept_node chars (read_of ns₀ es) w e kept)
         (node_at chars (read_of ns₀ es) w e a) m) (texts_of ns bs)) (texts-none chars (read_of ns₀ es) w e b n l)) ∙ p.same
 
-    module _ (l : b < n) (next : ℕ) (found : next ≡ next_text ns (b + 1) (n - (b + 1))) where
+    module _ (l : b < n) (next : ℕ) (found : next ≡ next_text ns (b + 1) (n - (b + 1))) (last : Bool) (ends : last ≡ eqb next n) where
       abbrev turn : Turn
-      turn = record { a = a; b = b; kept = kept; first = eqb a first; last = eqb next n }
+      turn = record { a = a; b = b; kept = kept; first = eqb a first; last = last }
 
       abbrev c : ℕ
       c = stands_by ns a kept
@@ -115,24 +91,20 @@ module _ (chars es : List ℕ) (w : XmlSpace) (e n : ℕ) where
       told =
           pair-steady chars ns₀ ns es p.held.steady w e turn
           ∙ ap (λ (x : Bool). pair_at chars (read_of ns₀ es) w e ns a b kept (eqb a first) x)
-          (texts-nil chars (read_of ns₀ es) w e next n behind.high next-text)
+          (ends ∙ texts-nil chars (read_of ns₀ es) w e next n behind.high next-text)
 
       stand : IsTextOf ns₀ e n (stands_by ns a kept)
       stand = stands-text ns₀ ns e n a kept p.at p.last
 
       module _ (ns' bs' : List ℕ) (left : texts_of ns' bs' ≡ after_pair (pair_of chars (read_of ns es) w e turn) (texts_of ns bs))
-          (kept' : ℕ)
+          (kept' : Option ℕ)
           (new : kept' ≡ kept_behind (texts_of ns' bs') (stands_by ns a kept) kept) where
-        kept-text : (kept' ≡ 0 → ⊥) → IsTextOf ns₀ e n (kept' - 1)
-        kept-text z = rw new (go (is_blank (text_of (texts_of ns' bs') (stands_by ns a kept))) refl)
+        kept-text : IfSome kept' (IsTextOf ns₀ e n)
+        kept-text = rw new (go (is_blank (text_of (texts_of ns' bs') (stands_by ns a kept))))
           where
-            q : stands_by ns a kept + 1 - 1 ≡ stands_by ns a kept
-            q = omega arith
-
-            go : (x : Bool) → is_blank (text_of (texts_of ns' bs') (stands_by ns a kept)) ≡ x →
-                IsTextOf ns₀ e n (pick x (λ u. kept) (λ u. stands_by ns a kept + 1) - 1)
-            go true h = p.last (λ y. z (new ∙ rw h y))
-            go false h = rw q stand
+            go : (x : Bool) → IfSome (pick x (λ u. kept) (λ u. Some (stands_by ns a kept))) (IsTextOf ns₀ e n)
+            go true = p.last
+            go false = stand
 
         pub paired-turn : Paired first second ns₀ bs₀ ns' bs' b next kept'
         paired-turn = record {

@@ -1,44 +1,33 @@
 -- One turn: what its calls ask, and what it leaves. Assumes nothing.
-use Prim.Native.Nat.{ℕ, ◌+◌, ◌-◌, ◌*◌, ◌<◌}
+use Prim.Native.Nat.{ℕ}
 use mathlib.Core.Path.{◌≡◌, refl, ap, ◌∙◌}
 use mathlib.Core.Bool.{Bool, true, false}
 use mathlib.Core.List.{List}
-use native.Mathlib.Omega.{arith}
-use borrow.Author.Tests.{eqb-false}
 use lib.Dec.{eqb, ltb}
-use lib.ListN.{length}
+use Rattle.std.specs.Prelude.{Option, Some, None, IfSome, unwrap_or}
 use Rattle.model.specs.Base.{pick}
-use Rattle.model.specs.Tables.{Tree, word, parent_of}
 use Rattle.model.specs.Text.{XmlSpace, is_default, depth_below}
-use Rattle.tree.specs.Lent.{read_of, nodes_read, texts_of, ReadableIn}
+use Rattle.tree.specs.Lent.{read_of, nodes_read, texts_of}
 use Rattle.edges.specs.declared.Pair.{Pair}
 use Rattle.trimming.specs.declared.Turn.{Turn}
 use Rattle.text.specs.Spaces.{space_at}
 use Rattle.edges.specs.Pairs.{Ranged, size_of, after_pair}
-use Rattle.trimming.specs.Nodes.{Fair, IsTextOf, stands_by, pair_of, kept_behind}
+use Rattle.trimming.specs.Nodes.{Fair, IsTextOf, stands_by, pair_of}
 use Rattle.trimming.proofs.Depths.{depth_same}
 use Rattle.edges.proofs.Steps.{both-pair}
 use Rattle.trimming.proofs.Collected.{fair-ranged}
 
 -- The node that stands for a is a text node of the element too.
-pub stands-text : (ns₀ ns : List ℕ) (e n a kept : ℕ) → IsTextOf ns₀ e n a → ((kept ≡ 0 → ⊥) → IsTextOf ns₀ e n (kept - 1)) →
+pub stands-text : (ns₀ ns : List ℕ) (e n a : ℕ) (kept : Option ℕ) → IsTextOf ns₀ e n a → IfSome kept (IsTextOf ns₀ e n) →
     IsTextOf ns₀ e n (stands_by ns a kept)
-stands-text ns₀ ns e n a kept x y = go (eqb (size_of ns a) 0) (eqb kept 0) refl
+stands-text ns₀ ns e n a kept x y = go (eqb (size_of ns a) 0) kept y
   where
-    go : (b c : Bool) → eqb kept 0 ≡ c → IsTextOf ns₀ e n (pick b (λ u. pick c (λ v. a) (λ v. kept - 1)) (λ u. a))
-    go true true q = x
-    go true false q = y (eqb-false kept 0 q)
-    go false c q = x
+    go : (b : Bool) (o : Option ℕ) → IfSome o (IsTextOf ns₀ e n) → IsTextOf ns₀ e n (pick b (λ u. unwrap_or o a) (λ u. a))
+    go true None z = x
+    go true (Some k) z = z
+    go false o z = x
 
 module _ (size : ℕ) (ns es bs : List ℕ) (e n : ℕ) (h : Fair size ns es bs e n) where
-  -- Its parent can be read.
-  pub parent-ready : (i : ℕ) → IsTextOf ns e n i →
-      (8 * i + 7 < length ns) × ((0 < parent_of (read_of ns es) i) × ReadableIn size (read_of ns es) (parent_of (read_of ns es) i - 1))
-  parent-ready i x =
-      let u = h.below.under i x.0 x.1.0 in
-      let l = x.1.0 in
-      (omega (arith, h.below.inside), (omega (arith, u.0), h.readable (word ns i 1 - 1) (omega (arith, u.1, u.0))))
-
   pub text-ranged : (i : ℕ) → IsTextOf ns e n i → Ranged (texts_of ns bs) i
   text-ranged i x = fair-ranged size ns es bs e n i h x.1.0 x.1.1
 
@@ -68,6 +57,3 @@ module _ (chars ns es : List ℕ) (w : XmlSpace) (e : ℕ) (k : Turn) where
 pub turn-ranged : (ns bs ns' bs' : List ℕ) (p : Pair) → texts_of ns' bs' ≡ after_pair p (texts_of ns bs) → Ranged (texts_of ns bs) p.node1 →
     Ranged (texts_of ns bs) p.node2 → Ranged (texts_of ns' bs') p.node1
 turn-ranged ns bs ns' bs' p f x y = rw f (both-pair p (texts_of ns bs) (x, y)).0
-
-pub turn-kept : (t : Tree) (r c d kept : ℕ) → r ≡ kept_behind t c kept → c ≡ d → r ≡ kept_behind t d kept
-turn-kept t r c d kept e f = e ∙ ap (λ k. kept_behind t k kept) f

@@ -1,5 +1,5 @@
 -- The text nodes of a text element in the lent tables.
-use Rattle.std.specs.Prelude.{ℕ, zero, suc, ◌+◌, ◌-◌, ◌*◌, ◌≤◌, ◌<◌, List, ◌≡◌, eqb, ltb, length}
+use Rattle.std.specs.Prelude.{ℕ, zero, suc, ◌+◌, ◌*◌, ◌≤◌, ◌<◌, List, ◌≡◌, eqb, ltb, length, Option, Some, unwrap_or}
 use Rattle.model.specs.Base.{pick}
 use Rattle.model.specs.Utf8.{is_blank}
 use Rattle.model.specs.Tables.{Tree, TEXT, word, text_of, parent_of}
@@ -37,9 +37,9 @@ unfoldable pub next_text : List ℕ → ℕ → ℕ → ℕ
 next_text ns i zero = i
 next_text ns i (suc n) = pick (eqb (word ns i 0) TEXT) (λ u. i) (λ u. next_text ns (i + 1) n)
 
--- The node that stands for a in a pair, by its index: an empty text gives way to the one that was kept, an index plus 1, if there is one.
-abbrev pub stands_by : List ℕ → ℕ → ℕ → ℕ
-stands_by ns a kept = pick (eqb (size_of ns a) 0) (λ u. pick (eqb kept 0) (λ v. a) (λ v. kept - 1)) (λ u. a)
+-- The node that stands for a in a pair: an empty text gives way to the one that was kept, if there is one.
+abbrev pub stands_by : List ℕ → ℕ → Option ℕ → ℕ
+stands_by ns a kept = pick (eqb (size_of ns a) 0) (λ u. unwrap_or kept a) (λ u. a)
 
 -- The pair of a turn.
 abbrev pub pair_of : List ℕ → Tree → M.XmlSpace → ℕ → Turn → Pair
@@ -53,9 +53,9 @@ pair_of chars t w e k = record {
   default2 = is_default (space_at chars t w k.b);
 }
 
--- The last text that is not blank, behind a pair whose first text is node c: an index plus 1, 0 for none.
-abbrev pub kept_behind : Tree → ℕ → ℕ → ℕ
-kept_behind t c kept = pick (is_blank (text_of t c)) (λ u. kept) (λ u. c + 1)
+-- The last text that is not blank, behind a pair whose first text is node c.
+abbrev pub kept_behind : Tree → ℕ → Option ℕ → Option ℕ
+kept_behind t c kept = pick (is_blank (text_of t c)) (λ u. kept) (λ u. Some c)
 
 -- What trimming a text element asks of the tables: what the 40 test says of them, and that the nodes behind the element stand under it.
 pub record Trimmable (chars : List ℕ) (t : Tree) (e : ℕ) : Type 0 where

@@ -9,7 +9,8 @@ use tree::word::node_word;
 
 // Does b stand deeper below the text element than a? Both ways up are followed to where they meet. From one text to the next that is no
 // more steps than there are elements between them, so the way from the first text to the last is as long as the element has nodes. The
-// element and the count are named for the contract alone.
+// element and the count are named for the contract alone. The parents are compared as the table holds them, an index plus 1: none is
+// missing up to the element, so options would only be unwrapped.
 pub fn is_deeper(nodes: &[u32], element: u32, count: u32, a: u32, b: u32) -> bool
     requires below { Below nodes.now element count }
     requires element_lt_a { (element < a) × (a < count) }

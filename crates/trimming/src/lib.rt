@@ -4,13 +4,13 @@
 pub mod depth;
 pub mod nodes;
 
-// A turn of `trim_text_nodes`: two text nodes, one behind the other; the last text before that was not blank, its index plus 1, 0 for none;
-// and whether it is the first turn and the last one.
+// A turn of `trim_text_nodes`: two text nodes, one behind the other; the last text before that was not blank; and whether it is the first
+// turn and the last one.
 #[derive(Clone, Copy)]
 pub struct Turn {
     pub a: u32,
     pub b: u32,
-    pub kept: u32,
+    pub kept: Option<u32>,
     pub first: bool,
     pub last: bool,
 }

@@ -1,5 +1,5 @@
 // `trim_text_nodes`: the text nodes of a text element, pair by pair.
-ghost use Rattle.std.specs.Prelude.{◌≡◌, true, ◌+◌, ◌-◌, ◌*◌, ◌≤◌, ◌<◌, length};
+ghost use Rattle.std.specs.Prelude.{◌≡◌, true, ◌+◌, ◌-◌, ◌*◌, ◌≤◌, ◌<◌, length, IfSome, SomeIff};
 ghost use Rattle.std.proofs.Math.Option.{none};
 ghost use Rattle.model.specs.Text.{run, pairs, text_nodes, trim_text_nodes};
 ghost use Rattle.tree.specs.Lent.{read_of, texts_of, tree_of};
@@ -13,51 +13,44 @@ use edges::Pair;
 use edges::edge::{is_blank_text, size_of};
 use edges::step::{trim_pair, trim_single};
 use text::space::{is_default, is_default_at, space_of};
-use tree::word::node_word;
-use tree::{Counts, word};
+use tree::word::has_kind;
+use tree::{Counts, Kind};
 
-// The first text node from `from` up to `to`, `to` where there is none.
-fn next_text(nodes: &[u32], from: u32, to: u32) -> u32
+// The first text node from `from` up to `to`.
+fn next_text(nodes: &[u32], from: u32, to: u32) -> Option<u32>
     requires { (from ≤ to) × (8 * to ≤ length nodes.now) }
-    ensures { result ≡ next_text nodes.now from (to - from) }
+    ensures { SomeIff result (next_text nodes.now from (to - from) < to) (next_text nodes.now from (to - from)) }
 {
-    let mut i = from;
-    while i < to {
-        if node_word(nodes, i, word::KIND) == word::TEXT {
-            return i;
+    for i in from..to {
+        if has_kind(nodes, i, Kind::Text) {
+            return Some(i);
         }
-        i += 1;
     }
-    i
+    None
 }
 
 // The node that stands for a in its pair: an empty text gives way to the last one before it that was not blank, if there is one.
-fn stands_for(nodes: &[u32], a: u32, kept: u32) -> u32
+fn stands_for(nodes: &[u32], a: u32, kept: Option<u32>) -> u32
     requires { Ordered nodes.now a }
     ensures { result ≡ stands_by nodes.now a kept }
 {
-    if size_of(nodes, a) != 0 {
-        return a;
+    if size_of(nodes, a) == 0 {
+        kept.unwrap_or(a)
+    } else {
+        a
     }
-    if kept == 0 {
-        return a;
-    }
-    kept - 1
 }
 
 // `last_non_empty` behind a pair whose first text is c. A text that was kept before is not looked at again: so each is looked at once.
-fn kept_behind(nodes: &[u32], text: &[u8], c: u32, kept: u32) -> u32
-    requires ranged { Ranged (texts_of nodes.now text.now) c }
-    requires c_bound { c < 4294967295 }
+fn kept_behind(nodes: &[u32], text: &[u8], c: u32, kept: Option<u32>) -> Option<u32>
+    requires { Ranged (texts_of nodes.now text.now) c }
     ensures { result ≡ kept_behind (texts_of nodes.now text.now) c kept }
 {
-    if c + 1 == kept {
-        return kept;
+    if kept == Some(c) || is_blank_text(nodes, text, c) {
+        kept
+    } else {
+        Some(c)
     }
-    if is_blank_text(nodes, text, c) {
-        return kept;
-    }
-    c + 1
 }
 
 // One turn: the pair of two text nodes, and what is kept behind it.
@@ -70,11 +63,11 @@ fn trim_turn(
     count: u32,
     default: bool,
     turn: Turn,
-) -> u32
+) -> Option<u32>
     requires fair { Fair (length characters.now) nodes.old attributes.now text.old element count }
     requires text_of { IsTextOf nodes.old element count turn.a }
     requires text_of_2 { IsTextOf nodes.old element count turn.b }
-    requires text_of_3 { (turn.kept ≡ 0 → ⊥) → IsTextOf nodes.old element count (turn.kept - 1) }
+    requires text_of_3 { IfSome turn.kept (IsTextOf nodes.old element count) }
     ensures tables { texts_of nodes.new text.new ≡ after_pair
         (pair_of characters.now (read_of nodes.old attributes.now) (space_by default) element turn)
         (texts_of nodes.old text.old) }
@@ -120,22 +113,21 @@ fn trim_pairs(
         (count - second))) (texts_of nodes.old text.old) }
 {
     let mut a = first;
-    let mut b = second;
-    let mut kept: u32 = 0;
-    while b < count {
-        let next = next_text(nodes, b + 1, count);
+    let mut behind = Some(second);
+    let mut kept = None;
+    while let Some(b) = behind {
+        behind = next_text(nodes, b + 1, count);
         let turn = Turn {
             a,
             b,
             kept,
             first: a == first,
-            last: next == count,
+            last: behind.is_none(),
         };
         kept = trim_turn(
             nodes, attributes, text, characters, element, count, default, turn,
         );
         a = b;
-        b = next;
     }
 }
 
@@ -155,19 +147,17 @@ pub fn trim_text_nodes(
 {
     let default = is_default(space_of(nodes, attributes, characters, e));
     let count = counts.nodes;
-    let first = next_text(nodes, e + 1, count);
-    if first == count {
+    let Some(first) = next_text(nodes, e + 1, count) else {
         return;
-    }
-    let second = next_text(nodes, first + 1, count);
-    if second < count {
-        trim_pairs(
+    };
+    match next_text(nodes, first + 1, count) {
+        Some(second) => trim_pairs(
             nodes, attributes, text, characters, e, count, default, first, second,
-        );
-        return;
+        ),
+        None => {
+            if default {
+                trim_single(nodes, text, first);
+            }
+        }
     }
-    if !default {
-        return;
-    }
-    trim_single(nodes, text, first);
 }

@@ -4,11 +4,12 @@ use mathlib.Core.List.{List}
 use mathlib.Core.Bool.{Bool, true, false, not}
 use Prim.Native.Nat.{ℕ, zero, suc, ◌+◌, ◌-◌, ◌<◌, ◌≤◌}
 use native.Mathlib.Omega.{arith}
-use borrow.Author.Tests.{eqb-true, eqb-false, eq-eqb, leb-false, not-true}
-use borrow.Author.Count.{below_more}
-use lib.Dec.{eqb}
+use borrow.Author.Tests.{leb-false, not-true}
 use lib.ListN.{length, get_or, drop, length-drop}
 use lib.Seq.{drop-drop, get_or-drop}
+use Rattle.std.proofs.Common.{Option, Some, None, MatchOption}
+use Rattle.std.specs.Option.{is_some}
+use Rattle.std.specs.List.{AllWithin}
 use Rattle.model.specs.Utf8.{well_formed, sequence_of, is_utf8, is_utf8_from}
 use Rattle.utf8.specs.Lead.{beyond_in}
 use Rattle.utf8.proofs.Parts.{any_none}
@@ -58,18 +59,6 @@ pub reach-all : (s : List ℕ) (a i : ℕ) → Reach s a i → length s ≤ i �
 unfolding is_utf8
 reach-all s a i r h = read_all (drop i s) 0 (read_none (drop i s)) (omega (arith, length-drop i s)) ∙ r.same
 
--- Where the reading stopped tells whether the string is UTF-8.
-pub reach-end : (s : List ℕ) (a i : ℕ) → Reach s a i → (i < length s → is_utf8_from 0 (drop i s) ≡ false)
-    → eqb i (length s) ≡ is_utf8_from 0 (drop a s)
-reach-end s a i r f = go (eqb i (length s)) refl
-  where
-    go : (t : Bool) → eqb i (length s) ≡ t → t ≡ is_utf8_from 0 (drop a s)
-    go true e = reach-all s a i r (omega (arith, eqb-true i (length s) e))
-    go false e =
-        let d : i ≡ length s → ⊥ = eqb-false i (length s) e in
-        let w : i ≤ length s = r.within in
-        sym (f (omega arith)) ∙ r.same
-
 -- A block of ASCII is read at once.
 pub reach-block : (s : List ℕ) (i n : ℕ) → i + n ≤ length s → Ascii s i n → Reach s i (i + n)
 reach-block s i zero h a = subst (λ j. Reach s i j) (let z : i ≡ i + 0 = omega arith in z) (reach-none s i (omega arith))
@@ -83,12 +72,6 @@ pub record Rest (s : List ℕ) (m a i : ℕ) : Type 0 where
   pub begun : a ≤ i
   pub near : length s ≤ i + m
   pub reach : Reach s a i
-
-pub rest-stay : (s : List ℕ) (m a i : ℕ) → a ≤ length s → length s ≤ a + m → i ≡ a → Rest s m a i
-rest-stay s m a i h l e = subst (λ j. Rest s m a j) (sym e) (record { begun = omega arith; near = l; reach = reach-none s a h })
-
-pub rest-block : (s : List ℕ) (m a n i : ℕ) → a + n ≤ length s → length s ≤ a + n + m → Ascii s a n → i ≡ a + n → Rest s m a i
-rest-block s m a n i h l b e = subst (λ j. Rest s m a j) (sym e) (record { begun = omega arith; near = l; reach = reach-block s a n h b })
 
 -- The last m bytes are ASCII, of which some may be read.
 pub rest_all : (s : List ℕ) (m a i : ℕ) → Rest s m a i → m ≤ length s → Ascii s (length s - m) m → Reach s a (length s)
@@ -105,33 +88,15 @@ rest_all s m a i r h b =
 pub ascii-told : (s : List ℕ) (i n : ℕ) (r : Bool) → r ≡ not (beyond_in s i n) → r ≡ true → Ascii s i n
 ascii-told s i n r e t = λ k h. leb-false 0x80 _ (any_none n _ (not-true _ (sym e ∙ t)) k h)
 
--- COUNTING A BLOCK
+-- The first n bytes.
+pub reach-front : (s : List ℕ) (n : ℕ) → n ≤ length s → AllWithin (λ b. b < 0x80) s 0 n → Reach s 0 n
+reach-front s n h a = subst (λ j. Reach s 0 j) (let z : 0 + n ≡ n = omega arith in z)
+    (reach-block s 0 n (omega arith)
+    (λ k l. subst (λ j. get_or s j 0 < 0x80) (let z : k ≡ 0 + k = omega arith in z) (a k 0 (omega arith) l)))
 
--- n of the j bytes from i on are ASCII: all of them are just if n is j.
-pub record Counted (s : List ℕ) (i n j : ℕ) : Type 0 where
-  pub most : n ≤ j
-  pub sound : n ≡ j → Ascii s i j
-  pub complete : Ascii s i j → n ≡ j
-
-pub counted-none : (s : List ℕ) (i : ℕ) → Counted s i 0 0
-counted-none s i = record { most = omega arith; sound = λ e k l. absurd (omega arith); complete = λ a. refl }
-
-pub counted-more : (s : List ℕ) (i n j m : ℕ) → Counted s i n j → get_or s (i + j) 0 < 0x80 → m ≡ n + 1 → Counted s i m (j + 1)
-counted-more s i n j m c h e = record {
-  most = omega (arith, c.most);
-  sound = λ q. below_more (λ k. get_or s (i + k) 0 < 0x80) j (c.sound (omega arith)) h;
-  complete = λ a. omega (arith, c.complete (λ k l. a k (omega arith)));
-}
-
-pub counted-not : (s : List ℕ) (i n j m : ℕ) → Counted s i n j → 0x80 ≤ get_or s (i + j) 0 → m ≡ n → Counted s i m (j + 1)
-counted-not s i n j m c h e = record {
-  most = omega (arith, c.most);
-  sound = λ q. absurd (omega (arith, c.most));
-  complete = λ a. absurd (omega (arith, a j (omega arith)));
-}
-
-pub counted-all : (s : List ℕ) (i n j m : ℕ) → Counted s i n j → j ≡ m → (eqb n m ≡ true → Ascii s i m) × (Ascii s i m → eqb n m ≡ true)
-counted-all s i n j m c e = (
-  λ t. subst (λ k. Ascii s i k) e (c.sound (eqb-true n m t ∙ sym e)),
-  λ a. eq-eqb n m (c.complete (subst (λ k. Ascii s i k) (sym e) a) ∙ e),
-)
+-- The sequences from a on reach the end, or one is missing.
+pub reach-some : (s : List ℕ) (a : ℕ) (r : Option ℕ) → MatchOption r (is_utf8_from 0 (drop a s) ≡ false)
+    (λ i. (length s ≤ i) × (i ≤ length s) × (is_utf8_from 0 (drop i s) ≡ is_utf8_from 0 (drop a s)))
+    → is_some r ≡ is_utf8_from 0 (drop a s)
+reach-some s a None e = sym e
+reach-some s a (Some i) e = reach-all s a i (record { within = e.1; same = e.2 }) e.0

@@ -1,13 +1,13 @@
 -- Blocks of bytes that are each in place behind the three before. Assumes nothing.
 use mathlib.Core.Path.{◌≡◌, refl, sym, ap, ◌∙◌, subst}
 use mathlib.Core.List.{List}
-use mathlib.Core.Bool.{Bool, true, false, not, ◌&&◌, ◌||◌, beq}
+use mathlib.Core.Bool.{Bool, true, false, not, ◌||◌, beq}
 use Prim.Native.Nat.{ℕ, zero, suc, ◌+◌, ◌-◌, ◌<◌, ◌≤◌}
 use native.Mathlib.Omega.{arith}
 use borrow.Author.Tests.{eqb-true, eqb-false, leb-true, leb-false, ltb-true, not-false, ne_eqb, lt-ltb, le-ltb, le-leb, lt-leb}
 use lib.Dec.{eqb, leb, ltb}
 use lib.ListN.{length, get_or, drop}
-use Rattle.model.specs.Base.{pick, and, or}
+use Rattle.model.specs.Base.{pick, or}
 use Rattle.model.specs.Utf8.{Range, ◌to◌, is_within, well_formed, sequence_of}
 use Rattle.utf8.specs.Lead.{length_of, second_of, never, left_out, misplaced, misplaced_of_two, begun_by, misplaced_in}
 use Rattle.utf8.specs.Lead.{misplaced_of_two_in, begun_at}
@@ -22,10 +22,6 @@ beq-true true true e = refl
 beq-true true false e = sym e
 beq-true false true e = e
 beq-true false false e = refl
-
-pub and_is : (a b : Bool) → (a && b) ≡ and a b
-and_is true b = refl
-and_is false b = refl
 
 -- What is_misplaced computes, where a sequence goes on or does not.
 abbrev computed : Bool → ℕ → ℕ → Bool

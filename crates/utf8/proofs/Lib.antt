@@ -2,3 +2,4 @@ pub mod Parts
 pub mod Sequence
 pub mod Ascii
 pub mod Blocks
+pub mod Folds

@@ -37,7 +37,8 @@ any_none zero p e k h = absurd (omega arith)
 any_none (suc n) p e k h = below_more (λ j. p j ≡ false) n (any_none n p (or_left (any_below n p) (p n) e))
     (or_right (any_below n p) (p n) e) k (omega arith)
 
-pub none_any : (n : ℕ) (p : ℕ → Bool) → ((k : ℕ) → k < n → p k ≡ false) → any_below n p ≡ false
+-- Two tests that agree below n.
+pub any-same : (n : ℕ) (p q : ℕ → Bool) → ((k : ℕ) → k < n → p k ≡ q k) → any_below n p ≡ any_below n q
 unfolding any_below
-none_any zero p h = refl
-none_any (suc n) p h = rw (none_any n p (λ k l. h k (omega arith)), h n (omega arith)) refl
+any-same zero p q h = refl
+any-same (suc n) p q h = ap₂ (λ a b. a || b) (any-same n p q (λ k l. h k (omega arith))) (h n (omega arith))

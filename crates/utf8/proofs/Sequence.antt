@@ -1,12 +1,12 @@
 -- The rows of table 3-7, read by the first byte. Assumes nothing.
 use mathlib.Core.Path.{◌≡◌, refl, sym, ap, ap₂, ◌∙◌, subst}
 use mathlib.Core.List.{List, [], ◌∷◌, map}
-use mathlib.Core.Bool.{Bool, true, false}
+use mathlib.Core.Bool.{Bool, true, false, not}
 use mathlib.Core.Logic.{⊎_elim, inl, inr, ◌⊎◌}
 use Prim.Native.Nat.{ℕ, zero, suc, ◌+◌, ◌-◌, ◌<◌, ◌≤◌}
 use native.Mathlib.Omega.{arith}
 use native.Mathlib.Numerals.{add-one}
-use borrow.Author.Tests.{eqb-true, eqb-false, leb-true, ltb-true, ltb-false, ne_eqb, eq-eqb, lt-ltb, le-ltb}
+use borrow.Author.Tests.{eqb-true, eqb-false, leb-true, ltb-true, ltb-false, ne_eqb, lt-ltb, le-ltb}
 use lib.Dec.{eqb, leb, ltb}
 use lib.Count.{count_leading_zeros}
 use lib.ListN.{length, get_or, take, drop, length-drop, drop_of_length-le}
@@ -136,15 +136,9 @@ by_ones n b =
 ones-right : ℕ → Bool
 ones-right b = or (ltb b 0x80) (eqb (length_of b) (by_ones (count_leading_zeros 8 (255 - b)) b))
 
--- The range of the second byte by the length.
-second_in : ℕ → ℕ → Range
-second_in n b =
-    pick (eqb n 3) (λ u. pick (eqb b 0xE0) (λ v. 0xA0 to 0xBF) (λ v. pick (eqb b 0xED) (λ w. 0x80 to 0x9F) (λ w. 0x80 to 0xBF)))
-    (λ u. pick (eqb n 4) (λ v. pick (eqb b 0xF0) (λ w. 0x90 to 0xBF) (λ w. pick (eqb b 0xF4) (λ x. 0x80 to 0x8F) (λ x. 0x80 to 0xBF)))
-    (λ v. 0x80 to 0xBF))
-
-second-right : ℕ → Bool
-second-right b = or (eqb (length_of b) 0) (same_range (second_of b) (second_in (length_of b) b))
+-- The second byte of two has the widest range.
+two-right : ℕ → Bool
+two-right b = or (not (eqb (length_of b) 2)) (same_range (second_of b) (0x80 to 0xBF))
 
 all_right : all_below 256 right ≡ true
 unfolding right same_rows same_row same_range length_of second_of rest_of
@@ -158,9 +152,9 @@ all_ones : all_below 256 ones-right ≡ true
 unfolding ones-right by_ones count_leading_zeros length_of
 all_ones = refl
 
-all-seconds : all_below 256 second-right ≡ true
-unfolding second-right same_range second_in length_of second_of
-all-seconds = refl
+all-two : all_below 256 two-right ≡ true
+unfolding two-right same_range length_of second_of
+all-two = refl
 
 -- THE SEQUENCE AT A PLACE
 
@@ -248,41 +242,9 @@ first-most b n e = go (ltb 0xF4 b) refl
         ≡ suc n = sym (rw (le-ltb b 0x80 (omega arith), le-ltb b 0xC2 (omega arith), f)) ∙ e in omega arith)
     go false f = let m : b ≤ 0xF4 = ltb-false 0xF4 b f in omega arith
 
--- The range of the second byte, by the length.
-second_is : (b n : ℕ) → length_of b ≡ suc n → second_of b ≡ second_in (suc n) b
-unfolding second-right
-second_is b n e = range-is (second_of b) (second_in (suc n) b)
-    (sym (rw (e, ne_eqb (suc n) 0 (λ z. omega arith))) ∙ below 256 second-right all-seconds b (first-most b n e))
-
 pub second-of-two : (b : ℕ) → length_of b ≡ 2 → second_of b ≡ 0x80 to 0xBF
-unfolding second_in
-second-of-two b e = second_is b 1 e
-
-module _ (b : ℕ) (e : length_of b ≡ 3) where
-  pub three-low : b ≡ 0xE0 → second_of b ≡ 0xA0 to 0xBF
-  unfolding second_in
-  three-low x = second_is b 2 e ∙ rw (eq-eqb b 0xE0 x)
-
-  pub three-high : b ≡ 0xED → second_of b ≡ 0x80 to 0x9F
-  unfolding second_in
-  three-high x = second_is b 2 e ∙ rw x
-
-  pub three-wide : (b ≡ 0xE0 → ⊥) → (b ≡ 0xED → ⊥) → second_of b ≡ 0x80 to 0xBF
-  unfolding second_in
-  three-wide x y = second_is b 2 e ∙ rw (ne_eqb b 0xE0 x, ne_eqb b 0xED y)
-
-module _ (b : ℕ) (e : length_of b ≡ 4) where
-  pub four_low : b ≡ 0xF0 → second_of b ≡ 0x90 to 0xBF
-  unfolding second_in
-  four_low x = second_is b 3 e ∙ rw (eq-eqb b 0xF0 x)
-
-  pub four-high : b ≡ 0xF4 → second_of b ≡ 0x80 to 0x8F
-  unfolding second_in
-  four-high x = second_is b 3 e ∙ rw x
-
-  pub four-wide : (b ≡ 0xF0 → ⊥) → (b ≡ 0xF4 → ⊥) → second_of b ≡ 0x80 to 0xBF
-  unfolding second_in
-  four-wide x y = second_is b 3 e ∙ rw (ne_eqb b 0xF0 x, ne_eqb b 0xF4 y)
+unfolding two-right
+second-of-two b e = range-is (second_of b) (0x80 to 0xBF) (sym (rw e) ∙ below 256 two-right all-two b (first-most b 1 e))
 
 -- How far a sequence of n bytes is read: v is the sequence if the bytes from j on fit what is left of the ranges.
 abbrev Stage : ℕ → ℕ → ℕ → List Range → List ℕ → ℕ → Type 0

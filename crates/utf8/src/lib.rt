@@ -1,7 +1,7 @@
 // UTF-8: the Unicode Standard, table 3-7.
 #![tactic(auto)]
 
-ghost use Rattle.std.specs.Prelude.{◌≡◌, ℕ, true, false, not, ◌+◌, ◌<◌, ◌≤◌, length, drop, get_or};
+ghost use Rattle.std.specs.Prelude.{◌≡◌, ℕ, true, false, not, ◌+◌, ◌-◌, ◌<◌, ◌≤◌, length, drop, get_or, SomeIff, IfSome, MatchOption};
 ghost use Rattle.model.specs.Utf8.{◌to◌, is_within, sequence_of, well_formed, is_utf8, is_utf8_from};
 ghost use Rattle.utf8.specs.Lead.{length_of, second_of, never, left_out, misplaced, misplaced_of_two};
 ghost use Rattle.utf8.specs.Lead.{misplaced_in, misplaced_of_two_in, begun_at, beyond_in};
@@ -10,234 +10,156 @@ ghost use Rattle.utf8.specs.Lead.{misplaced_in, misplaced_of_two_in, begun_at, b
 fn is_within(b: u8, least: u8, greatest: u8) -> bool
     ensures { result ≡ is_within b (least to greatest) }
 {
-    if b < least {
-        return false;
-    }
-    b <= greatest
-}
-
-// May the byte stand behind the first one of a sequence of three?
-fn is_second_of_three(first: u8, b: u8) -> bool
-    requires { length_of first ≡ 3 }
-    ensures { result ≡ is_within b (second_of first) }
-{
-    if first == 0xE0 {
-        return is_within(b, 0xA0, 0xBF);
-    }
-    if first == 0xED {
-        return is_within(b, 0x80, 0x9F);
-    }
-    is_within(b, 0x80, 0xBF)
-}
-
-// May it behind the first one of a sequence of four?
-fn is_second_of_four(first: u8, b: u8) -> bool
-    requires { length_of first ≡ 4 }
-    ensures { result ≡ is_within b (second_of first) }
-{
-    if first == 0xF0 {
-        return is_within(b, 0x90, 0xBF);
-    }
-    if first == 0xF4 {
-        return is_within(b, 0x80, 0x8F);
-    }
-    is_within(b, 0x80, 0xBF)
-}
-
-// The sequence at i, whose first byte says two bytes.
-fn two_at(s: &[u8], i: usize) -> usize
-    requires i_in_bounds { i < length s.now }
-    requires i_value { length_of (get_or s.now i 0) ≡ 2 }
-    ensures { result ≡ sequence_of well_formed (drop i s.now) }
-{
-    if s.len() - i < 2 {
-        return 0;
-    }
-    if !is_within(s[i + 1], 0x80, 0xBF) {
-        return 0;
-    }
-    2
-}
-
-// The sequence at i, whose first byte says three.
-fn three_at(s: &[u8], i: usize) -> usize
-    requires i_in_bounds { i + 3 ≤ length s.now }
-    requires i_value { length_of (get_or s.now i 0) ≡ 3 }
-    ensures { result ≡ sequence_of well_formed (drop i s.now) }
-{
-    if !is_second_of_three(s[i], s[i + 1]) {
-        return 0;
-    }
-    if !is_within(s[i + 2], 0x80, 0xBF) {
-        return 0;
-    }
-    3
-}
-
-// The sequence at i, whose first byte says four.
-fn four_at(s: &[u8], i: usize) -> usize
-    requires i_in_bounds { i < length s.now }
-    requires i_value { length_of (get_or s.now i 0) ≡ 4 }
-    ensures { result ≡ sequence_of well_formed (drop i s.now) }
-{
-    if s.len() - i < 4 {
-        return 0;
-    }
-    if !is_second_of_four(s[i], s[i + 1]) {
-        return 0;
-    }
-    if !is_within(s[i + 2], 0x80, 0xBF) {
-        return 0;
-    }
-    if !is_within(s[i + 3], 0x80, 0xBF) {
-        return 0;
-    }
-    4
-}
-
-// How many bytes the sequence at i has, 0 where no sequence of the table stands there. The first byte has as many leading
-// ones as the sequence has bytes. Each length is answered by a number written out: the next place then waits for no count.
-pub fn sequence_at(s: &[u8], i: usize) -> usize
-    requires { i < length s.now }
-    ensures { result ≡ sequence_of well_formed (drop i s.now) }
-{
-    let b = s[i];
-    if b < 0x80 {
-        return 1;
-    }
-    let n = u8::leading_zeros(255 - b);
-    if n == 2 {
-        if b < 0xC2 {
-            return 0;
-        }
-        return two_at(s, i);
-    }
-    if s.len() - i < 3 {
-        return 0;
-    }
-    if n == 3 {
-        return three_at(s, i);
-    }
-    if n == 4 {
-        if 0xF4 < b {
-            return 0;
-        }
-        return four_at(s, i);
-    }
-    0
-}
-
-// Are so many bytes from i on all ASCII? It looks at them all, with no way out before the end: the compiler makes vector
-// instructions of that where the size is known.
-fn is_ascii(s: &[u8], i: usize, size: usize) -> bool
-    requires { i + size ≤ length s.now }
-    ensures told { (result ≡ true → (k : ℕ) → k < size → get_or s.now (i + k) 0 < 0x80)
-        × (((k : ℕ) → k < size → get_or s.now (i + k) 0 < 0x80) → result ≡ true) }
-    ensures beyond { result ≡ not (beyond_in s.now i size) }
-{
-    let mut beyond = false;
-    let mut j = 0;
-    while j < size {
-        beyond = beyond | (0x80 <= s[i + j]);
-        j += 1;
-    }
-    !beyond
-}
-
-// The place behind the ASCII at the end of a string, where fewer than 32 bytes are left: a block of 16, and the last 16
-// bytes, of which some were read before.
-fn past_end(s: &[u8], from: usize) -> usize
-    requires { (from ≤ length s.now) × (length s.now < from + 32) }
-    ensures { (from ≤ result) × (result ≤ length s.now)
-        × (is_utf8_from 0 (drop result s.now) ≡ is_utf8_from 0 (drop from s.now)) }
-{
-    if s.len() < 16 {
-        return from;
-    }
-    let mut i = from;
-    if 16 <= s.len() - from {
-        if !is_ascii(s, from, 16) {
-            return from;
-        }
-        i = from + 16;
-    }
-    if is_ascii(s, s.len() - 16, 16) {
-        return s.len();
-    }
-    i
-}
-
-// The place behind the blocks of 256 bytes of ASCII that stand from a place on.
-fn past_long(s: &[u8], from: usize) -> usize
-    requires { from ≤ length s.now }
-    ensures { (from ≤ result) × (result ≤ length s.now)
-        × (is_utf8_from 0 (drop result s.now) ≡ is_utf8_from 0 (drop from s.now)) }
-{
-    let mut i = from;
-    while 256 <= s.len() - i {
-        if !is_ascii(s, i, 256) {
-            return i;
-        }
-        i += 256;
-    }
-    i
-}
-
-// The place behind the blocks of ASCII that stand from a place on, long ones first.
-fn past_ascii(s: &[u8], from: usize) -> usize
-    requires { from ≤ length s.now }
-    ensures { (from ≤ result) × (result ≤ length s.now)
-        × (is_utf8_from 0 (drop result s.now) ≡ is_utf8_from 0 (drop from s.now)) }
-{
-    let mut i = past_long(s, from);
-    while 32 <= s.len() - i {
-        if !is_ascii(s, i, 32) {
-            return i;
-        }
-        i += 32;
-    }
-    past_end(s, i)
-}
-
-// The place behind the bytes of ASCII from a place on, at most stop.
-fn past_bytes(s: &[u8], from: usize, stop: usize) -> usize
-    requires { (from ≤ stop) × (stop ≤ length s.now) }
-    ensures { (from ≤ result) × (result ≤ stop)
-        × (is_utf8_from 0 (drop result s.now) ≡ is_utf8_from 0 (drop from s.now)) }
-{
-    let mut i = from;
-    while i < stop {
-        if 0x80 <= s[i] {
-            return i;
-        }
-        i += 1;
-    }
-    i
-}
-
-// The place behind the sequences that begin before stop; a place before stop where no sequence stands.
-fn past_sequences(s: &[u8], from: usize, stop: usize) -> usize
-    requires { (from ≤ stop) × (stop ≤ length s.now) }
-    ensures { (result ≤ length s.now)
-        × (is_utf8_from 0 (drop result s.now) ≡ is_utf8_from 0 (drop from s.now))
-        × (result < stop → is_utf8_from 0 (drop result s.now) ≡ false) }
-{
-    let mut i = from;
-    while i < stop {
-        let n = sequence_at(s, i);
-        if n == 0 {
-            return i;
-        }
-        i += n;
-    }
-    i
+    least <= b && b <= greatest
 }
 
 // Has the byte its place behind the first one of a sequence?
 fn is_further(b: u8) -> bool
     ensures { result ≡ is_within b (0x80 to 0xBF) }
 {
-    (0x80 <= b) & (b <= 0xBF)
+    is_within(b, 0x80, 0xBF)
+}
+
+// May the byte stand behind the first one of a sequence of three or four?
+#[tactic(auto, unfolding(crate::specs::Lead::second_of))]
+fn is_second(first: u8, b: u8) -> bool
+    ensures { result ≡ is_within b (second_of first) }
+{
+    match first {
+        0xE0 => is_within(b, 0xA0, 0xBF),
+        0xED => is_within(b, 0x80, 0x9F),
+        0xF0 => is_within(b, 0x90, 0xBF),
+        0xF4 => is_within(b, 0x80, 0x8F),
+        _ => is_further(b),
+    }
+}
+
+// The sequence at i, whose first byte says two bytes.
+fn two_at(s: &[u8], i: usize) -> Option<usize>
+    requires i_in_bounds { i < length s.now }
+    requires i_value { length_of (get_or s.now i 0) ≡ 2 }
+    ensures { SomeIff result (0 < sequence_of well_formed (drop i s.now)) (sequence_of well_formed (drop i s.now)) }
+{
+    if 2 <= s.len() - i && is_further(s[i + 1]) {
+        Some(2)
+    } else {
+        None
+    }
+}
+
+// The sequence at i, whose first byte says three.
+fn three_at(s: &[u8], i: usize) -> Option<usize>
+    requires i_in_bounds { i + 3 ≤ length s.now }
+    requires i_value { length_of (get_or s.now i 0) ≡ 3 }
+    ensures { SomeIff result (0 < sequence_of well_formed (drop i s.now)) (sequence_of well_formed (drop i s.now)) }
+{
+    if is_second(s[i], s[i + 1]) && is_further(s[i + 2]) {
+        Some(3)
+    } else {
+        None
+    }
+}
+
+// The sequence at i, whose first byte says four.
+fn four_at(s: &[u8], i: usize) -> Option<usize>
+    requires i_in_bounds { i < length s.now }
+    requires i_value { length_of (get_or s.now i 0) ≡ 4 }
+    ensures { SomeIff result (0 < sequence_of well_formed (drop i s.now)) (sequence_of well_formed (drop i s.now)) }
+{
+    if 4 <= s.len() - i
+        && is_second(s[i], s[i + 1])
+        && is_further(s[i + 2])
+        && is_further(s[i + 3])
+    {
+        Some(4)
+    } else {
+        None
+    }
+}
+
+// How many bytes the sequence at i has, if a sequence of the table stands there. The first byte has as many leading ones as the
+// sequence has bytes. Each length is answered by a number written out: the next place then waits for no count.
+pub fn sequence_at(s: &[u8], i: usize) -> Option<usize>
+    requires { i < length s.now }
+    ensures { SomeIff result (0 < sequence_of well_formed (drop i s.now)) (sequence_of well_formed (drop i s.now)) }
+{
+    let b = s[i];
+    if b < 0x80 {
+        return Some(1);
+    }
+    let n = b.leading_ones();
+    if n == 2 {
+        if b < 0xC2 {
+            return None;
+        }
+        return two_at(s, i);
+    }
+    if s.len() - i < 3 {
+        return None;
+    }
+    if n == 3 {
+        return three_at(s, i);
+    }
+    if n == 4 && b <= 0xF4 {
+        return four_at(s, i);
+    }
+    None
+}
+
+// Is each byte ASCII? It looks at them all, with no way out before the end: the compiler makes vector instructions of that where
+// the length is known. On a block of 256 bytes the library's `is_ascii` takes twice as long.
+fn is_ascii(s: &[u8]) -> bool
+    ensures { result ≡ not (beyond_in s.now 0 (length s.now)) }
+{
+    !s.iter().fold(false, |beyond, &b| beyond | (0x80 <= b))
+}
+
+// The place behind the blocks of N bytes of ASCII that stand from a place on. It stays a loop over places: the place is the answer,
+// and `chunks_exact` would give it by a product and a sum.
+fn past_blocks_of_ascii<const N: usize>(s: &[u8], from: usize) -> usize
+    requires from_in_bounds { from ≤ length s.now }
+    requires size { 0 < N }
+    ensures { (from ≤ result) × (result ≤ length s.now)
+        × (is_utf8_from 0 (drop result s.now) ≡ is_utf8_from 0 (drop from s.now)) }
+{
+    let mut i = from;
+    while N <= s.len() - i && is_ascii(&s[i..i + N]) {
+        i += N;
+    }
+    i
+}
+
+// The place behind the blocks of ASCII that stand from a place on, long ones first. Where fewer than 16 bytes are left, these are
+// read with some before them.
+fn past_ascii(s: &[u8], from: usize) -> usize
+    requires { from ≤ length s.now }
+    ensures { (from ≤ result) × (result ≤ length s.now)
+        × (is_utf8_from 0 (drop result s.now) ≡ is_utf8_from 0 (drop from s.now)) }
+{
+    let i = past_blocks_of_ascii::<256>(s, from);
+    let j = past_blocks_of_ascii::<32>(s, i);
+    let k = past_blocks_of_ascii::<16>(s, j);
+    if 16 <= s.len() && s.len() - k <= 16 && is_ascii(&s[s.len() - 16..]) {
+        s.len()
+    } else {
+        k
+    }
+}
+
+// The place behind the sequences that begin before stop, if a sequence stands at each place before it.
+fn past_sequences(s: &[u8], from: usize, stop: usize) -> Option<usize>
+    requires { (from ≤ stop) × (stop ≤ length s.now) }
+    ensures { MatchOption result (is_utf8_from 0 (drop from s.now) ≡ false)
+        (λ i. (stop ≤ i) × (i ≤ length s.now) × (is_utf8_from 0 (drop i s.now) ≡ is_utf8_from 0 (drop from s.now))) }
+{
+    let mut i = from;
+    while i < stop {
+        let Some(n) = sequence_at(s, i) else {
+            return None;
+        };
+        i += n;
+    }
+    Some(i)
 }
 
 // Has the byte no place at all?
@@ -256,7 +178,7 @@ fn is_left_out(first: u8, b: u8) -> bool
 }
 
 // Is the byte out of place behind the three before it, of which p1 is the last? There is no branch here nor in what it calls:
-// the compiler makes vector instructions of a loop over it.
+// the compiler makes vector instructions of a loop over it. With `||` in place of `|` a text in Chinese takes a seventh longer.
 fn is_misplaced(p3: u8, p2: u8, p1: u8, b: u8) -> bool
     ensures { result ≡ misplaced p3 p2 p1 b }
 {
@@ -272,6 +194,7 @@ fn is_misplaced_of_two(p: u8, b: u8) -> bool
 }
 
 // How many bytes of a sequence that goes on stand at the end of the three bytes from a on.
+#[tactic(auto, unfolding(crate::specs::Lead::begun_by))]
 fn begun_at(s: &[u8], a: usize) -> usize
     requires { a + 3 ≤ length s.now }
     ensures { result ≡ begun_at s.now a }
@@ -289,64 +212,53 @@ fn begun_at(s: &[u8], a: usize) -> usize
     0
 }
 
-// Is one of so many bytes behind the three from a on out of place?
-fn has_misplaced(s: &[u8], a: usize, size: usize) -> bool
-    requires { a + 3 + size ≤ length s.now }
-    ensures { result ≡ misplaced_in s.now a size }
+// Is one of the bytes behind the first three out of place?
+fn has_misplaced(s: &[u8]) -> bool
+    requires { 3 ≤ length s.now }
+    ensures { result ≡ misplaced_in s.now 0 (length s.now - 3) }
 {
-    let mut found = false;
-    let mut j = 0;
-    while j < size {
-        found = found | is_misplaced(s[a + j], s[a + j + 1], s[a + j + 2], s[a + j + 3]);
-        j += 1;
-    }
-    found
+    s.array_windows::<4>().fold(
+        false,
+        |found, &[p3, p2, p1, b]| found | is_misplaced(p3, p2, p1, b),
+    )
 }
 
-// The same where every sequence has one byte or two.
-fn has_misplaced_of_two(s: &[u8], a: usize, size: usize) -> bool
-    requires { a + 3 + size ≤ length s.now }
-    ensures { result ≡ misplaced_of_two_in s.now a size }
+// Is one of the bytes behind the first three out of place, where every sequence has one byte or two?
+fn has_misplaced_of_two(s: &[u8]) -> bool
+    requires { 3 ≤ length s.now }
+    ensures { result ≡ misplaced_of_two_in s.now 0 (length s.now - 3) }
 {
-    let mut found = false;
-    let mut j = 0;
-    while j < size {
-        found = found | is_misplaced_of_two(s[a + j + 2], s[a + j + 3]);
-        j += 1;
-    }
-    found
+    s[2..]
+        .array_windows::<2>()
+        .fold(false, |found, &[p, b]| found | is_misplaced_of_two(p, b))
 }
 
-// The place behind the 32 bytes from i on, or before a sequence that goes on behind them; i where they do not tell.
-fn past_block(s: &[u8], i: usize) -> usize
+// The place behind the 32 bytes from i on, or before a sequence that goes on behind them; none where they do not tell.
+fn past_block(s: &[u8], i: usize) -> Option<usize>
     requires { (3 ≤ i) × (i + 32 ≤ length s.now) }
-    ensures { (i ≤ result) × (result ≤ length s.now)
-        × (is_utf8_from 0 (drop result s.now) ≡ is_utf8_from 0 (drop i s.now)) }
+    ensures { IfSome result (λ next. (i < next) × (next ≤ length s.now)
+        × (is_utf8_from 0 (drop next s.now) ≡ is_utf8_from 0 (drop i s.now))) }
 {
-    if is_ascii(s, i, 32) {
-        return i + 32;
+    if is_ascii(&s[i..i + 32]) {
+        return Some(i + 32);
     }
     if 0 < begun_at(s, i - 3) {
-        return i;
+        return None;
     }
-    if has_misplaced_of_two(s, i - 3, 32) {
-        if has_misplaced(s, i - 3, 32) {
-            return i;
-        }
+    let near = &s[i - 3..i + 32];
+    if has_misplaced_of_two(near) && has_misplaced(near) {
+        return None;
     }
-    i + 32 - begun_at(s, i + 29)
+    Some(i + 32 - begun_at(s, i + 29))
 }
 
-// The same of all that is left, at most 32 bytes: of the last 32 some were read before.
+// The same of all that is left, at most 32 bytes: of the last 32 some were read before. It is i where they do not tell.
 fn past_last(s: &[u8], i: usize) -> usize
     requires { (3 ≤ i) × (i ≤ length s.now) × (35 ≤ length s.now) × (length s.now ≤ i + 32) }
     ensures { (result ≤ length s.now)
         × (is_utf8_from 0 (drop result s.now) ≡ is_utf8_from 0 (drop i s.now)) }
 {
-    if 0 < begun_at(s, i - 3) {
-        return i;
-    }
-    if has_misplaced(s, s.len() - 35, 32) {
+    if 0 < begun_at(s, i - 3) || has_misplaced(&s[s.len() - 35..]) {
         return i;
     }
     s.len() - begun_at(s, s.len() - 3)
@@ -360,10 +272,9 @@ fn past_blocks(s: &[u8], from: usize) -> usize
 {
     let mut i = from;
     while 32 <= s.len() - i {
-        let next = past_block(s, i);
-        if next == i {
+        let Some(next) = past_block(s, i) else {
             return i;
-        }
+        };
         i = next;
     }
     past_last(s, i)
@@ -374,23 +285,20 @@ fn are_sequences(s: &[u8], from: usize) -> bool
     requires { from ≤ length s.now }
     ensures { result ≡ is_utf8_from 0 (drop from s.now) }
 {
-    past_sequences(s, from, s.len()) == s.len()
+    past_sequences(s, from, s.len()).is_some()
 }
 
 // Is a long string UTF-8 from a place on? Blocks first, and what they leave sequence by sequence. The first three bytes have
-// too few before them.
+// too few before them. Apart from what short strings need, it leaves more registers to the loop over blocks.
+#[inline(never)]
 fn are_blocks(s: &[u8], from: usize) -> bool
     requires { (from ≤ length s.now) × (35 ≤ length s.now) }
     ensures { result ≡ is_utf8_from 0 (drop from s.now) }
 {
-    let mut i = from;
-    if i < 3 {
-        i = past_sequences(s, from, 3);
-        if i < 3 {
-            return false;
-        }
+    match past_sequences(s, from, from.max(3)) {
+        Some(i) => are_sequences(s, past_blocks(s, i)),
+        None => false,
     }
-    are_sequences(s, past_blocks(s, i))
 }
 
 // Is the string UTF-8 from a place on? Blocks of ASCII first.
@@ -415,9 +323,8 @@ pub fn is_utf8(s: &[u8]) -> bool
     if 16 <= s.len() {
         return is_utf8_from(s, 0);
     }
-    let i = past_bytes(s, 0, s.len());
-    if i < s.len() {
-        return is_utf8_from(s, i);
+    match s.iter().position(|&b| 0x80 <= b) {
+        Some(i) => is_utf8_from(s, i),
+        None => true,
     }
-    true
 }

@@ -3,18 +3,17 @@ ghost use Rattle.std.specs.Prelude.{◌≤◌, length};
 
 use crate::input;
 use crate::judged::{line, say, say_bytes, space};
+use build::Built;
 use std::io::{self, Read, Write};
 
 // How many words there are up to the last that is not 0.
 fn used(words: &[u32]) -> usize
     ensures { result ≤ length words.now }
 {
-    let mut k = words.len();
-    while k > 0 {
-        if words[k - 1] != 0 {
-            return k;
+    for k in (0..words.len()).rev() {
+        if words[k] != 0 {
+            return k + 1;
         }
-        k -= 1;
     }
     0
 }
@@ -22,8 +21,8 @@ fn used(words: &[u32]) -> usize
 // The words of a table up to the last that is not 0, then how many are left.
 fn say_words<W: Write>(to: &mut W, words: &[u32]) -> io::Result<()> {
     let k = used(words);
-    for i in 0..k {
-        say(to, words[i])?;
+    for &word in &words[..k] {
+        say(to, word)?;
         space(to)?;
     }
     let left = words.len() - k;
@@ -34,7 +33,7 @@ fn say_words<W: Write>(to: &mut W, words: &[u32]) -> io::Result<()> {
 // The answer, and the three tables.
 fn say_tables<W: Write>(
     to: &mut W,
-    built: build::Built,
+    built: Built,
     nodes: &[u32],
     attributes: &[u32],
     text: &[u8],
@@ -61,7 +60,7 @@ fn build_drawing<W: Write>(
     text: &mut [u8],
 ) -> io::Result<()> {
     let built = build::whole::build(script, characters, nodes, attributes, text);
-    say_tables(to, built, nodes, attributes, text)
+    say_tables(to, Built::from(built), nodes, attributes, text)
 }
 
 fn exchange_text<W: Write>(
@@ -75,7 +74,7 @@ fn exchange_text<W: Write>(
     text: &mut [u8],
 ) -> io::Result<()> {
     let built = exchange::whole::exchange(script, characters, number, new, nodes, attributes, text);
-    say_tables(to, built, nodes, attributes, text)?;
+    say_tables(to, Built::from(built), nodes, attributes, text)?;
     say_bytes(to, characters)
 }
 
@@ -93,9 +92,9 @@ pub fn run_build<R: Read, W: Write>(from: &mut R, to: &mut W) -> io::Result<()> 
     let mut text = [7u8; 4096];
     let c = input::bytes(from, &mut script, a)?;
     let d = input::bytes(from, &mut characters, b)?;
-    let x = input::least(n as usize, nodes.len());
-    let y = input::least(m as usize, attributes.len());
-    let z = input::least(t as usize, text.len());
+    let x = nodes.len().min(n as usize);
+    let y = attributes.len().min(m as usize);
+    let z = text.len().min(t as usize);
     build_drawing(
         to,
         &script[..c],
@@ -124,9 +123,9 @@ pub fn run_exchange<R: Read, W: Write>(from: &mut R, to: &mut W) -> io::Result<(
     let c = input::bytes(from, &mut script, a)?;
     let d = input::bytes(from, &mut characters, b)?;
     let f = input::bytes(from, &mut new, e)?;
-    let x = input::least(n as usize, nodes.len());
-    let y = input::least(m as usize, attributes.len());
-    let z = input::least(t as usize, text.len());
+    let x = nodes.len().min(n as usize);
+    let y = attributes.len().min(m as usize);
+    let z = text.len().min(t as usize);
     exchange_text(
         to,
         &script[..c],

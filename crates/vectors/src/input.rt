@@ -3,22 +3,6 @@ ghost use Rattle.std.specs.Prelude.{◌≤◌, IfOk, length};
 
 use std::io::{self, Read};
 
-fn wide(b: u8) -> u32
-    ensures { result ≤ 255 }
-{
-    b as u32
-}
-
-pub fn least(a: usize, b: usize) -> usize
-    ensures upper_bound { result ≤ a }
-    ensures upper_bound_2 { result ≤ b }
-{
-    if a < b {
-        return a;
-    }
-    b
-}
-
 // Reads until `to` is full or the input ends; what is past the end stays as it was.
 fn fill<R: Read>(from: &mut R, to: &mut [u8]) -> io::Result<()> {
     let mut done = 0;
@@ -36,14 +20,14 @@ fn fill<R: Read>(from: &mut R, to: &mut [u8]) -> io::Result<()> {
 pub fn number<R: Read>(from: &mut R) -> io::Result<u32> {
     let mut b = [0u8; 4];
     fill(from, &mut b)?;
-    Ok(wide(b[0]) + 256 * wide(b[1]) + 65536 * wide(b[2]) + 16777216 * wide(b[3]))
+    Ok(u32::from_le_bytes(b))
 }
 
 // Fills the first n bytes, as far as there are as many, and gives how many that are.
 pub fn bytes<R: Read>(from: &mut R, to: &mut [u8], n: u32) -> io::Result<usize>
     ensures { IfOk result (λ k. k ≤ length to.old) }
 {
-    let k = least(n as usize, to.len());
+    let k = to.len().min(n as usize);
     fill(from, &mut to[..k])?;
     Ok(k)
 }
@@ -52,7 +36,7 @@ pub fn bytes<R: Read>(from: &mut R, to: &mut [u8], n: u32) -> io::Result<usize>
 pub fn numbers<R: Read>(from: &mut R, to: &mut [u32], n: u32) -> io::Result<usize>
     ensures { IfOk result (λ k. k ≤ length to.old) }
 {
-    let k = least(n as usize, to.len());
+    let k = to.len().min(n as usize);
     for i in 0..k {
         to[i] = number(from)?;
     }

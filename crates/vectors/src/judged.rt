@@ -22,7 +22,11 @@ pub fn run_check<R: Read, W: Write>(from: &mut R, to: &mut W) -> io::Result<()> 
     let mut characters = [0u8; 16384];
     let a = input::bytes(from, &mut script, n)?;
     let b = input::bytes(from, &mut characters, m)?;
-    say(to, script::check::check(&script[..a], &characters[..b]))?;
+    let number = match script::check::check(&script[..a], &characters[..b]) {
+        Ok(()) => 0,
+        Err(refusal) => u32::from(refusal),
+    };
+    say(to, number)?;
     line(to)
 }
 
@@ -63,11 +67,11 @@ fn ask_attribute<R: Read, W: Write>(
     let own = questions::question::attribute(
         nodes, attributes, text, characters, counts, node, name,
     );
-    say_answer(to, own)?;
+    say_answer(to, questions::Answer::from(own))?;
     let found = questions::question::find_attribute(
         nodes, attributes, text, characters, counts, node, name,
     );
-    say_answer(to, found)
+    say_answer(to, questions::Answer::from(found))
 }
 
 // An id with its length: what the id question answers.
@@ -91,7 +95,7 @@ fn ask_id<R: Read, W: Write>(
         counts,
         &id[..k],
     );
-    say_answer(to, found)
+    say_answer(to, questions::Answer::from(found))
 }
 
 // A question begins with its kind: 1 the attribute questions, 2 the id question, 3 the text question.
@@ -105,16 +109,16 @@ fn ask<R: Read, W: Write>(
     counts: tree::Counts,
 ) -> io::Result<()> {
     let kind = input::number(from)?;
-    if kind == 1 {
-        ask_attribute(from, to, nodes, attributes, text, characters, counts)
-    } else if kind == 2 {
-        ask_id(from, to, nodes, attributes, text, characters, counts)
-    } else {
-        let node = input::number(from)?;
-        say_bytes(
-            to,
-            questions::question::text(nodes, attributes, text, characters, counts, node),
-        )
+    match kind {
+        1 => ask_attribute(from, to, nodes, attributes, text, characters, counts),
+        2 => ask_id(from, to, nodes, attributes, text, characters, counts),
+        _ => {
+            let node = input::number(from)?;
+            say_bytes(
+                to,
+                questions::question::text(nodes, attributes, text, characters, counts, node),
+            )
+        }
     }
 }
 

@@ -10,16 +10,12 @@ use std::io::{self, BufReader, BufWriter, Read, Write};
 
 // A vector begins with what it asks: 1 check, 2 the questions, 3 build, 4 exchange.
 fn run_vector<R: Read, W: Write>(from: &mut R, to: &mut W, kind: u32) -> io::Result<()> {
-    if kind == 1 {
-        judged::run_check(from, to)
-    } else if kind == 2 {
-        judged::run_questions(from, to)
-    } else if kind == 3 {
-        built::run_build(from, to)
-    } else if kind == 4 {
-        built::run_exchange(from, to)
-    } else {
-        to.write_all(b"no such vector\n")
+    match kind {
+        1 => judged::run_check(from, to),
+        2 => judged::run_questions(from, to),
+        3 => built::run_build(from, to),
+        4 => built::run_exchange(from, to),
+        _ => to.write_all(b"no such vector\n"),
     }
 }
 

@@ -1,7 +1,9 @@
 -- The nodes, attributes and declarations at a cursor, by the step there. Assumes nothing.
 use mathlib.Core.Path.{◌≡◌, refl, sym, ap, ◌∙◌, subst}
 use mathlib.Core.List.{List, [], ◌∷◌}
+use mathlib.Core.Logic.{◌⊎◌, inl, inr}
 use Prim.Native.Nat.{ℕ, ◌+◌, ◌^◌, ◌<◌, ◌≤◌}
+use Rattle.std.specs.Prelude.{Option, Some, None, Result, Ok, Err}
 use native.Mathlib.Omega.{arith}
 use Rattle.model.specs.Drawing as model
 use Rattle.model.specs.Drawing.{Command, opening, attribute, declaration, reading, closing, Mark, past, Event, begin, close, events_from}
@@ -14,10 +16,8 @@ use Rattle.script.specs.Step.{Fit, Here, commands_at, mark_of, most_place, step_
 use Rattle.script.proofs.Commands.{Told, told, goes}
 use Rattle.walk.specs.declared.node.Item.{Item}
 use Rattle.walk.specs.declared.node.Item.TheVariants as item
-use Rattle.walk.specs.declared.value.NextValue.{NextValue}
-use Rattle.walk.specs.declared.value.NextValue.TheVariants as next
-use Rattle.walk.specs.declared.value.NextReading.{NextReading}
-use Rattle.walk.specs.declared.value.NextReading.TheVariants as read
+use Rattle.walk.specs.declared.value.Named.{Named}
+use Rattle.walk.specs.declared.value.ReadingAt.{ReadingAt}
 use Rattle.walk.specs.Values.{attributes_in, declarations_in, readings_in, events_at, SameRest, attributes_of, AttributeFit}
 use Rattle.walk.specs.Values.{declarations_of}
 use Rattle.walk.specs.Values.{DeclarationFit, readings_of, ReadingFit}
@@ -114,7 +114,17 @@ module _ (s chars : List ℕ) (from c : Cursor) where
   pub item-at : (a b : Step) → a ≡ b → (a ≡ step_at s c) × (Going s a) → Reach (events_from chars) s from c → ItemAt s chars from c b
   item-at a b e h r = item_of b (told s c a b e h.0) (goes s a b e h.1) r
 
+  -- At a command that is none, or at the end, there is no node any more.
+  pub item-end : (a : Step) → (((x : ℕ) × a ≡ step.Broken x) ⊎ (a ≡ step.End)) → (a ≡ step_at s c) × (Going s a)
+      → Reach (events_from chars) s from c → ItemIs s chars from item.End
+  item-end a (inl (x, e)) h r = item-at a (step.Broken x) e h r
+  item-end a (inr e) h r = item-at a step.End e h r
+
 -- THE NEXT ATTRIBUTE
+
+-- An attribute or a declaration by the operands of its command, which stands between the cursors c and n.
+abbrev pub named_of : ℕ → ℕ → Cursor → ℕ → Cursor → Named
+named_of a b c l n = record { name = a; qualifier = b; value = record { own = c; len = l; behind = n } }
 
 -- The attributes, declarations and nodes from a place on.
 pub record Rest : Type 0 where
@@ -134,26 +144,26 @@ same_rest s chars from c r = record {
 }
 
 -- What next_attribute ensures.
-abbrev pub AttributeIs : List ℕ → List ℕ → Cursor → NextValue → Type 0
+abbrev pub AttributeIs : List ℕ → List ℕ → Cursor → Result Named Cursor → Type 0
 AttributeIs s chars from r = (attributes_of s chars r ≡ attributes_in s chars from) × AttributeFit s chars from r
 
-pub attribute-told : (s chars : List ℕ) (c : Cursor) (r x : NextValue) → r ≡ x → AttributeIs s chars c r → AttributeIs s chars c x
+pub attribute-told : (s chars : List ℕ) (c : Cursor) (r x : Result Named Cursor) → r ≡ x → AttributeIs s chars c r → AttributeIs s chars c x
 attribute-told s chars c r x e h = subst (AttributeIs s chars c) e h
 
 abbrev pub AttributeAt : List ℕ → List ℕ → Cursor → Cursor → Step → Type 0
-AttributeAt s chars from c (step.Open a b n) = AttributeIs s chars from (next.End c)
-AttributeAt s chars from c (step.Text l n) = AttributeIs s chars from (next.End c)
-AttributeAt s chars from c (step.Other n) = AttributeIs s chars from (next.End c)
-AttributeAt s chars from c (step.Close n) = AttributeIs s chars from (next.End c)
-AttributeAt s chars from c (step.Attribute a b l n) = AttributeIs s chars from (next.At a b (record { own = c; len = l; behind = n }))
-AttributeAt s chars from c (step.Declaration a b l n) = AttributeIs s chars from (next.End c)
+AttributeAt s chars from c (step.Open a b n) = AttributeIs s chars from (Err c)
+AttributeAt s chars from c (step.Text l n) = AttributeIs s chars from (Err c)
+AttributeAt s chars from c (step.Other n) = AttributeIs s chars from (Err c)
+AttributeAt s chars from c (step.Close n) = AttributeIs s chars from (Err c)
+AttributeAt s chars from c (step.Attribute a b l n) = AttributeIs s chars from (Ok (named_of a b c l n))
+AttributeAt s chars from c (step.Declaration a b l n) = AttributeIs s chars from (Err c)
 AttributeAt s chars from c (step.Reading k o l n) = Nearer (rest_from chars) s from c n
-AttributeAt s chars from c (step.Broken b) = AttributeIs s chars from (next.End c)
-AttributeAt s chars from c step.End = AttributeIs s chars from (next.End c)
+AttributeAt s chars from c (step.Broken b) = AttributeIs s chars from (Err c)
+AttributeAt s chars from c step.End = AttributeIs s chars from (Err c)
 
 module _ (s chars : List ℕ) (from c : Cursor) (r : Reach (rest_from chars) s from c) where
   no-attribute : (cs : List Command) → commands_at s c ≡ cs → [] ≡ attributes_at chars (mark_of c) cs
-      → AttributeIs s chars from (next.End c)
+      → AttributeIs s chars from (Err c)
   unfolding rest_from
   no-attribute cs h e = (
     none ∙ ap (λ (x : Rest). x.attributes) r.same,
@@ -193,6 +203,24 @@ module _ (s chars : List ℕ) (from c : Cursor) (r : Reach (rest_from chars) s f
   attribute-of (step.Broken b) h g = no-attribute _ h refl
   attribute-of step.End h g = no-attribute _ h refl
 
+  -- No attribute is left where neither one nor a reading stands.
+  attributes-end : (x : Step) → Told s c x → Going s x → ((a b l : ℕ) (n : Cursor) → x ≡ step.Attribute a b l n → ⊥)
+      → ((k o l : ℕ) (n : Cursor) → x ≡ step.Reading k o l n → ⊥) → AttributeIs s chars from (Err c)
+  attributes-end (step.Attribute a b l n) h g p q = absurd (p a b l n refl)
+  attributes-end (step.Reading k o l n) h g p q = absurd (q k o l n refl)
+  attributes-end (step.Open a b n) h g p q = attribute-of (step.Open a b n) h g
+  attributes-end (step.Declaration a b l n) h g p q = attribute-of (step.Declaration a b l n) h g
+  attributes-end (step.Text l n) h g p q = attribute-of (step.Text l n) h g
+  attributes-end (step.Other n) h g p q = attribute-of (step.Other n) h g
+  attributes-end (step.Close n) h g p q = attribute-of (step.Close n) h g
+  attributes-end (step.Broken b) h g p q = attribute-of (step.Broken b) h g
+  attributes-end step.End h g p q = attribute-of step.End h g
+
+pub no-attribute-at : (s chars : List ℕ) (from c : Cursor) (a : Step) → ((x y l : ℕ) (n : Cursor) → a ≡ step.Attribute x y l n → ⊥)
+    → ((k o l : ℕ) (n : Cursor) → a ≡ step.Reading k o l n → ⊥) → (a ≡ step_at s c) × (Going s a)
+    → Reach (rest_from chars) s from c → AttributeIs s chars from (Err c)
+no-attribute-at s chars from c a p q h r = attributes-end s chars from c r a (told s c a a refl h.0) h.1 p q
+
 pub attribute-at : (s chars : List ℕ) (from c : Cursor) (a b : Step) → a ≡ b → (a ≡ step_at s c) × (Going s a)
     → Reach (rest_from chars) s from c → AttributeAt s chars from c b
 attribute-at s chars from c a b e h r = attribute-of s chars from c r b (told s c a b e h.0) (goes s a b e h.1)
@@ -208,23 +236,23 @@ unfoldable pub below_from : List ℕ → Mark → List Command → Below
 below_from chars m cs = record { declarations = declarations_at chars m cs; events = events_from chars m cs }
 
 -- What next_declaration ensures.
-abbrev pub DeclarationIs : List ℕ → List ℕ → Cursor → NextValue → Type 0
+abbrev pub DeclarationIs : List ℕ → List ℕ → Cursor → Result Named Cursor → Type 0
 DeclarationIs s chars from r = (declarations_of s chars r ≡ declarations_in s chars from) × DeclarationFit s chars from r
 
 abbrev pub DeclarationAt : List ℕ → List ℕ → Cursor → Cursor → Step → Type 0
-DeclarationAt s chars from c (step.Open a b n) = DeclarationIs s chars from (next.End c)
-DeclarationAt s chars from c (step.Text l n) = DeclarationIs s chars from (next.End c)
-DeclarationAt s chars from c (step.Other n) = DeclarationIs s chars from (next.End c)
-DeclarationAt s chars from c (step.Close n) = DeclarationIs s chars from (next.End c)
+DeclarationAt s chars from c (step.Open a b n) = DeclarationIs s chars from (Err c)
+DeclarationAt s chars from c (step.Text l n) = DeclarationIs s chars from (Err c)
+DeclarationAt s chars from c (step.Other n) = DeclarationIs s chars from (Err c)
+DeclarationAt s chars from c (step.Close n) = DeclarationIs s chars from (Err c)
 DeclarationAt s chars from c (step.Attribute a b l n) = Nearer (below_from chars) s from c n
-DeclarationAt s chars from c (step.Declaration a b l n) = DeclarationIs s chars from (next.At a b (record { own = c; len = l; behind = n }))
+DeclarationAt s chars from c (step.Declaration a b l n) = DeclarationIs s chars from (Ok (named_of a b c l n))
 DeclarationAt s chars from c (step.Reading k o l n) = Nearer (below_from chars) s from c n
-DeclarationAt s chars from c (step.Broken b) = DeclarationIs s chars from (next.End c)
-DeclarationAt s chars from c step.End = DeclarationIs s chars from (next.End c)
+DeclarationAt s chars from c (step.Broken b) = DeclarationIs s chars from (Err c)
+DeclarationAt s chars from c step.End = DeclarationIs s chars from (Err c)
 
 module _ (s chars : List ℕ) (from c : Cursor) (r : Reach (below_from chars) s from c) where
   no-declaration : (cs : List Command) → commands_at s c ≡ cs → [] ≡ declarations_at chars (mark_of c) cs
-      → DeclarationIs s chars from (next.End c)
+      → DeclarationIs s chars from (Err c)
   unfolding below_from
   no-declaration cs h e = (
     none ∙ ap (λ (x : Below). x.declarations) r.same,
@@ -260,6 +288,25 @@ module _ (s chars : List ℕ) (from c : Cursor) (r : Reach (below_from chars) s 
   declaration-of (step.Broken b) h g = no-declaration _ h refl
   declaration-of step.End h g = no-declaration _ h refl
 
+  -- No declaration is left where neither one nor an attribute nor a reading stands.
+  declarations-end : (x : Step) → Told s c x → Going s x → ((a b l : ℕ) (n : Cursor) → x ≡ step.Declaration a b l n → ⊥)
+      → ((a b l : ℕ) (n : Cursor) → x ≡ step.Attribute a b l n → ⊥) → ((k o l : ℕ) (n : Cursor) → x ≡ step.Reading k o l n → ⊥)
+      → DeclarationIs s chars from (Err c)
+  declarations-end (step.Declaration a b l n) h g p q t = absurd (p a b l n refl)
+  declarations-end (step.Attribute a b l n) h g p q t = absurd (q a b l n refl)
+  declarations-end (step.Reading k o l n) h g p q t = absurd (t k o l n refl)
+  declarations-end (step.Open a b n) h g p q t = declaration-of (step.Open a b n) h g
+  declarations-end (step.Text l n) h g p q t = declaration-of (step.Text l n) h g
+  declarations-end (step.Other n) h g p q t = declaration-of (step.Other n) h g
+  declarations-end (step.Close n) h g p q t = declaration-of (step.Close n) h g
+  declarations-end (step.Broken b) h g p q t = declaration-of (step.Broken b) h g
+  declarations-end step.End h g p q t = declaration-of step.End h g
+
+pub no-declaration-at : (s chars : List ℕ) (from c : Cursor) (a : Step) → ((x y l : ℕ) (n : Cursor) → a ≡ step.Declaration x y l n → ⊥)
+    → ((x y l : ℕ) (n : Cursor) → a ≡ step.Attribute x y l n → ⊥) → ((k o l : ℕ) (n : Cursor) → a ≡ step.Reading k o l n → ⊥)
+    → (a ≡ step_at s c) × (Going s a) → Reach (below_from chars) s from c → DeclarationIs s chars from (Err c)
+no-declaration-at s chars from c a p q t h r = declarations-end s chars from c r a (told s c a a refl h.0) h.1 p q t
+
 pub declaration-at : (s chars : List ℕ) (from c : Cursor) (a b : Step) → a ≡ b → (a ≡ step_at s c) × (Going s a)
     → Reach (below_from chars) s from c → DeclarationAt s chars from c b
 declaration-at s chars from c a b e h r = declaration-of s chars from c r b (told s c a b e h.0) (goes s a b e h.1)
@@ -267,22 +314,22 @@ declaration-at s chars from c a b e h r = declaration-of s chars from c r b (tol
 -- THE NEXT READING
 
 -- What next_reading ensures.
-abbrev pub ReadingIs : List ℕ → List ℕ → Cursor → ℕ → NextReading → Type 0
+abbrev pub ReadingIs : List ℕ → List ℕ → Cursor → ℕ → Option ReadingAt → Type 0
 ReadingIs s chars c a r = (readings_of s chars a r ≡ readings_in s chars a c) × ReadingFit s chars c r
 
-pub reading-told : (s chars : List ℕ) (c : Cursor) (a : ℕ) (r x : NextReading) → r ≡ x → ReadingIs s chars c a r → ReadingIs s chars c a x
+pub reading-told : (s chars : List ℕ) (c : Cursor) (a : ℕ) (r x : Option ReadingAt) → r ≡ x → ReadingIs s chars c a r → ReadingIs s chars c a x
 reading-told s chars c a r x e h = subst (ReadingIs s chars c a) e h
 
 abbrev pub ReadAt : List ℕ → List ℕ → Cursor → ℕ → Step → Type 0
-ReadAt s chars c a (step.Reading k o l n) = ReadingIs s chars c a (read.At k (a + o) l n)
-ReadAt s chars c a (step.Open x y n) = ReadingIs s chars c a read.End
-ReadAt s chars c a (step.Attribute x y l n) = ReadingIs s chars c a read.End
-ReadAt s chars c a (step.Declaration x y l n) = ReadingIs s chars c a read.End
-ReadAt s chars c a (step.Text l n) = ReadingIs s chars c a read.End
-ReadAt s chars c a (step.Other n) = ReadingIs s chars c a read.End
-ReadAt s chars c a (step.Close n) = ReadingIs s chars c a read.End
-ReadAt s chars c a (step.Broken b) = ReadingIs s chars c a read.End
-ReadAt s chars c a step.End = ReadingIs s chars c a read.End
+ReadAt s chars c a (step.Reading k o l n) = ReadingIs s chars c a (Some (record { kind = k; part = record { start = a + o; len = l }; behind = n }))
+ReadAt s chars c a (step.Open x y n) = ReadingIs s chars c a None
+ReadAt s chars c a (step.Attribute x y l n) = ReadingIs s chars c a None
+ReadAt s chars c a (step.Declaration x y l n) = ReadingIs s chars c a None
+ReadAt s chars c a (step.Text l n) = ReadingIs s chars c a None
+ReadAt s chars c a (step.Other n) = ReadingIs s chars c a None
+ReadAt s chars c a (step.Close n) = ReadingIs s chars c a None
+ReadAt s chars c a (step.Broken b) = ReadingIs s chars c a None
+ReadAt s chars c a step.End = ReadingIs s chars c a None
 
 -- The offset of a reading is small.
 abbrev pub Offset : Step → Type 0
@@ -297,7 +344,7 @@ Offset (step.Broken b) = Unit {0}
 Offset step.End = Unit {0}
 
 module _ (s chars : List ℕ) (c : Cursor) (a : ℕ) where
-  no-reading : (cs : List Command) → commands_at s c ≡ cs → [] ≡ readings_at chars a cs → ReadingIs s chars c a read.End
+  no-reading : (cs : List Command) → commands_at s c ≡ cs → [] ≡ readings_at chars a cs → ReadingIs s chars c a None
   no-reading cs h e = (e ∙ ap (readings_at chars a) (sym h), tt)
 
   read_of : (x : Step) → Told s c x → Going s x → Fit s c → a ≤ most_place → Offset x → ReadAt s chars c a x
@@ -324,3 +371,20 @@ module _ (s chars : List ℕ) (c : Cursor) (a : ℕ) where
 
   pub read_at : (p x : Step) → p ≡ x → (p ≡ step_at s c) × (Going s p) → Fit s c → a ≤ most_place → Offset x → ReadAt s chars c a x
   read_at p x e h f b d = read_of x (told s c p x e h.0) (goes s p x e h.1) f b d
+
+  -- No reading is left where none stands.
+  readings-end : (x : Step) → Told s c x → Going s x → Fit s c → a ≤ most_place → ((k o l : ℕ) (n : Cursor) → x ≡ step.Reading k o l n → ⊥)
+      → ReadingIs s chars c a None
+  readings-end (step.Reading k o l n) h g f b p = absurd (p k o l n refl)
+  readings-end (step.Open x y n) h g f b p = read_of (step.Open x y n) h g f b tt
+  readings-end (step.Attribute x y l n) h g f b p = read_of (step.Attribute x y l n) h g f b tt
+  readings-end (step.Declaration x y l n) h g f b p = read_of (step.Declaration x y l n) h g f b tt
+  readings-end (step.Text l n) h g f b p = read_of (step.Text l n) h g f b tt
+  readings-end (step.Other n) h g f b p = read_of (step.Other n) h g f b tt
+  readings-end (step.Close n) h g f b p = read_of (step.Close n) h g f b tt
+  readings-end (step.Broken x) h g f b p = read_of (step.Broken x) h g f b tt
+  readings-end step.End h g f b p = read_of step.End h g f b tt
+
+  pub no-reading-at : (p : Step) → ((k o l : ℕ) (n : Cursor) → p ≡ step.Reading k o l n → ⊥) → (p ≡ step_at s c) × (Going s p) → Fit s c
+      → a ≤ most_place → ReadingIs s chars c a None
+  no-reading-at p q h f b = readings-end p (told s c p p refl h.0) h.1 f b q

@@ -1,5 +1,5 @@
 -- What the walks from node to node answer, as the model has it.
-use Rattle.std.specs.Prelude.{ℕ, zero, suc, ◌+◌, ◌<◌, ◌≤◌, List, [], ◌∷◌, ◌≡◌}
+use Rattle.std.specs.Prelude.{ℕ, zero, suc, ◌+◌, ◌<◌, ◌≤◌, List, [], ◌∷◌, ◌≡◌, Option, Some, None}
 use Rattle.model.specs.Drawing as model
 use Rattle.model.specs.Drawing.{opening, Event, begin, close, source_at, Source, Element, texts_in}
 use Rattle.script.specs.declared.cursor.Cursor.{Cursor}
@@ -8,8 +8,7 @@ use Rattle.walk.specs.declared.node.Opened.{Opened}
 use Rattle.walk.specs.declared.node.Item.{Item}
 use Rattle.walk.specs.declared.node.Item.TheVariants.{Begin, Text, Other, Close}
 use Rattle.walk.specs.declared.node.Item.TheVariants as item
-use Rattle.walk.specs.declared.node.NextText.{NextText}
-use Rattle.walk.specs.declared.node.NextText.TheVariants as next_text
+use Rattle.walk.specs.declared.node.TextAt as declared
 use Rattle.walk.specs.Values.{attributes_in, declarations_in, events_at}
 
 -- AN ELEMENT
@@ -80,9 +79,9 @@ pub record Others (script chars : List ℕ) (from c : Cursor) : Type 0 where
 -- TEXTS
 
 -- The texts inside an element from one on.
-abbrev pub sources_of : List ℕ → List ℕ → NextText → List Source
-sources_of script chars (next_text.At c l n k) = source_at chars (mark_of c) l ∷ texts_in k (events_at script chars n)
-sources_of script chars next_text.End = []
+abbrev pub sources_of : List ℕ → List ℕ → Option declared.TextAt → List Source
+sources_of script chars (Some t) = source_at chars (mark_of t.own) t.len ∷ texts_in t.open_elements (events_at script chars t.behind)
+sources_of script chars None = []
 
 -- The own place c of a text, n behind it, and k elements open there.
 pub record TextAt (script : List ℕ) (from c n : Cursor) (k : ℕ) : Type 0 where
@@ -90,6 +89,6 @@ pub record TextAt (script : List ℕ) (from c n : Cursor) (k : ℕ) : Type 0 whe
   pub behind : Further script from n
   pub low : k ≤ n.at
 
-abbrev pub TextFit : List ℕ → Cursor → NextText → Type 0
-TextFit script from (next_text.At c l n k) = TextAt script from c n k
-TextFit script from next_text.End = Unit {0}
+abbrev pub TextFit : List ℕ → Cursor → Option declared.TextAt → Type 0
+TextFit script from (Some t) = TextAt script from t.own t.behind t.open_elements
+TextFit script from None = Unit {0}

@@ -1,20 +1,16 @@
 -- The attributes, declarations and readings from a cursor on, and what the walks over them answer, as the model has it.
-use Rattle.std.specs.Prelude.{◌≡◌, ℕ, ◌<◌, ◌≤◌, List, [], ◌∷◌}
-use Rattle.std.proofs.Math.Option.{Option, none, some}
+use Rattle.std.specs.Prelude.{◌≡◌, ℕ, ◌<◌, ◌≤◌, List, [], ◌∷◌, Option, Some, None, Result, Ok, Err}
+use Rattle.std.proofs.Math.Option as math
+use Rattle.std.proofs.Math.Option.{none, some}
 use Rattle.model.specs.Drawing as model
 use Rattle.model.specs.Drawing.{Attribute, Declaration, Reading, Value, Event}
 use Rattle.model.specs.Drawing.{value_at, attributes_at, declarations_at, readings_at, part_at, events_from}
 use Rattle.script.specs.declared.cursor.Cursor.{Cursor}
 use Rattle.script.specs.Step.{Fit, commands_at, mark_of, most_start}
 use Rattle.walk.specs.declared.value.ValueAt.{ValueAt}
-use Rattle.walk.specs.declared.value.NextValue.{NextValue}
-use Rattle.walk.specs.declared.value.NextValue.TheVariants as next
-use Rattle.walk.specs.declared.value.NextReading.{NextReading}
-use Rattle.walk.specs.declared.value.NextReading.TheVariants as read
-use Rattle.walk.specs.declared.value.FoundValue.{FoundValue}
-use Rattle.walk.specs.declared.value.FoundValue.TheVariants as found
-use Rattle.walk.specs.declared.value.FoundPart.{FoundPart}
-use Rattle.walk.specs.declared.value.FoundPart.TheVariants as part
+use Rattle.walk.specs.declared.value.Named.{Named}
+use Rattle.walk.specs.declared.value.Part.{Part}
+use Rattle.walk.specs.declared.value.ReadingAt.{ReadingAt}
 
 -- FROM A CURSOR ON
 
@@ -52,10 +48,10 @@ abbrev pub value_of : List ℕ → List ℕ → ValueAt → Value
 value_of script chars v = value_at chars (mark_of v.own) v.len (commands_at script v.behind)
 
 -- The attributes from the next one on.
-abbrev pub attributes_of : List ℕ → List ℕ → NextValue → List Attribute
-attributes_of script chars (next.At a b v) =
-    record { name = a; namespace = b; value = value_of script chars v } ∷ attributes_in script chars v.behind
-attributes_of script chars (next.End c) = []
+abbrev pub attributes_of : List ℕ → List ℕ → Result Named Cursor → List Attribute
+attributes_of script chars (Ok x) =
+    record { name = x.name; namespace = x.qualifier; value = value_of script chars x.value } ∷ attributes_in script chars x.value.behind
+attributes_of script chars (Err c) = []
 
 -- The value of an attribute: behind it stand the other attributes, all declarations and all children.
 pub record Attributed (script chars : List ℕ) (from : Cursor) (v : ValueAt) : Type 0 where
@@ -68,31 +64,31 @@ pub record Unattributed (script chars : List ℕ) (from c : Cursor) : Type 0 whe
   pub rest : SameRest script chars from c
   pub none_left : attributes_in script chars c ≡ []
 
-abbrev pub AttributeFit : List ℕ → List ℕ → Cursor → NextValue → Type 0
-AttributeFit script chars from (next.At a b v) = Attributed script chars from v
-AttributeFit script chars from (next.End c) = Unattributed script chars from c
+abbrev pub AttributeFit : List ℕ → List ℕ → Cursor → Result Named Cursor → Type 0
+AttributeFit script chars from (Ok x) = Attributed script chars from x.value
+AttributeFit script chars from (Err c) = Unattributed script chars from c
 
 -- An attribute that was looked for.
-abbrev pub value_in : List ℕ → List ℕ → FoundValue → Option Value
-value_in script chars (found.At v) = some (value_of script chars v)
-value_in script chars (found.Nothing c) = none
+abbrev pub value_in : List ℕ → List ℕ → Result ValueAt Cursor → math.Option Value
+value_in script chars (Ok v) = some (value_of script chars v)
+value_in script chars (Err c) = none
 
-abbrev pub ValueFit : List ℕ → List ℕ → Cursor → FoundValue → Type 0
-ValueFit script chars from (found.At v) = Attributed script chars from v
-ValueFit script chars from (found.Nothing c) = Unattributed script chars from c
+abbrev pub ValueFit : List ℕ → List ℕ → Cursor → Result ValueAt Cursor → Type 0
+ValueFit script chars from (Ok v) = Attributed script chars from v
+ValueFit script chars from (Err c) = Unattributed script chars from c
 
 -- Its readings can be asked for.
-abbrev pub Readable : List ℕ → FoundValue → Type 0
-Readable script (found.At v) = Fit script v.own × Fit script v.behind
-Readable script (found.Nothing c) = Unit {0}
+abbrev pub Readable : List ℕ → Result ValueAt Cursor → Type 0
+Readable script (Ok v) = Fit script v.own × Fit script v.behind
+Readable script (Err c) = Unit {0}
 
 -- DECLARATIONS
 
 -- The declarations from the next one on.
-abbrev pub declarations_of : List ℕ → List ℕ → NextValue → List Declaration
-declarations_of script chars (next.At a b v) =
-    record { name = a; important = b; value = value_of script chars v } ∷ declarations_in script chars v.behind
-declarations_of script chars (next.End c) = []
+abbrev pub declarations_of : List ℕ → List ℕ → Result Named Cursor → List Declaration
+declarations_of script chars (Ok x) =
+    record { name = x.name; important = x.qualifier; value = value_of script chars x.value } ∷ declarations_in script chars x.value.behind
+declarations_of script chars (Err c) = []
 
 -- The value of a declaration: behind it stand the other declarations and all children.
 pub record Declared (script chars : List ℕ) (from : Cursor) (v : ValueAt) : Type 0 where
@@ -105,16 +101,17 @@ pub record Undeclared (script chars : List ℕ) (from c : Cursor) : Type 0 where
   pub nodes : SameNodes script chars from c
   pub none_left : declarations_in script chars c ≡ []
 
-abbrev pub DeclarationFit : List ℕ → List ℕ → Cursor → NextValue → Type 0
-DeclarationFit script chars from (next.At a b v) = Declared script chars from v
-DeclarationFit script chars from (next.End c) = Undeclared script chars from c
+abbrev pub DeclarationFit : List ℕ → List ℕ → Cursor → Result Named Cursor → Type 0
+DeclarationFit script chars from (Ok x) = Declared script chars from x.value
+DeclarationFit script chars from (Err c) = Undeclared script chars from c
 
 -- READINGS
 
 -- The readings of a value that begins at a, from the next one on.
-abbrev pub readings_of : List ℕ → List ℕ → ℕ → NextReading → List Reading
-readings_of script chars a (read.At k o l n) = record { kind = k; part = part_at chars o l } ∷ readings_in script chars a n
-readings_of script chars a read.End = []
+abbrev pub readings_of : List ℕ → List ℕ → ℕ → Option ReadingAt → List Reading
+readings_of script chars a (Some x) =
+    record { kind = x.kind; part = part_at chars x.part.start x.part.len } ∷ readings_in script chars a x.behind
+readings_of script chars a None = []
 
 -- Behind a reading that begins at o: all attributes, declarations and children that stood behind what was before it.
 pub record Behind (script chars : List ℕ) (from : Cursor) (o : ℕ) (n : Cursor) : Type 0 where
@@ -123,15 +120,15 @@ pub record Behind (script chars : List ℕ) (from : Cursor) (o : ℕ) (n : Curso
   pub further : from.at < n.at
   pub small : o ≤ most_start
 
-abbrev pub ReadingFit : List ℕ → List ℕ → Cursor → NextReading → Type 0
-ReadingFit script chars from (read.At k o l n) = Behind script chars from o n
-ReadingFit script chars from read.End = Unit {0}
+abbrev pub ReadingFit : List ℕ → List ℕ → Cursor → Option ReadingAt → Type 0
+ReadingFit script chars from (Some x) = Behind script chars from x.part.start x.behind
+ReadingFit script chars from None = Unit {0}
 
 -- A part of the characters that was looked for.
-abbrev pub part_of : List ℕ → FoundPart → Option model.Part
-part_of chars (part.At a l) = some (part_at chars a l)
-part_of chars part.Nothing = none
+abbrev pub part_of : List ℕ → Option Part → math.Option model.Part
+part_of chars (Some p) = some (part_at chars p.start p.len)
+part_of chars None = none
 
-abbrev pub PartFit : FoundPart → Type 0
-PartFit (part.At a l) = a ≤ most_start
-PartFit part.Nothing = Unit {0}
+abbrev pub PartFit : Option Part → Type 0
+PartFit (Some p) = p.start ≤ most_start
+PartFit None = Unit {0}

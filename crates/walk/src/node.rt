@@ -29,11 +29,13 @@ pub enum Item {
     End,
 }
 
-// The next text inside an element, at any depth: its own place, its length, the cursor behind it, and how many elements are open there.
+// A text inside an element, at any depth: its own place, its length, the cursor behind it, and how many elements are open there.
 #[derive(Clone, Copy)]
-pub enum NextText {
-    At(Cursor, u32, Cursor, usize),
-    End,
+pub struct TextAt {
+    pub own: Cursor,
+    pub len: u32,
+    pub behind: Cursor,
+    pub open_elements: usize,
 }
 
 // The next node from the cursor on; attributes, declarations and readings are passed over.
@@ -49,8 +51,8 @@ pub fn next_item(script: &[u8], characters: &[u8], from: Cursor) -> Item
             Step::Open(name, space, n) => {
                 let e = Opened {
                     own: c,
-                    name: name,
-                    space: space,
+                    name,
+                    space,
                     inside: n,
                 };
                 return Item::Begin(e);
@@ -73,10 +75,7 @@ pub fn next_item(script: &[u8], characters: &[u8], from: Cursor) -> Item
             Step::Reading(_, _, _, n) => {
                 c = n;
             }
-            Step::Broken(_) => {
-                return Item::End;
-            }
-            Step::End => {
+            Step::Broken(_) | Step::End => {
                 return Item::End;
             }
         }
@@ -89,37 +88,10 @@ pub fn past_others(script: &[u8], characters: &[u8], from: Cursor) -> Cursor
     ensures { Others script.now characters.now from result }
 {
     let mut c = from;
-    loop {
-        match c.next(script, characters) {
-            Step::Other(n) => {
-                c = n;
-            }
-            Step::Open(_, _, _) => {
-                return c;
-            }
-            Step::Text(_, _) => {
-                return c;
-            }
-            Step::Close(_) => {
-                return c;
-            }
-            Step::Attribute(_, _, _, _) => {
-                return c;
-            }
-            Step::Declaration(_, _, _, _) => {
-                return c;
-            }
-            Step::Reading(_, _, _, _) => {
-                return c;
-            }
-            Step::Broken(_) => {
-                return c;
-            }
-            Step::End => {
-                return c;
-            }
-        }
+    while let Step::Other(n) = c.next(script, characters) {
+        c = n;
     }
+    c
 }
 
 // Behind the close of the element in which the cursor stands.
@@ -159,7 +131,12 @@ pub fn past_element(script: &[u8], characters: &[u8], from: Cursor) -> Cursor
 }
 
 // The next text from the cursor on, with that many elements open inside the element that is walked.
-pub fn next_text(script: &[u8], characters: &[u8], from: Cursor, open_elements: usize) -> NextText
+pub fn next_text(
+    script: &[u8],
+    characters: &[u8],
+    from: Cursor,
+    open_elements: usize,
+) -> Option<TextAt>
     requires fit_2 { Fit script.now from }
     requires open_elements_le_at { open_elements ≤ from.at }
     ensures same { sources_of script.now characters.now result
@@ -175,20 +152,25 @@ pub fn next_text(script: &[u8], characters: &[u8], from: Cursor, open_elements: 
                 c = e.inside;
             }
             Item::Text(own, len, n) => {
-                return NextText::At(own, len, n, level);
+                return Some(TextAt {
+                    own,
+                    len,
+                    behind: n,
+                    open_elements: level,
+                });
             }
             Item::Other(n) => {
                 c = past_others(script, characters, n);
             }
             Item::Close(n) => {
                 if level == 0 {
-                    return NextText::End;
+                    return None;
                 }
                 level -= 1;
                 c = n;
             }
             Item::End => {
-                return NextText::End;
+                return None;
             }
         }
     }
@@ -198,8 +180,5 @@ pub fn next_text(script: &[u8], characters: &[u8], from: Cursor, open_elements: 
 pub fn has_tag_name(name: u8, space: u8) -> bool
     ensures { result ≡ and (leb space 1) (is_element name) }
 {
-    if 1 < space {
-        return false;
-    }
-    is_element(name as u32)
+    space <= 1 && is_element(name as u32)
 }

@@ -18,32 +18,27 @@ pub struct ValueAt {
     pub behind: Cursor,
 }
 
-// The next attribute or declaration: its name, its namespace or importance, its value. Where none is left, the cursor behind the last.
+// An attribute or a declaration: its name, its namespace or its importance, and its value.
 #[derive(Clone, Copy)]
-pub enum NextValue {
-    At(u8, u8, ValueAt),
-    End(Cursor),
+pub struct Named {
+    pub name: u8,
+    pub qualifier: u8,
+    pub value: ValueAt,
 }
 
-// The next reading of a value: its kind, its start and length in the characters, and the cursor behind it.
+// A part of the characters.
 #[derive(Clone, Copy)]
-pub enum NextReading {
-    At(u8, usize, u32, Cursor),
-    End,
+pub struct Part {
+    pub start: usize,
+    pub len: u32,
 }
 
-// The value of an attribute that is looked for; where there is none, the cursor behind the attributes.
+// A reading of a value: its kind, its part of the characters, and the cursor behind it.
 #[derive(Clone, Copy)]
-pub enum FoundValue {
-    At(ValueAt),
-    Nothing(Cursor),
-}
-
-// A part of the characters that is looked for: its start and its length.
-#[derive(Clone, Copy)]
-pub enum FoundPart {
-    At(usize, u32),
-    Nothing,
+pub struct ReadingAt {
+    pub kind: u8,
+    pub part: Part,
+    pub behind: Cursor,
 }
 
 // The part of the characters of that length; what of it lies past their end is cut off.
@@ -51,19 +46,14 @@ pub fn part_at(characters: &[u8], start: usize, len: u32) -> &[u8]
     requires { start ≤ most_start }
     ensures { result.now ≡ slice start (start + len) characters.now }
 {
-    let end = start + len as usize;
     let size = characters.len();
-    if size < start {
-        return &characters[size..size];
-    }
-    if size < end {
-        return &characters[start..size];
-    }
-    &characters[start..end]
+    let end = start + len as usize;
+    &characters[start.min(size)..end.min(size)]
 }
 
-// The next attribute of an element, from inside it. Behind the last one its declarations and its children are still to come.
-pub fn next_attribute(script: &[u8], characters: &[u8], from: Cursor) -> NextValue
+// The next attribute of an element, from inside it; where none is left, the cursor behind the last one, before its declarations and its
+// children.
+pub fn next_attribute(script: &[u8], characters: &[u8], from: Cursor) -> Result<Named, Cursor>
     requires { Fit script.now from }
     ensures same { attributes_of script.now characters.now result
         ≡ attributes_in script.now characters.now from }
@@ -72,44 +62,30 @@ pub fn next_attribute(script: &[u8], characters: &[u8], from: Cursor) -> NextVal
     let mut c = from;
     loop {
         match c.next(script, characters) {
-            Step::Attribute(name, space, len, behind) => {
-                let v = ValueAt {
+            Step::Attribute(name, namespace, len, behind) => {
+                let value = ValueAt {
                     own: c,
-                    len: len,
-                    behind: behind,
+                    len,
+                    behind,
                 };
-                return NextValue::At(name, space, v);
+                return Ok(Named {
+                    name,
+                    qualifier: namespace,
+                    value,
+                });
             }
-            Step::Reading(_, _, _, n) => {
-                c = n;
+            Step::Reading(_, _, _, behind) => {
+                c = behind;
             }
-            Step::Open(_, _, _) => {
-                return NextValue::End(c);
-            }
-            Step::Declaration(_, _, _, _) => {
-                return NextValue::End(c);
-            }
-            Step::Text(_, _) => {
-                return NextValue::End(c);
-            }
-            Step::Other(_) => {
-                return NextValue::End(c);
-            }
-            Step::Close(_) => {
-                return NextValue::End(c);
-            }
-            Step::Broken(_) => {
-                return NextValue::End(c);
-            }
-            Step::End => {
-                return NextValue::End(c);
+            _ => {
+                return Err(c);
             }
         }
     }
 }
 
-// The next declaration of an element, from inside it. Behind the last one its children are still to come.
-pub fn next_declaration(script: &[u8], characters: &[u8], from: Cursor) -> NextValue
+// The next declaration of an element, from inside it; where none is left, a cursor behind its attributes, before its children.
+pub fn next_declaration(script: &[u8], characters: &[u8], from: Cursor) -> Result<Named, Cursor>
     requires { Fit script.now from }
     ensures same { declarations_of script.now characters.now result
         ≡ declarations_in script.now characters.now from }
@@ -118,76 +94,58 @@ pub fn next_declaration(script: &[u8], characters: &[u8], from: Cursor) -> NextV
     let mut c = from;
     loop {
         match c.next(script, characters) {
+            Step::Declaration(name, important, len, behind) => {
+                let value = ValueAt {
+                    own: c,
+                    len,
+                    behind,
+                };
+                return Ok(Named {
+                    name,
+                    qualifier: important,
+                    value,
+                });
+            }
             Step::Attribute(_, _, _, n) => {
                 c = n;
             }
             Step::Reading(_, _, _, n) => {
                 c = n;
             }
-            Step::Open(_, _, _) => {
-                return NextValue::End(c);
-            }
-            Step::Declaration(name, important, len, n) => {
-                let v = ValueAt {
-                    own: c,
-                    len: len,
-                    behind: n,
-                };
-                return NextValue::At(name, important, v);
-            }
-            Step::Text(_, _) => {
-                return NextValue::End(c);
-            }
-            Step::Other(_) => {
-                return NextValue::End(c);
-            }
-            Step::Close(_) => {
-                return NextValue::End(c);
-            }
-            Step::Broken(_) => {
-                return NextValue::End(c);
-            }
-            Step::End => {
-                return NextValue::End(c);
+            _ => {
+                return Err(c);
             }
         }
     }
 }
 
 // The next reading of a value that begins at start, from behind it.
-pub fn next_reading(script: &[u8], characters: &[u8], c: Cursor, start: usize) -> NextReading
+pub fn next_reading(script: &[u8], characters: &[u8], c: Cursor, start: usize) -> Option<ReadingAt>
     requires fit_2 { Fit script.now c }
     requires start_le_most_place { start ≤ most_place }
     ensures same { readings_of script.now characters.now start result
         ≡ readings_in script.now characters.now start c }
     ensures fit { ReadingFit script.now characters.now c result }
 {
-    match c.next(script, characters) {
-        Step::Reading(kind, offset, len, n) => NextReading::At(
-            kind,
-            start + offset as usize,
-            len,
-            n,
-        ),
-        Step::Attribute(_, _, _, _) => NextReading::End,
-        Step::Open(_, _, _) => NextReading::End,
-        Step::Declaration(_, _, _, _) => NextReading::End,
-        Step::Text(_, _) => NextReading::End,
-        Step::Other(_) => NextReading::End,
-        Step::Close(_) => NextReading::End,
-        Step::Broken(_) => NextReading::End,
-        Step::End => NextReading::End,
-    }
+    let Step::Reading(kind, offset, len, behind) = c.next(script, characters) else {
+        return None;
+    };
+    let part = Part {
+        start: start + offset as usize,
+        len,
+    };
+    Some(ReadingAt { kind, part, behind })
 }
 
-// The first attribute of an element with that name in that namespace, from inside it.
+// The first attribute of an element with that name in that namespace, from inside it; where there is none, the cursor behind the
+// attributes.
 pub fn attribute_in(
     script: &[u8],
     characters: &[u8],
     from: Cursor,
     space: u8,
     name: u8,
-) -> FoundValue
+) -> Result<ValueAt, Cursor>
     requires { Fit script.now from }
     ensures same { value_in script.now characters.now result
         ≡ attribute_in space name (attributes_in script.now characters.now from) }
@@ -195,19 +153,11 @@ pub fn attribute_in(
 {
     let mut c = from;
     loop {
-        match next_attribute(script, characters, c) {
-            NextValue::At(a, s, v) => {
-                if s == space {
-                    if a == name {
-                        return FoundValue::At(v);
-                    }
-                }
-                c = v.behind;
-            }
-            NextValue::End(n) => {
-                return FoundValue::Nothing(n);
-            }
+        let x = next_attribute(script, characters, c)?;
+        if x.qualifier == space && x.name == name {
+            return Ok(x.value);
         }
+        c = x.value.behind;
     }
 }
 
@@ -218,7 +168,7 @@ pub fn reading_of(
     from: Cursor,
     start: usize,
     kind: u8,
-) -> FoundPart
+) -> Option<Part>
     requires fit_2 { Fit script.now from }
     requires start_le_most_place { start ≤ most_place }
     ensures same { part_of characters.now result
@@ -227,17 +177,11 @@ pub fn reading_of(
 {
     let mut c = from;
     loop {
-        match next_reading(script, characters, c, start) {
-            NextReading::At(k, o, len, n) => {
-                if k == kind {
-                    return FoundPart::At(o, len);
-                }
-                c = n;
-            }
-            NextReading::End => {
-                return FoundPart::Nothing;
-            }
+        let x = next_reading(script, characters, c, start)?;
+        if x.kind == kind {
+            return Some(x.part);
         }
+        c = x.behind;
     }
 }
 
@@ -256,19 +200,11 @@ pub fn any_reading(
         ≡ any_reading kind id.now (readings_in script.now characters.now start from) }
 {
     let mut c = from;
-    loop {
-        match next_reading(script, characters, c, start) {
-            NextReading::At(k, o, len, n) => {
-                if k == kind {
-                    if same(part_at(characters, o, len), id) {
-                        return true;
-                    }
-                }
-                c = n;
-            }
-            NextReading::End => {
-                return false;
-            }
+    while let Some(x) = next_reading(script, characters, c, start) {
+        if x.kind == kind && same(part_at(characters, x.part.start, x.part.len), id) {
+            return true;
         }
+        c = x.behind;
     }
+    false
 }

@@ -13,8 +13,8 @@ begin-requires c =
       memo = c.requires.memo;
     }
 
-pub above-requires : goal.above-requires
-above-requires c =
+pub above-parent-requires : goal.above-parent-requires
+above-parent-requires c =
     let going = c.requires.going in let whole = above-there _ _ _ _ _ _ going in
     record { parent_in_bounds = whole.0; parent_bound = whole.1 }
 
@@ -42,4 +42,4 @@ returns-in-Close c =
     further-on _ _ _ _ _ _ going _ _ closed.1
     (behind-close _ _
     c.args.s _
-    going.lies closed.0) c.above.ensures
+    going.lies closed.0) c.above-parent.ensures

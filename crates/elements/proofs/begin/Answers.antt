@@ -1,33 +1,21 @@
+use mathlib.Core.Path.{sym, ap, ◌∙◌}
 use Rattle.tree.proofs.Bools.{passes}
-use Rattle.elements.proofs.Turning.{ready, inside, passed, grown, kept-tag, done-told, behind-told}
+use Rattle.parse.specs.Cycle.{tag_named}
+use Rattle.parse.proofs.Nodes.{tag-element}
+use Rattle.model.specs.Names.{is_element}
+use Rattle.label.proofs.Telling.{element-done, element-behind}
+use Rattle.elements.proofs.Turning.{passed, grown}
 use Rattle.elements.proofs.begin.Goals as goal
 
-pub returns-then-not-is_kept : goal.returns-then-not-is_kept
-returns-then-not-is_kept c =
-    let going = c.requires.going in
-    let opens = c.requires.opening in
-    passed _ _ _ _ _ _ going _ opens _ c.past_element-behind.ensures.same c.past_element-behind.ensures.fit
+pub returns-then-not-is_parsed : goal.returns-then-not-is_parsed
+returns-then-not-is_parsed c =
+    passed _ _ _ _ _ _ c.requires.going _ c.requires.opening _ c.past_element-behind.ensures.same c.past_element-behind.ensures.fit
     c.past_element-behind.ensures.further
 
-pub parse_svg_element-requires : goal.parse_svg_element-requires
-parse_svg_element-requires c =
-    let going = c.requires.going in
-    let opens = c.requires.opening in record {
-      ready = ready _ _ _ _ _ _ going _ opens;
-      in_attributes = inside _ _ _ _ _ _ going _ opens;
-    }
-
-pub returns-in-Done : goal.returns-in-Done
-returns-in-Done c =
-    let going = c.requires.going in
-    let opens = c.requires.opening in
-    grown _ _ _ _ _ _ going _ opens _ _ (kept-tag _ c.code_of-code.result
-    c.args.e.space
-    c.tag_of.ensures
-    (passes
-    c.is_kept.ensures
-    c.if-not-is_kept.false-raw)) _ _
-    (behind-told _ _ _ c.in-Done.is _ _ _
-    c.parse_svg_element.ensures.behind) _ _
-    (done-told _ _ _ c.in-Done.is _ _ _ _
-    (c.parse_svg_element.ensures.outcome _))
+pub returns : goal.returns
+returns c =
+    let named = passes c.is_parsed.ensures c.if-not-is_parsed.false-raw in
+    let tag = c.tag_of.ensures ∙ ap tag_named c.code_of-code.ensures in
+    grown _ _ _ _ _ _ c.requires.going _ c.requires.opening _ _ (ap is_element tag ∙ tag-element _ _ named) _ _
+    (element-behind _ _ _ _ c.parse_svg_element.ensures.behind _ c.in_ok-parsed.was) _ _
+    (element-done _ _ _ _ _ (c.parse_svg_element.ensures.outcome _) _ c.in_ok-parsed.was)

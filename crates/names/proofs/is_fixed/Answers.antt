@@ -1,5 +1,6 @@
 use Rattle.model.specs.Names.{fixed_bytes, fixed_values}
 use Rattle.names.proofs.Compared.{same-empty, no-fixed}
+use mathlib.Core.Path.{◌∙◌}
 use Rattle.names.proofs.is_fixed.Goals as goal
 
 pub returns-in-1 : goal.returns-in-1
@@ -75,4 +76,4 @@ unfolding fixed_bytes fixed_values
 returns-in-18 c = rw c.in-18.is c.same-in-18.ensures
 
 pub returns-in_default : goal.returns-in_default
-returns-in_default c = rw (no-fixed _ c.in_default.in_default-own.rest) (same-empty _)
+returns-in_default c = rw (no-fixed _ c.in_default.in_default-own.rest) (c.is_empty.ensures ∙ same-empty _)

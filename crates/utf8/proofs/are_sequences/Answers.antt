@@ -1,7 +1,6 @@
-use Rattle.utf8.proofs.Ascii.{reach-end}
+use mathlib.Core.Path.{◌∙◌}
+use Rattle.utf8.proofs.Ascii.{reach-some}
 use Rattle.utf8.proofs.are_sequences.Goals as goal
 
 pub returns : goal.returns
-returns c =
-    reach-end _ c.args.from _
-    (record { within = c.past_sequences.ensures.0; same = c.past_sequences.ensures.1 }) c.past_sequences.ensures.2
+returns c = c.is_some.ensures ∙ reach-some c.args.s.now c.args.from _ c.past_sequences.ensures

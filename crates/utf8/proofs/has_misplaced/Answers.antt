@@ -1,17 +1,17 @@
-use native.Mathlib.Omega.{arith}
-use mathlib.Core.Path.{refl, ◌∙◌, ap}
-use Rattle.utf8.specs.Lead.{misplaced_in, any_below}
-use Rattle.utf8.proofs.Parts.{any-more}
+use Rattle.std.proofs.Common.{◌≡◌, ◌+◌, ◌-◌, ◌||◌, ap, ◌∙◌, arith, rules, tests, get_or, length}
+use Rattle.std.specs.Slice.Iter.{windows_rest, windows_size}
+use Rattle.std.specs.Slice.ArrayWindows.{array_windows_parts}
+use Rattle.utf8.specs.Lead.{misplaced, misplaced_in}
+use Rattle.utf8.proofs.Folds.{windows-any, window-misplaced}
 use Rattle.utf8.proofs.has_misplaced.Goals as goal
-
-pub loop-j-init : goal.loop-j-init
-unfolding any_below
-loop-j-init c = (omega arith, refl)
-
-pub loop-j-preserved : goal.loop-j-preserved
-loop-j-preserved c = (omega arith, any-more _ _ _ _ c.loop-j.invariant.1 c.is_misplaced-found.ensures)
 
 pub returns : goal.returns
 returns c =
-    c.loop-j.invariant.1
-    ∙ ap (λ n. misplaced_in c.args.s.now c.args.a n) (omega arith)
+    let s = c.args.s.now in
+    let made = c.array_windows.ensures in
+    let run = c.fold.ensures.runs in
+    run.3 (λ found x. found || misplaced (get_or x.now 0 0) (get_or x.now 1 0) (get_or x.now 2 0) (get_or x.now 3 0))
+    (λ x y r f' k. search (rules, tests))
+    ∙ windows-any run.0 4 s _ _ run.2 (omega arith) _ _ (ap (λ f. windows_size (array_windows_parts f)) run.1 ∙ made.size)
+    (ap (λ f. windows_rest (array_windows_parts f)) run.1 ∙ made.rest) (made.runs run.0 run.0.seen) (λ k x. window-misplaced s x.now k)
+    ∙ ap (λ n. misplaced_in s 0 n) (let z : length s + 1 - 4 ≡ length s - 3 = omega arith in z)

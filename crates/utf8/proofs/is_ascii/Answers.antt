@@ -1,29 +1,14 @@
-use native.Mathlib.Omega.{arith}
-use mathlib.Core.Bool.{not}
-use mathlib.Core.Path.{◌≡◌, refl, ap, ◌∙◌}
-use Rattle.utf8.specs.Lead.{beyond_in, any_below}
-use borrow.Author.Tests.{lt-leb}
-use Rattle.utf8.proofs.Parts.{any-more, none_any}
-use Rattle.utf8.proofs.Ascii.{ascii-told}
+use Rattle.std.proofs.Common.{◌≡◌, ◌+◌, arith, rules, tests, ap, ◌∙◌, false, not, get_or, ◌||◌, leb}
+use Rattle.std.proofs.lemmas.Iterator.{YieldsList-from_slice}
+use Rattle.std.proofs.lemmas.Iterator.Consumers.{fold_from_yields_List}
+use Rattle.std.proofs.lemmas.List.{get_or_default}
+use Rattle.utf8.proofs.Folds.{fold-any}
 use Rattle.utf8.proofs.is_ascii.Goals as goal
 
-pub loop-j-init : goal.loop-j-init
-unfolding any_below
-loop-j-init c = (omega arith, refl)
-
-pub loop-j-preserved : goal.loop-j-preserved
-loop-j-preserved c = (omega arith, any-more _ _ _ _ c.loop-j.invariant.1 refl)
-
-pub returns-clause-beyond : goal.returns-clause-beyond
-returns-clause-beyond c =
-    let args = c.args in
-    ap not (c.loop-j.invariant.1 ∙ ap (λ n. beyond_in args.s.now args.i n) (omega arith))
-
-pub returns-clause-told : goal.returns-clause-told
-returns-clause-told c =
-    let args = c.args in
-    let told : not c.loop-j.beyond ≡ not (beyond_in args.s.now args.i args.size) =
-    ap not (c.loop-j.invariant.1 ∙ ap (λ n. beyond_in args.s.now args.i n) (omega arith)) in (
-      (λ h. ascii-told _ _ _ _ told h),
-      (λ h. told ∙ ap not (none_any args.size _ (λ k l. lt-leb 0x80 _ (h k l)))),
-    )
+pub returns : goal.returns
+returns c =
+    ap not (fold_from_yields_List _ (λ b x. b || leb 0x80 x) false _ c.fold.ensures.ran (YieldsList-from_slice c.args.s.now (cc))
+    (λ a x b q k. search (rules, tests))
+    ∙ fold-any (leb 0x80) _ c.args.s.now
+    (λ k d l. ap (leb 0x80) (get_or_default c.args.s.now k d 0 l ∙ ap (λ m. get_or c.args.s.now m 0)
+    (let z : k ≡ 0 + k = omega arith in z))))

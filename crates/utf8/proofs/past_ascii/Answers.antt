@@ -1,29 +1,23 @@
 use native.Mathlib.Omega.{arith}
-use borrow.Author.Tests.{not-false}
 use mathlib.Core.Path.{◌∙◌}
-use Rattle.utf8.proofs.Ascii.{reach-block, reach-join, ascii-told}
+use Prim.Native.Nat.{◌-◌}
+use lib.ListN.{length}
+use Rattle.utf8.proofs.Ascii.{Reach, rest_all}
+use Rattle.utf8.proofs.Folds.{ascii-part}
 use Rattle.utf8.proofs.past_ascii.Goals as goal
 
-pub loop-i-init : goal.loop-i-init
-loop-i-init c =
-    let long = c.past_long-i.ensures in
-    (long.0, record { within = long.1; same = long.2 })
-
-pub returns-then-not-is_ascii : goal.returns-then-not-is_ascii
-returns-then-not-is_ascii c =
-    let loop-inv = c.loop-i.invariant in
-    (loop-inv.0, loop-inv.1.within, loop-inv.1.same)
-
-pub loop-i-preserved : goal.loop-i-preserved
-loop-i-preserved c = (
-  omega arith,
-  reach-join _ _ _ _ c.loop-i.invariant.1
-      (reach-block _ _ 32 (omega arith) (ascii-told _ _ _ _ c.is_ascii.ensures.beyond (not-false _ c.if-not-is_ascii.false-raw))),
-)
-
-pub returns : goal.returns
-returns c = (
-  omega (arith, c.past_end.ensures.0),
-  c.past_end.ensures.1,
-  c.past_end.ensures.2 ∙ c.loop-i.invariant.1.same,
-)
+pub returns-then-is_ascii : goal.returns-then-is_ascii
+returns-then-is_ascii c =
+    let s = c.args.s.now in
+    let k = c.past_blocks_of_ascii-k.ensures in
+    let r : Reach s c.args.from (length s) = rest_all _ 16 c.args.from _
+    (record {
+      begun = omega arith;
+      near = omega arith;
+      reach = record {
+        within = k.1;
+        same = k.2 ∙ c.past_blocks_of_ascii-j.ensures.2 ∙ c.past_blocks_of_ascii-i.ensures.2;
+      };
+    }) (omega arith) (ascii-part s (length s - 16) (length s - (length s - 16)) 16 _ c.is_ascii.ensures c.if-is_ascii.true (omega arith)
+    (omega arith)) in
+    (omega arith, r.within, r.same)

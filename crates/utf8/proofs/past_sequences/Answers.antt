@@ -1,37 +1,23 @@
 use native.Mathlib.Omega.{arith}
-use Rattle.utf8.proofs.Ascii.{reach-none, reach-on, reach-bad, reach-join}
+use mathlib.Core.Path.{refl, sym, ◌∙◌}
+use Prim.Native.Nat.{◌+◌}
+use Rattle.utf8.proofs.Ascii.{Reach, reach-on, reach-bad, reach-join}
 use Rattle.utf8.proofs.past_sequences.Goals as goal
 
-pub loop-i-init : goal.loop-i-init
-loop-i-init c = reach-none _ _ (omega arith)
+further : (c : goal.In-Some) → Reach c.args.s.now c.args.from (c.loop-i.i + c.in-Some.n)
+further c =
+    let e = c.in-Some.ensures in
+    reach-join _ _ _ _ c.loop-i.invariant (reach-on _ _ (omega arith) _ e.1 (λ z. omega (arith, e.0, e.1)))
 
-pub returns-then-n-eq0 : goal.returns-then-n-eq0
-returns-then-n-eq0 c = (
-  c.loop-i.invariant.within,
-  c.loop-i.invariant.same,
-  λ l. reach-bad _ c.loop-i.i (omega arith) _ c.sequence_at-n.ensures c.if-n-eq0.true,
-)
+pub returns-in_default : goal.returns-in_default
+returns-in_default c =
+    sym c.loop-i.invariant.same ∙ reach-bad _ c.loop-i.i (omega arith) 0 (omega (arith, c.in_default.ensures)) refl
 
 pub overflow_add-i : goal.overflow_add-i
-overflow_add-i c =
-    omega (
-      arith,
-      (reach-join _ _ _ _ c.loop-i.invariant
-          (reach-on _ _ (omega arith) _ c.sequence_at-n.ensures c.if-n-eq0.false)).within,
-    )
+overflow_add-i c = omega (arith, (further c).within)
 
 pub loop-i-smaller : goal.loop-i-smaller
-loop-i-smaller c =
-    omega (
-      arith,
-      (reach-join _ _ _ _ c.loop-i.invariant
-          (reach-on _ _ (omega arith) _ c.sequence_at-n.ensures c.if-n-eq0.false)).within,
-    )
+loop-i-smaller c = omega (arith, (further c).within, c.in-Some.ensures)
 
 pub loop-i-preserved : goal.loop-i-preserved
-loop-i-preserved c =
-    reach-join _ _ _ _ c.loop-i.invariant
-    (reach-on _ _ (omega arith) _ c.sequence_at-n.ensures c.if-n-eq0.false)
-
-pub returns : goal.returns
-returns c = (c.loop-i.invariant.within, c.loop-i.invariant.same, λ l. absurd (omega arith))
+loop-i-preserved c = further c

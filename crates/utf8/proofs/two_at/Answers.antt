@@ -1,29 +1,32 @@
 use native.Mathlib.Omega.{arith}
-use borrow.Author.Tests.{not-true, not-false}
-use mathlib.Core.Path.{sym, ap, ◌∙◌}
+use mathlib.Core.Path.{◌≡◌, sym, ap, ◌∙◌}
 use Prim.Native.Nat.{◌+◌}
-use lib.ListN.{get_or}
-use Rattle.model.specs.Utf8.{is_within}
+use lib.ListN.{get_or, drop}
+use Rattle.model.specs.Utf8.{is_within, sequence_of, well_formed}
 use Rattle.utf8.proofs.Sequence.{first-most, second-of-two, cut, two, bad-second}
 use Rattle.utf8.proofs.two_at.Goals as goal
+use Rattle.utf8.proofs.two_at.Goals.{else-s-i-ge2-via-then-s-i-ge2+else-is_further, else-s-i-ge2-via-else-s-i-ge2}
 
-pub returns-then-s-i-lt2 : goal.returns-then-s-i-lt2
-returns-then-s-i-lt2 c =
-    cut _ _ 2 c.requires.i_in_bounds (first-most _ 1 c.requires.i_value) (sym c.requires.i_value)
-    (omega arith)
-
-pub returns-then-not-is_within : goal.returns-then-not-is_within
-returns-then-not-is_within c =
-    bad-second _ _ 2 c.requires.i_in_bounds (first-most _ 1 c.requires.i_value) (sym c.requires.i_value) (omega arith) (omega arith)
-    ((ap (λ r. is_within (get_or c.args.s.now (c.args.i + 1) 0) r) (second-of-two _ c.requires.i_value)
-    ∙ sym c.is_within.ensures) ∙ not-true _ c.if-not-is_within.true-raw)
-
-pub returns : goal.returns
-returns c =
+pub returns-then-is_further : goal.returns-then-is_further
+returns-then-is_further c =
+    let e : 2 ≡ sequence_of well_formed (drop c.args.i c.args.s.now) =
     two _ _ 2 c.requires.i_in_bounds (first-most _ 1 c.requires.i_value) (sym c.requires.i_value)
     (record {
       room = omega arith;
       size = omega arith;
-      fits = (ap (λ r. is_within (get_or c.args.s.now (c.args.i + 1) 0) r) (second-of-two _ c.requires.i_value)
-          ∙ sym c.is_within.ensures) ∙ not-false _ c.if-not-is_within.false-raw;
-    }) (omega arith)
+      fits = ap (λ r. is_within (get_or c.args.s.now (c.args.i + 1) 0) r) (second-of-two _ c.requires.i_value)
+          ∙ sym c.is_further.ensures ∙ c.if-is_further.true;
+    }) (omega arith) in
+    (omega (arith, e), e)
+
+pub returns-else-s-i-ge2 : goal.returns-else-s-i-ge2
+returns-else-s-i-ge2 c =
+    let e : 0 ≡ sequence_of well_formed (drop c.args.i c.args.s.now) = elim c.else-s-i-ge2.branch [
+      | else-s-i-ge2-via-then-s-i-ge2+else-is_further w ↦ bad-second _ _ 2 c.requires.i_in_bounds
+          (first-most _ 1 c.requires.i_value) (sym c.requires.i_value)
+          (omega (arith, w.if-s-i-ge2.true)) (omega arith)
+          (ap (λ r. is_within (get_or c.args.s.now (c.args.i + 1) 0) r) (second-of-two _ c.requires.i_value)
+          ∙ sym w.is_further.ensures ∙ w.if-is_further.false)
+      | else-s-i-ge2-via-else-s-i-ge2 w ↦ cut _ _ 2 c.requires.i_in_bounds (first-most _ 1 c.requires.i_value)
+          (sym c.requires.i_value) (omega (arith, w.if-s-i-ge2.false))
+    ] in λ h. omega (arith, e)

@@ -1,12 +1,12 @@
 use mathlib.Core.Path.{◌∙◌}
+use Rattle.refusal.specs.declared.Refusal.TheVariants.{NodesFull}
 use Rattle.build.proofs.Answering.{refused-answer}
 use Rattle.build.proofs.Building.{no-root, root-room, root-alone, with-root}
 use Rattle.build.proofs.whole.build_checked.Goals as goal
 
 pub returns-then-node_room-eq0 : goal.returns-then-node_room-eq0
 returns-then-node_room-eq0 c =
-    refused-answer _ _ _ _ _ _ c.refusal.ensures
-    c.clear.ensures _
+    refused-answer _ _ _ _ NodesFull c.clear.ensures _
     ∙ no-root _ _ c.args.nodes.now
     c.args.attributes.now
     c.args.text.now _ _ _

@@ -1,4 +1,3 @@
-use native.Mathlib.Omega.{arith}
 use mathlib.Core.Path.{◌∙◌}
 use borrow.Author.Tests.{eq-eqb, ne_eqb}
 use Rattle.tree.proofs.Facts.{readable}
@@ -12,17 +11,13 @@ mark_of-mark-requires c =
       marked = c.requires.cuttable.mendable.drawn.marked;
       kept = c.requires.cuttable.mendable.tidy.kept;
       indexed = c.requires.cuttable.mendable.indexed;
-      le_pass = (c.requires.aimed.first, c.requires.aimed.last);
       m_lt_nodes = c.requires.m_lt_nodes;
       targeted = c.requires.cuttable.targeted;
     }
 
 pub cut-requires : goal.cut-requires
 cut-requires c =
-    record {
-      le_pass = (c.requires.aimed.first, omega (arith, c.requires.aimed.last));
-      readable = readable _ _ c.requires.cuttable.mendable.tidy.kept _ c.requires.m_lt_nodes;
-    }
+    readable _ _ c.requires.cuttable.mendable.tidy.kept _ c.requires.m_lt_nodes
 
 pub returns-then-mark-aim : goal.returns-then-mark-aim
 returns-then-mark-aim c =

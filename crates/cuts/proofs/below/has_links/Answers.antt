@@ -1,5 +1,6 @@
 use native.Mathlib.Omega.{arith}
 use Rattle.cuts.proofs.Descending.{links-found}
+use mathlib.Core.Path.{◌∙◌}
 use Rattle.cuts.proofs.below.has_links.Goals as goal
 
 pub first_with-requires : goal.first_with-requires
@@ -11,6 +12,6 @@ first_with-requires c =
 
 pub returns : goal.returns
 returns c =
-    links-found _ _ c.args.counts _ _ _ _ c.behind_below-end.ensures
+    c.is_some.ensures ∙ links-found _ _ c.args.counts _ _ _ _ c.behind_below-end.ensures
     c.first_with.ensures.within c.first_with.ensures.none
     c.first_with.ensures.some

@@ -4,23 +4,14 @@ use Rattle.model.specs.Tables.{attribute_id}
 use Rattle.cuts.proofs.Writing.{cut-none, cut-some}
 use Rattle.cuts.proofs.cut.cut.Goals as goal
 
-pub returns-then-j-eq0 : goal.returns-then-j-eq0
-returns-then-j-eq0 c =
-    cut-none _ _ _ _ (c.attribute_id-j.ensures.found ∙ ap (attribute_id _ _) c.cut_name-name.ensures)
-    c.if-j-eq0.true
-
 pub set_none-requires : goal.set_none-requires
 set_none-requires c =
-    omega (
-      arith,
-      c.attribute_id-j.ensures.held.last,
-      c.requires.readable.range
-          (c.attribute_id-j.ensures.held.element c.if-j-eq0.false),
-      c.if-j-eq0.false,
-    )
+    let held = c.in-Some.ensures.held in
+    omega (arith, held.inside, c.requires.range held.element)
 
-pub returns : goal.returns
-returns c =
-    cut-some _ _ _ _ (c.attribute_id-j.ensures.found
-    ∙ ap (attribute_id _ _) c.cut_name-name.ensures)
-    c.if-j-eq0.false _ c.set_none.ensures
+pub returns-in-Some : goal.returns-in-Some
+returns-in-Some c =
+    cut-some _ _ _ _ (c.in-Some.ensures.found ∙ ap (attribute_id _ _) c.cut_name-name.ensures) _ c.set_none.ensures
+
+pub returns-in_default : goal.returns-in_default
+returns-in_default c = cut-none _ _ _ (c.in_default.ensures.found ∙ ap (attribute_id _ _) c.cut_name-name.ensures)

@@ -1,32 +1,20 @@
-use native.Mathlib.Omega.{arith}
-use Rattle.tree.proofs.Facts.{readable}
+use mathlib.Core.Path.{sym}
 use Rattle.cuts.proofs.Aiming.{known_in, key_here, key-absent, key-empty, key-some}
 use Rattle.cuts.proofs.key.key_of.Goals as goal
 
-pub attribute_id-requires : goal.attribute_id-requires
-attribute_id-requires c = readable _ _ c.requires.kept _ c.requires.i_lt_nodes
+pub returns-in_err-attribute_id-clause-same : goal.returns-in_err-attribute_id-clause-same
+returns-in_err-attribute_id-clause-same c =
+    rw c.from_residual.ensures (key-absent _ _ _ _ (sym c.if-not-is_pattern.ensures) c.in_err-attribute_id.ensures.found)
 
-pub returns-then-attribute_id-eq0 : goal.returns-then-attribute_id-eq0
-returns-then-attribute_id-eq0 c = key-absent _ _ _ _ (omega (arith, c.if-pass-gt2.true)) _ c.attribute_id.ensures.found
-    c.if-attribute_id-eq0.true
+pub returns-then-not-is_pattern-clause-same : goal.returns-then-not-is_pattern-clause-same
+returns-then-not-is_pattern-clause-same c =
+    key_here _ _ _ _ (sym c.if-not-is_pattern.ensures) _ c.in_ok-attribute_id.ensures.found
 
-pub returns-then-pass-gt2 : goal.returns-then-pass-gt2
-returns-then-pass-gt2 c =
-    key_here _ _ _ _ (omega (arith, c.if-pass-gt2.true)) _ c.attribute_id.ensures.found
-    c.if-attribute_id-eq0.false _ c.wide.ensures.0
+pub last_of-requires-clause-by_index : goal.last_of-requires-clause-by_index
+last_of-requires-clause-by_index c = λ k l. known_in _ _ c.requires.kept k l
 
-pub last_of-w-requires : goal.last_of-w-requires
-last_of-w-requires c =
-    record {
-      by_index = λ k l. known_in _ _ c.requires.kept k l;
-      indexed = c.requires.indexed;
-      i_lt_count = c.requires.i_lt_nodes;
-    }
+pub returns-in-Some-clause-same : goal.returns-in-Some-clause-same
+returns-in-Some-clause-same c = key-some _ _ _ _ (sym c.if-not-is_pattern.ensures) _ c.in-Some.ensures.same
 
-pub returns-then-w-eq0 : goal.returns-then-w-eq0
-returns-then-w-eq0 c = key-empty _ _ _ _ (omega (arith, c.if-pass-gt2.false)) _ c.last_of-w.ensures.same c.if-w-eq0.true
-
-pub returns : goal.returns
-returns c =
-    key-some _ _ _ _ (omega (arith, c.if-pass-gt2.false)) _ c.last_of-w.ensures.same
-    c.if-w-eq0.false _ c.wide-2.ensures.0
+pub returns-in-None-clause-same : goal.returns-in-None-clause-same
+returns-in-None-clause-same c = key-empty _ _ _ _ (sym c.if-not-is_pattern.ensures) c.in-None.ensures.same

@@ -13,17 +13,13 @@ mark_of-mark-requires c =
       marked = c.requires.cuttable.mendable.drawn.marked;
       kept = c.requires.cuttable.mendable.tidy.kept;
       indexed = c.requires.cuttable.mendable.indexed;
-      le_pass = (a.first, a.last);
       m_lt_nodes = c.requires.j_lt_nodes;
       targeted = c.requires.cuttable.targeted;
     }
 
 pub cut-requires : goal.cut-requires
 cut-requires c =
-    let a = c.requires.aimed in record {
-      le_pass = (a.first, omega (arith, a.last));
-      readable = readable _ _ c.requires.cuttable.mendable.tidy.kept _ c.requires.j_lt_nodes;
-    }
+    let a = c.requires.aimed in readable _ _ c.requires.cuttable.mendable.tidy.kept _ c.requires.j_lt_nodes
 
 pub returns-then-mark-aim : goal.returns-then-mark-aim
 returns-then-mark-aim c =

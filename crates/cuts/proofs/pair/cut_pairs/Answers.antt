@@ -6,7 +6,7 @@ use Rattle.cuts.proofs.pair.cut_pairs.Goals as goal
 pub loop-j-init : goal.loop-j-init
 loop-j-init c =
     pairs_start _ _ _ _ _ _ _ _ _ _ _ c.requires.cuttable c.requires.aimed c.requires.end_le_nodes
-    (settled-quiet _ _ _ _ _ c.args.aim _ _ c.requires.aimed refl c.requires.known_2
+    (settled-quiet _ _ _ _ c.args.known c.args.aim _ _ c.requires.aimed refl c.requires.known_2
     c.settle.ensures)
 
 pub cut_pair-requires : goal.cut_pair-requires

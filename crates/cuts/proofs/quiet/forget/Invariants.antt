@@ -1,9 +1,7 @@
-use Prim.Native.Nat.{◌≤◌, ◌-◌}
-use Rattle.cuts.proofs.Quieting.{Forgotten}
+use mathlib.Core.Path.{◌≡◌}
+use Prim.Native.Nat.{ℕ, ◌<◌}
+use lib.ListN.{get_or}
 use Rattle.cuts.proofs.quiet.forget.Given as goal
 
 abbrev pub invariant-loop-b : goal.invariant-loop-b
-invariant-loop-b l = (l.b ≤ l.end) × Forgotten l.quiet l.b
-
-abbrev pub decreases-loop-b : goal.decreases-loop-b
-decreases-loop-b l = l.end - l.b
+invariant-loop-b l = (x : ℕ) → x < l.b → get_or l.quiet x 0 ≡ 0

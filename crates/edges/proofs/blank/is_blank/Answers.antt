@@ -1,51 +1,32 @@
-use native.Mathlib.Omega.{arith}
-use mathlib.Core.Path.{sym, ap, ◌∙◌}
-use borrow.Author.Tests.{not-true, not-false}
-use Rattle.model.specs.Utf8.{is_within_any, white_spaces}
-use Rattle.edges.proofs.Blankness.{blank_none, not-blank, blank-on, blank-all, sequence-fits}
+use Rattle.std.proofs.Common.{◌≡◌, sym, refl, ◌∙◌, arith, length}
+use borrow.Author.Tests.{eqb-false, eqb-true}
+use Rattle.edges.proofs.Blankness.{taken, taken-is, taken-fits, blank-turn, blank_none}
 use Rattle.edges.proofs.blank.is_blank.Goals as goal
 
-pub loop-i-init : goal.loop-i-init
-loop-i-init c = blank_none _
-
-pub code_point-requires : goal.code_point-requires
-code_point-requires c =
-    record {
-      i_in_bounds = omega arith;
-      n_in_bounds = sequence-fits c.args.s.now c.loop-i.i _ c.sequence_at-n.ensures;
-    }
+pub split_at-requires : goal.split_at-requires
+split_at-requires c =
+    let s = c.loop-rest.rest.now in
+    let some = eqb-false (length s) 0 (sym c.is_empty.ensures ∙ c.loop-rest-test.true) in
+    let e : c.unwrap_or-n.result ≡ taken s = c.unwrap_or-n.ensures ∙ taken-is s _ c.sequence_at.ensures in
+    omega (arith, e, taken-fits s (omega arith))
 
 pub returns-then-not-is_white_space : goal.returns-then-not-is_white_space
 returns-then-not-is_white_space c =
-    not-blank c.args.s.now
-    c.loop-i.i c.loop-i-test.true
-    c.loop-i.invariant _ c.sequence_at-n.ensures
-    (ap (λ k. is_within_any k white_spaces) (sym c.code_point.ensures) ∙ sym c.is_white_space.ensures
-    ∙ not-true _ c.if-not-is_white_space.true-raw)
+    let s = c.loop-rest.rest.now in
+    let some = eqb-false (length s) 0 (sym c.is_empty.ensures ∙ c.loop-rest-test.true) in
+    let e = blank-turn s _ _ _ _ _ (omega arith) (c.unwrap_or-n.ensures ∙ taken-is s _ c.sequence_at.ensures) c.split_at.ensures.front
+    c.split_at.ensures.back c.code_point.ensures c.is_white_space.ensures in
+    sym (e ∙ rw c.if-not-is_white_space.true refl) ∙ c.loop-rest.invariant
 
-pub overflow_add-i : goal.overflow_add-i
-overflow_add-i c =
-    omega (
-      arith,
-      sequence-fits c.args.s.now
-          c.loop-i.i _ c.sequence_at-n.ensures,
-    )
-
-pub loop-i-smaller : goal.loop-i-smaller
-loop-i-smaller c =
-    omega (
-      arith,
-      sequence-fits c.args.s.now
-          c.loop-i.i _ c.sequence_at-n.ensures,
-    )
-
-pub loop-i-preserved : goal.loop-i-preserved
-loop-i-preserved c =
-    rw c.taken-i.ensures (blank-on c.args.s.now
-    c.loop-i.i c.loop-i-test.true
-    c.loop-i.invariant _ c.sequence_at-n.ensures
-    (ap (λ k. is_within_any k white_spaces) (sym c.code_point.ensures)
-    ∙ sym c.is_white_space.ensures ∙ not-false _ c.if-not-is_white_space.false-raw))
+pub loop-rest-preserved : goal.loop-rest-preserved
+loop-rest-preserved c =
+    let s = c.loop-rest.rest.now in
+    let some = eqb-false (length s) 0 (sym c.is_empty.ensures ∙ c.loop-rest-test.true) in
+    let e = blank-turn s _ _ _ _ _ (omega arith) (c.unwrap_or-n.ensures ∙ taken-is s _ c.sequence_at.ensures) c.split_at.ensures.front
+    c.split_at.ensures.back c.code_point.ensures c.is_white_space.ensures in
+    sym (e ∙ rw c.if-not-is_white_space.false refl) ∙ c.loop-rest.invariant
 
 pub returns : goal.returns
-returns c = blank-all _ _ c.loop-i.invariant c.loop-i-test.false
+returns c =
+    blank_none c.loop-rest.rest.now (eqb-true _ 0 (sym c.is_empty.ensures ∙ c.loop-rest-test.false))
+    ∙ c.loop-rest.invariant

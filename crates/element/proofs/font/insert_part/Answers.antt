@@ -1,46 +1,26 @@
 use native.Mathlib.Omega.{arith}
-use Rattle.element.proofs.Fonts.{held_place, held-part, part-row, part-inserted, part-passed}
+use Rattle.element.proofs.Fonts.{held_place, held-part, part-inserted, part-passed}
 use Rattle.element.proofs.font.insert_part.Goals as goal
 
-pub value_of-whole-requires : goal.value_of-whole-requires
-value_of-whole-requires c =
-    let held = c.requires.held in
-    held_place _ _ _ held
+pub returns-in_default : goal.returns-in_default
+returns-in_default c = part-passed _ _ c.args.v c.requires.held _ _ _ _ _ _ c.in_default.ensures.same c.requires.space
 
-pub overflow_cast-part : goal.overflow_cast-part
-overflow_cast-part c =
+pub overflow_cast-value : goal.overflow_cast-value
+overflow_cast-value c =
     let held = c.requires.held in
-    omega (
-      arith,
-      held-part _ _ _ held _ _ c.reading_of.ensures.same _ _ c.in-At.is,
-      held.small,
-    )
+    omega (arith, held-part _ _ _ held _ _ c.in-Some.ensures.same, held.small)
+
+pub value_of-requires : goal.value_of-requires
+value_of-requires c = held_place _ _ _ c.requires.held
 
 pub insert_attribute-requires : goal.insert_attribute-requires
 insert_attribute-requires c =
-    let held = c.requires.held in record {
+    record {
       space = c.requires.space;
       above = c.requires.above;
-      size_in_bounds = held-part _ _ _ held _ _ c.reading_of.ensures.same _ _
-          c.in-At.is;
+      size_in_bounds = held-part _ _ _ c.requires.held _ _ c.in-Some.ensures.same;
     }
 
-pub returns-in-At : goal.returns-in-At
-returns-in-At c =
-    let held = c.requires.held in
-    rw (← part-row
-    c.args.k)
-    (part-inserted _ _
-    c.args.v held _ _
-    _ _ _ _ _ c.reading_of.ensures.same _ _
-    c.in-At.is _
-    c.value_of-whole.ensures _ _
-    c.insert_attribute.ensures)
-
-pub returns-in-Nothing : goal.returns-in-Nothing
-returns-in-Nothing c =
-    let held = c.requires.held in
-    rw (← part-row c.args.k)
-    (part-passed _ _ c.args.v held _ _ _ _ _ _ _
-    c.reading_of.ensures.same c.in-Nothing.is
-    c.requires.space)
+pub returns : goal.returns
+returns c =
+    part-inserted _ _ c.args.v c.requires.held _ _ _ _ _ _ _ c.in-Some.ensures.same _ c.value_of.ensures _ _ c.insert_attribute.ensures

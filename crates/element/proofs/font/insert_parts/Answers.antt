@@ -1,80 +1,33 @@
+use Rattle.std.proofs.lemmas.Result.{err_from_is_err_and}
 use Rattle.model.specs.Element.{font_parts}
 use Rattle.element.specs.Font.{parts_of}
-use native.Mathlib.Omega.{arith}
-use lib.ListN.{drop_of_length-le}
-use Rattle.element.proofs.Fonts.{rows-from, parts-steady, parts-long}
-use Rattle.element.proofs.Steps.{at_first, step-on, step-full, at-end}
+use Rattle.element.proofs.Fonts.{rows-from, rows_end, parts-steady}
+use Rattle.entries.proofs.Steps.{at_first, step-on, step-full, at-end}
 use Rattle.element.proofs.font.insert_parts.Goals as goal
 
-pub loop-k-init : goal.loop-k-init
-loop-k-init c = (
-  omega arith,
-  at_first (parts_of _ _ _ c.args.place
-      c.args.important c.args.v) _
-      c.args.place _ c.requires.space _,
-)
+pub loop-kind-init : goal.loop-kind-init
+loop-kind-init c = at_first (parts_of _ _ _ c.args.place c.args.important c.args.v) _ c.args.place _ c.requires.space _
 
 pub insert_part-requires : goal.insert_part-requires
-insert_part-requires c =
-    record {
-      space = c.loop-k.invariant.1.on.space;
-      above = c.requires.above;
-      held = c.requires.held;
-      k_bound = c.loop-k-test.true;
-    }
+insert_part-requires c = record { space = c.loop-kind.invariant.on.space; above = c.requires.above; held = c.requires.held }
 
-pub shape_of-attributes-in-Full : goal.shape_of-attributes-in-Full
-shape_of-attributes-in-Full c =
-    let full = step-full _ _ _ (parts-steady _ _ _ _ _
-    c.requires.above _
-    c.args.v) _ _ _ _ _
-    (rw (rows-from font_parts c.loop-k.k
-    (omega (arith, parts-long, c.loop-k-test.true))) at
-    c.loop-k.invariant.1) _ _
-    c.insert_part.ensures c.in-Full.is in
-    full.long
+pub returns-in_err-n : goal.returns-in_err-n
+unfolding font_parts
+returns-in_err-n c =
+    let p = err_from_is_err_and c.from_residual.result c.from_residual.ensures.1 in
+    let left = rw (rows-from font_parts c.loop-kind.kind-index (0, 0) c.loop-kind-test.true) at c.loop-kind.invariant in
+    let steady = parts-steady _ _ _ _ _ c.requires.above _ c.args.v in
+    step-full _ _ _ steady _ _ _ _ _ left _ _ c.insert_part.ensures _ _ _ c.in_err-n.was p.1 p.2
 
-pub returns-in-Full : goal.returns-in-Full
-returns-in-Full c =
-    let full = step-full _ _ _ (parts-steady _ _ _ _ _
-    c.requires.above _
-    c.args.v) _ _ _ _ _
-    (rw (rows-from font_parts c.loop-k.k
-    (omega (arith, parts-long, c.loop-k-test.true))) at
-    c.loop-k.invariant.1) _ _
-    c.insert_part.ensures c.in-Full.is in
-    full
-
-pub overflow_add-k : goal.overflow_add-k
-overflow_add-k c = omega arith
-
-pub loop-k-smaller : goal.loop-k-smaller
-loop-k-smaller c = omega arith
-
-pub loop-k-preserved : goal.loop-k-preserved
-loop-k-preserved c = (
-  omega arith,
-  step-on _ _ _ (parts-steady _ _ _ _ _
-      c.requires.above _
-      c.args.v) _ _ _ _
-      _ (rw (rows-from font_parts c.loop-k.k
-      (omega (arith, parts-long, c.loop-k-test.true))) at
-      c.loop-k.invariant.1) _ _
-      c.insert_part.ensures _ c.in-Next.is,
-)
-
-pub shape_of-attributes : goal.shape_of-attributes
-shape_of-attributes c =
-    let end = at-end _ _ _ (parts-steady _ _ _ _ _ c.requires.above _
-    c.args.v) _ _ _
-    (rw (drop_of_length-le font_parts {i = c.loop-k.k} (omega (arith, parts-long, c.loop-k-test.false))) at
-    c.loop-k.invariant.1) in
-    end.long
+pub loop-kind-preserved : goal.loop-kind-preserved
+unfolding font_parts
+loop-kind-preserved c =
+    let left = rw (rows-from font_parts c.loop-kind.kind-index (0, 0) c.loop-kind-test.true) at c.loop-kind.invariant in
+    let steady = parts-steady _ _ _ _ _ c.requires.above _ c.args.v in
+    step-on _ _ _ steady _ _ _ _ _ left _ _ c.insert_part.ensures _ c.in_ok-n.was
 
 pub returns : goal.returns
+unfolding font_parts
 returns c =
-    let end = at-end _ _ _ (parts-steady _ _ _ _ _ c.requires.above _
-    c.args.v) _ _ _
-    (rw (drop_of_length-le font_parts {i = c.loop-k.k} (omega (arith, parts-long, c.loop-k-test.false))) at
-    c.loop-k.invariant.1) in
-    end
+    at-end _ _ _ (parts-steady _ _ _ _ _ c.requires.above _ c.args.v) _ _ _
+    (rw (rows_end font_parts c.loop-kind.kind-index c.loop-kind-test.false) at c.loop-kind.invariant)

@@ -1,53 +1,33 @@
-use Rattle.entries.proofs.Inserting.{inserts-more, two-more, then-inserted, on-told, full-told}
+use lib.ListN.{drop_of_length-le}
+use Rattle.std.proofs.lemmas.Result.{err_from_is_err_and}
+use Rattle.entries.specs.Space.{inserted}
+use Rattle.entries.proofs.Steps.{at_first, step-on, step-full, at-end, inserts-steady, markers, markers-from}
 use Rattle.entries.proofs.insert.insert_marker.Goals as goal
 
-pub returns-in_default : goal.returns-in_default
-returns-in_default c =
-    full-told _ _ c.requires.space.room _ _ _
-    c.insert_attribute-first.ensures c.in_default.is _
-    (two-more _ _ _ _ _)
-
-pub insert_attribute-mid-requires : goal.insert_attribute-mid-requires
-insert_attribute-mid-requires c =
-    let on = on-told _ _ c.requires.space.room
-    _ _ _ c.insert_attribute-first.ensures _ c.in-Next.is in record {
-      space = on.space;
-      above = c.requires.above;
-      size_in_bounds = c.requires.size_in_bounds;
-    }
-
-pub returns-in_default-mid : goal.returns-in_default-mid
-returns-in_default-mid c =
-    let on = on-told _ _ c.requires.space.room _ _ _
-    c.insert_attribute-first.ensures _
-    c.in-Next.is in
-    let two = then-inserted _ _ _ _ c.requires.above
-    c.requires.space.room _ _ _ on _ _ _ _ _ c.insert_attribute-mid.ensures in
-    full-told _ _ c.requires.space.room _ _ _ two c.in_default-mid.is _ (inserts-more _ _ _)
+pub loop-name-init : goal.loop-name-init
+loop-name-init c =
+    let args = c.args in
+    at_first (λ m. inserted args.nodes.now m args.characters.now args.place args.important args.value) _ _ _ c.requires.space _
 
 pub insert_attribute-requires : goal.insert_attribute-requires
 insert_attribute-requires c =
-    let on = on-told _ _ c.requires.space.room _ _ _
-    c.insert_attribute-first.ensures _ c.in-Next.is in
-    let two = then-inserted _ _ _ _ c.requires.above
-    c.requires.space.room _ _ _ on _ _ _ _ _
-    c.insert_attribute-mid.ensures in
-    let on-two = on-told _ _ c.requires.space.room _ _ _ two _ c.in-Next-mid.is in record {
-      space = on-two.space;
-      above = c.requires.above;
-      size_in_bounds = c.requires.size_in_bounds;
-    }
+    record { space = c.loop-name.invariant.on.space; above = c.requires.above; size_in_bounds = c.requires.size_in_bounds }
+
+pub returns-in_err-n : goal.returns-in_err-n
+returns-in_err-n c =
+    let steady = inserts-steady _ _ c.args.characters.now _ c.requires.above c.args.important c.args.value in
+    let left = rw (markers-from c.loop-name.name-index c.loop-name-test.true) at c.loop-name.invariant in
+    let p = err_from_is_err_and c.from_residual.result c.from_residual.ensures.1 in
+    step-full _ _ _ steady _ _ _ _ _ left _ _ c.insert_attribute.ensures _ _ _ c.in_err-n.was p.1 p.2
+
+pub loop-name-preserved : goal.loop-name-preserved
+loop-name-preserved c =
+    let steady = inserts-steady _ _ c.args.characters.now _ c.requires.above c.args.important c.args.value in
+    let left = rw (markers-from c.loop-name.name-index c.loop-name-test.true) at c.loop-name.invariant in
+    step-on _ _ _ steady _ _ _ _ _ left _ _ c.insert_attribute.ensures _ c.in_ok-n.was
 
 pub returns : goal.returns
 returns c =
-    let on = on-told _ _ c.requires.space.room _ _ _
-    c.insert_attribute-first.ensures _
-    c.in-Next.is in
-    let two = then-inserted _ _ _ _ c.requires.above
-    c.requires.space.room _ _ _ on _ _ _ _ _
-    c.insert_attribute-mid.ensures in
-    let on-two = on-told _ _ c.requires.space.room _ _ _ two _
-    c.in-Next-mid.is in
-    then-inserted _ _ _ _ c.requires.above
-    c.requires.space.room _ _ _ on-two _ _ _ _ _
-    c.insert_attribute.ensures
+    let steady = inserts-steady _ _ c.args.characters.now _ c.requires.above c.args.important c.args.value in
+    at-end _ _ _ steady _ _ _
+    (rw (drop_of_length-le markers {i = c.loop-name.name-index} c.loop-name-test.false) at c.loop-name.invariant)

@@ -2,6 +2,7 @@ use mathlib.Core.Path.{◌∙◌, sym, ap}
 use mathlib.Core.Bool.{not}
 use borrow.Author.Tests.{eq-eqb, ne_eqb}
 use Rattle.model.proofs.Theorems.Inside.{first-none}
+use Rattle.tree.proofs.Bools.{fails, passes}
 use Rattle.exchange.proofs.Faults.{first-hit, first-miss}
 use Rattle.exchange.proofs.fault.text_fault.Goals as goal
 
@@ -11,14 +12,14 @@ returns-then-in_style c = first-hit 31 _ _ c.if-in_style.true
 pub returns-then-new-len : goal.returns-then-new-len
 returns-then-new-len c = first-hit 32 _ _ (ap not (ne_eqb _ _ c.if-new-len.true)) ∙ first-miss 31 _ _ c.if-in_style.false
 
-pub returns-then-is_utf8 : goal.returns-then-is_utf8
-returns-then-is_utf8 c =
-    sym first-none ∙ first-miss 33 _ _ (ap not (sym c.is_utf8.ensures ∙ c.if-is_utf8.true))
+pub returns-then-not-is_utf8 : goal.returns-then-not-is_utf8
+returns-then-not-is_utf8 c =
+    first-hit 33 _ _ (ap not (fails c.is_utf8.ensures c.if-not-is_utf8.true-raw))
     ∙ first-miss 32 _ _ (ap not (eq-eqb _ _ c.if-new-len.false))
     ∙ first-miss 31 _ _ c.if-in_style.false
 
 pub returns : goal.returns
 returns c =
-    first-hit 33 _ _ (ap not (sym c.is_utf8.ensures ∙ c.if-is_utf8.false))
+    sym first-none ∙ first-miss 33 _ _ (ap not (passes c.is_utf8.ensures c.if-not-is_utf8.false-raw))
     ∙ first-miss 32 _ _ (ap not (eq-eqb _ _ c.if-new-len.false))
     ∙ first-miss 31 _ _ c.if-in_style.false

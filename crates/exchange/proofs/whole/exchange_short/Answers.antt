@@ -1,40 +1,23 @@
-use Prim.Native.Nat.{ℕ}
-use native.Mathlib.Omega.{arith}
-use lib.ListN.{replicate, length-replicate}
-use Rattle.exchange.proofs.Bytes.{back-room, undone}
-use Rattle.exchange.proofs.Settling.{after-put, change-stays, change-undone}
+use mathlib.Core.Path.{refl, sym, ◌∙◌}
+use Rattle.exchange.proofs.Bytes.{copied, undone}
+use Rattle.exchange.proofs.Settling.{not-refused, is-refused, after-put, change-stays, change-undone}
 use Rattle.exchange.proofs.whole.exchange_short.Goals as goal
 
 pub build_checked-built-requires : goal.build_checked-built-requires
 build_checked-built-requires c =
-    after-put _ _ _ _ c.requires.changeable 0 0 0 _
-    c.put_bytes-2.ensures
-
-pub put_bytes-requires-then-is_refused : goal.put_bytes-requires-then-is_refused
-put_bytes-requires-then-is_refused c =
-    back-room c.args.characters.now c.args.new.now _
-    c.requires.changeable.within (replicate 256 0) _ _
-    c.put_bytes.ensures
-    c.put_bytes-2.ensures
+    let change = c.requires.changeable in
+    after-put _ _ _ _ change 0 0 0 _ (copied _ _ _ _ c.copy_from_slice-2.ensures.after change.within)
 
 pub returns-then-is_refused : goal.returns-then-is_refused
 returns-then-is_refused c =
-    change-undone _ _ _ _ c.requires.changeable _ _ _ _ _ _ _ _
-    c.put_bytes-2.ensures
-    c.build_checked-built.ensures c.if-is_refused.true _
-    (undone c.args.characters.now
-    c.args.new.now _
-    c.requires.changeable.within (replicate 256 0) _ _
-    c.put_bytes.ensures
-    c.put_bytes-2.ensures
-    (omega (
-      arith,
-      length-replicate {A = ℕ} 256 0,
-      c.requires.len_bound,
-    )) _
-    c.put_bytes-then-is_refused.ensures)
+    let change = c.requires.changeable in
+    change-undone _ _ _ _ change _ _ _ _ _ _ _ _ (copied _ _ _ _ c.copy_from_slice-2.ensures.after change.within)
+    c.build_checked-built.ensures (is-refused _ (sym c.is_err-is_refused.ensures.value ∙ c.if-is_refused.true)) _
+    (undone _ _ _ change.within _ _ _ _ refl c.copy_from_slice.ensures.after c.copy_from_slice-then-is_refused.ensures.after _
+    c.copy_from_slice-2.ensures.after)
 
 pub returns-else-is_refused : goal.returns-else-is_refused
 returns-else-is_refused c =
-    change-stays _ _ _ _ c.requires.changeable _ _ _ _ _ _ _ _ c.put_bytes-2.ensures
-    c.build_checked-built.ensures c.if-is_refused.false
+    let change = c.requires.changeable in
+    change-stays _ _ _ _ change _ _ _ _ _ _ _ _ (copied _ _ _ _ c.copy_from_slice-2.ensures.after change.within)
+    c.build_checked-built.ensures (not-refused _ (sym c.is_err-is_refused.ensures.value ∙ c.if-is_refused.false))

@@ -1,5 +1,4 @@
 use native.Mathlib.Omega.{arith}
-use borrow.Author.Tests.{not-true, not-false}
 use Rattle.tree.proofs.Facts.{readable-in}
 use Rattle.ids.proofs.Likeness.{like-itself, like-tidy}
 use Rattle.ids.proofs.Chaining.{linking-first, linking-next, linking-stop, linking-done}
@@ -19,12 +18,12 @@ chain_one-requires c =
 pub shape_of-attributes-then-not-chain_one : goal.shape_of-attributes-then-not-chain_one
 shape_of-attributes-then-not-chain_one c =
     (linking-stop _ _ _ _ _ _ _ c.loop-i.invariant _ _ _
-    c.chain_one.ensures (not-true _ c.if-not-chain_one.true-raw)).0.long
+    c.chain_one.ensures c.if-not-chain_one.true).0.long
 
 pub returns-then-not-chain_one : goal.returns-then-not-chain_one
 returns-then-not-chain_one c =
     let whole = linking-stop _ _ _ _ _ _ _ c.loop-i.invariant _ _ _
-    c.chain_one.ensures (not-true _ c.if-not-chain_one.true-raw) in
+    c.chain_one.ensures c.if-not-chain_one.true in
     record { like = whole.0; indexed = whole.1 }
 
 pub loop-i-preserved : goal.loop-i-preserved
@@ -33,7 +32,7 @@ loop-i-preserved c =
     c.requires.tidy _ _ _
     c.loop-i.invariant
     c.loop-i-test.true _ _ _ c.chain_one.ensures
-    (not-false _ c.if-not-chain_one.false-raw)
+    c.if-not-chain_one.false
 
 pub shape_of-attributes : goal.shape_of-attributes
 shape_of-attributes c = c.loop-i.invariant.like.long

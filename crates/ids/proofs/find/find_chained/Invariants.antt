@@ -1,9 +1,9 @@
-use Rattle.tree.specs.Lent.{read_of}
+use Rattle.tree.specs.Lent.{plus_one, read_of}
 use Rattle.ids.proofs.Hunting.{Hunting}
 use Rattle.ids.proofs.find.find_chained.Given as goal
 
-abbrev pub invariant-loop-n : goal.invariant-loop-n
-invariant-loop-n l = Hunting l.characters (read_of l.nodes l.attributes) l.id l.count l.n
+abbrev pub invariant-loop-last : goal.invariant-loop-last
+invariant-loop-last l = Hunting l.characters (read_of l.nodes l.attributes) l.id l.count (plus_one l.last)
 
-abbrev pub decreases-loop-n : goal.decreases-loop-n
-decreases-loop-n l = l.n
+abbrev pub decreases-loop-last : goal.decreases-loop-last
+decreases-loop-last l = plus_one l.last

@@ -2,6 +2,7 @@ use native.Mathlib.Omega.{arith}
 use mathlib.Core.Path.{sym, ap, ◌∙◌}
 use lib.Dec.{eqb}
 use Rattle.walk.specs.Nodes.{element_of}
+use Rattle.std.proofs.lemmas.Result.{err_from_is_err_and}
 use Rattle.tree.proofs.Bools.{fails, passes}
 use Rattle.pieces.specs.Content.{tag_in}
 use Rattle.label.proofs.Holders.{reads}
@@ -48,11 +49,8 @@ get_xmlspace-space-requires c =
     c.if-not-is_text_content.false-raw in
     let named = c.text_tag_of.ensures
     ∙ ap tag_in c.code_of-code.ensures in
-    let nodes = element-behind _ _ _ _
-    c.parse_svg_element.ensures.behind _ _
-    c.in-Done.is in
-    let told = element-done _ _ _ _ _ (c.parse_svg_element.ensures.outcome c.args.text.now) _ _
-    c.in-Done.is in
+    let nodes = element-behind _ _ _ _ c.parse_svg_element.ensures.behind _ c.in_ok-opened.was in
+    let told = element-done _ _ _ _ _ (c.parse_svg_element.ensures.outcome c.args.text.now) _ c.in_ok-opened.was in
     reads _ _ _ _ _ _ (tref-holds _ _ _ _ _ _ _ within _ opens is _ named _ _ _ _ _ nodes told) _ (omega arith)
 
 pub push-more-requires : goal.push-more-requires
@@ -69,11 +67,8 @@ returns-then-is_read c =
     let is = sym content ∙ passes c.is_text_content.ensures
     c.if-not-is_text_content.false-raw in
     let named = c.text_tag_of.ensures ∙ ap tag_in c.code_of-code.ensures in
-    let nodes = element-behind _ _ _ _ c.parse_svg_element.ensures.behind _ _
-    c.in-Done.is in
-    let told = element-done _ _ _ _ _ (c.parse_svg_element.ensures.outcome
-    c.args.text.now) _ _
-    c.in-Done.is in
+    let nodes = element-behind _ _ _ _ c.parse_svg_element.ensures.behind _ c.in_ok-opened.was in
+    let told = element-done _ _ _ _ _ (c.parse_svg_element.ensures.outcome c.args.text.now) _ c.in_ok-opened.was in
     let on = goes_in _ _ _ _ _ _ _ within _ opens is _ named _ _ _ _ _ nodes told _
     c.get_xmlspace-space.ensures
     (λ z. c.if-is_read.true (c.code_of-code.ensures ∙ z)) in
@@ -88,10 +83,8 @@ add_quoted-requires c =
     let is = sym content ∙ passes c.is_text_content.ensures
     c.if-not-is_text_content.false-raw in
     let named = c.text_tag_of.ensures ∙ ap tag_in c.code_of-code.ensures in
-    let nodes = element-behind _ _ _ _ c.parse_svg_element.ensures.behind _ _
-    c.in-Done.is in
-    let told = element-done _ _ _ _ _ (c.parse_svg_element.ensures.outcome
-    c.args.text.now) _ _ c.in-Done.is in record {
+    let nodes = element-behind _ _ _ _ c.parse_svg_element.ensures.behind _ c.in_ok-opened.was in
+    let told = element-done _ _ _ _ _ (c.parse_svg_element.ensures.outcome c.args.text.now) _ c.in_ok-opened.was in record {
       holding = tref-holds _ _ _ _ _ _ _ within _ opens is _ named _ _ _ _ _ nodes told;
       space_value = new-space _ _ _ _ _ _ _ within _ opens is _ named _ _ _ _ _ nodes told
           c.get_xmlspace-space.result c.get_xmlspace-space.ensures;
@@ -102,12 +95,11 @@ add_quoted-requires c =
 
 pub past_element-past-requires : goal.past_element-past-requires
 past_element-past-requires c =
-    let nodes = element-behind _ _ _ _ c.parse_svg_element.ensures.behind _ _
-    c.in-Done.is in
+    let nodes = element-behind _ _ _ _ c.parse_svg_element.ensures.behind _ c.in_ok-opened.was in
     nodes.fit
 
-pub returns-in-Refused : goal.returns-in-Refused
-returns-in-Refused c =
+pub returns-in_err-opened : goal.returns-in_err-opened
+returns-in_err-opened c =
     let content = content-is (element_of c.args.script.now
     c.args.characters.now
     c.args.x)
@@ -120,12 +112,12 @@ returns-in-Refused c =
     c.if-not-is_text_content.false-raw in
     let named = c.text_tag_of.ensures
     ∙ ap tag_in c.code_of-code.ensures in
-    element-refused _ _ _ _ _ _ _ within _ opens is _ named _
-    (element-none _ _ _ _ _ (c.parse_svg_element.ensures.outcome _) _
-    c.in-Refused.is)
+    let out = err_from_is_err_and c.from_residual.result c.from_residual.ensures.1 in
+    rw (out.1, out.2) (element-refused _ _ _ _ _ _ _ within _ opens is _ named _
+    (element-none _ _ _ _ _ (c.parse_svg_element.ensures.outcome _) _ c.in_err-opened.was))
 
-pub returns-in-Refused-add_quoted : goal.returns-in-Refused-add_quoted
-returns-in-Refused-add_quoted c =
+pub returns-in_err-all : goal.returns-in_err-all
+returns-in_err-all c =
     let content = content-is (element_of c.args.script.now
     c.args.characters.now
     c.args.x)
@@ -136,27 +128,19 @@ returns-in-Refused-add_quoted c =
     let is = sym content ∙ passes c.is_text_content.ensures c.if-not-is_text_content.false-raw in
     let named = c.text_tag_of.ensures
     ∙ ap tag_in c.code_of-code.ensures in
-    let nodes = element-behind _ _ _ _ c.parse_svg_element.ensures.behind _ _
-    c.in-Done.is in
-    let told = element-done _ _ _ _ _ (c.parse_svg_element.ensures.outcome
-    c.args.text.now) _ _
-    c.in-Done.is in
+    let nodes = element-behind _ _ _ _ c.parse_svg_element.ensures.behind _ c.in_ok-opened.was in
+    let told = element-done _ _ _ _ _ (c.parse_svg_element.ensures.outcome c.args.text.now) _ c.in_ok-opened.was in
     let tref = sym c.code_of-code.ensures
     ∙ c.if-is_read.false in
-    tref-refused _ _ _ _ _ _ _ within _ opens is _ named _ _ _ _ _ nodes told tref _
-    (append-none _ _ _ _ _ c.add_quoted.ensures _
-    c.in-Refused-add_quoted.is)
+    let out = err_from_is_err_and c.from_residual-in_err-all.result c.from_residual-in_err-all.ensures.1 in
+    rw (out.1, out.2) (tref-refused _ _ _ _ _ _ _ within _ opens is _ named _ _ _ _ _ nodes told tref _
+    (append-none _ _ _ _ _ c.add_quoted.ensures _ c.in_err-all.was))
 
-pub shape_of-nodes-in-Done-add_quoted : goal.shape_of-nodes-in-Done-add_quoted
-shape_of-nodes-in-Done-add_quoted c =
-    c.nodes-in-Done-1.given
-    ∙ c.nodes-1.given
+pub shape_of-nodes : goal.shape_of-nodes
+shape_of-nodes c = c.nodes-2-1.given ∙ c.nodes-1.given
 
-pub shape_of-attributes-in-Done-add_quoted : goal.shape_of-attributes-in-Done-add_quoted
-shape_of-attributes-in-Done-add_quoted c = c.attributes-1.given
-
-pub returns-in-Done-add_quoted : goal.returns-in-Done-add_quoted
-returns-in-Done-add_quoted c =
+pub returns : goal.returns
+returns c =
     let content = content-is (element_of c.args.script.now
     c.args.characters.now
     c.args.x)
@@ -169,14 +153,12 @@ returns-in-Done-add_quoted c =
     c.if-not-is_text_content.false-raw in
     let named = c.text_tag_of.ensures
     ∙ ap tag_in c.code_of-code.ensures in
-    let nodes = element-behind _ _ _ _ c.parse_svg_element.ensures.behind _ _ c.in-Done.is in
-    let told = element-done _ _ _ _ _ (c.parse_svg_element.ensures.outcome
-    c.args.text.now) _ _
-    c.in-Done.is in
+    let nodes = element-behind _ _ _ _ c.parse_svg_element.ensures.behind _ c.in_ok-opened.was in
+    let told = element-done _ _ _ _ _ (c.parse_svg_element.ensures.outcome c.args.text.now) _ c.in_ok-opened.was in
     let tref = sym c.code_of-code.ensures
     ∙ c.if-is_read.false in
     let done = append-done _ _ _ _ _ c.add_quoted.ensures _
-    c.in-Done-add_quoted.is in
+    c.in_ok-all.was in
     let on = goes-tref _ _ _ _ _ _ _ within _ opens is _ named _ _ _ _ _ nodes told tref _ _ _ done _
     c.past_element-past.ensures.same c.past_element-past.ensures.fit c.past_element-past.ensures.further in
     (on.0, on.1, tref-recalled _ _ _ _ _ _ _ within _ opens is _ named _ _ _ _ _ nodes told tref _ _ _ done _ _ recalled)

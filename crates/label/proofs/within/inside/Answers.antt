@@ -3,11 +3,12 @@ use mathlib.Core.Path.{refl, ◌∙◌}
 use native.Mathlib.Omega.{arith}
 use Prim.Native.Nat.{ℕ}
 use lib.ListN.{length-replicate}
-use Rattle.label.proofs.Walking.{goes_none, goes_on, ends_on, turn-told}
+use Rattle.std.proofs.lemmas.Result.{err_from_is_err_and}
+use Rattle.label.proofs.Walking.{goes_none, goes_on, ends_on, turn-flow, turn-none}
 use Rattle.label.proofs.within.inside.Goals as goal
 
-pub loop-n-init : goal.loop-n-init
-loop-n-init c = (
+pub loop-turn-init : goal.loop-turn-init
+loop-turn-init c = (
   goes_none _ _ _ _ _ _ _ c.requires.within,
   c.nothing-levels.ensures _ (length-replicate {A = ℕ} 32 0) _,
   refl,
@@ -16,38 +17,29 @@ loop-n-init c = (
 )
 
 pub advance-requires : goal.advance-requires
-advance-requires c =
-    record {
-      within = c.loop-n.invariant.0.within;
-      recalled = c.loop-n.invariant.1;
-      memo = c.requires.memo;
-    }
+advance-requires c = record { within = c.loop-turn.invariant.0.within; recalled = c.loop-turn.invariant.1; memo = c.requires.memo }
 
-pub loop-n-smaller : goal.loop-n-smaller
-loop-n-smaller c =
-    let on = turn-told _ _ _ _ _ _ _ _ _ _ _ _ _ c.in-On.is
-    c.advance.ensures in
+pub loop-turn-smaller : goal.loop-turn-smaller
+loop-turn-smaller c =
+    let on = turn-flow _ _ _ _ _ _ _ _ _ _ _ _ c.advance.ensures _ _ c.in_ok-turn.was c.in-Continue.is in
     omega (arith, on.1, on.0.within.fit.at)
 
-pub loop-n-preserved : goal.loop-n-preserved
-loop-n-preserved c =
-    let on = turn-told _ _ _ _ _ _ _ _ _ _ _ _ _ c.in-On.is
-    c.advance.ensures in (
-      goes_on _ _ _ _ _ _ _ _ _ _ _ c.loop-n.invariant.0 _ _ _ _ on.0,
+pub loop-turn-preserved : goal.loop-turn-preserved
+loop-turn-preserved c =
+    let on = turn-flow _ _ _ _ _ _ _ _ _ _ _ _ c.advance.ensures _ _ c.in_ok-turn.was c.in-Continue.is in (
+      goes_on _ _ _ _ _ _ _ _ _ _ _ c.loop-turn.invariant.0 _ _ _ _ on.0,
       on.2,
       search rules,
       search rules,
       search rules,
     )
 
-pub returns-in-Refused : goal.returns-in-Refused
-returns-in-Refused c =
-    turn-told _ _ _ _ _ _ _ _ _ _ _ _ _ c.in-Refused.is
-    c.advance.ensures
-    ∙ c.loop-n.invariant.0.same
+pub returns-in_err-turn : goal.returns-in_err-turn
+returns-in_err-turn c =
+    let out = err_from_is_err_and c.from_residual.result c.from_residual.ensures.1 in
+    rw (out.1, out.2) (turn-none _ _ _ _ _ _ _ _ _ _ _ _ c.advance.ensures _ c.in_err-turn.was ∙ c.loop-turn.invariant.0.same)
 
-pub returns-in-End : goal.returns-in-End
-returns-in-End c =
-    ends_on _ _ _ _ _ _ _ _ _ _ _ c.loop-n.invariant.0 _ _ _ _ _
-    (turn-told _ _ _ _ _ _ _ _ _ _ _ _ _ c.in-End.is
-    c.advance.ensures)
+pub returns-in-Break : goal.returns-in-Break
+returns-in-Break c =
+    ends_on _ _ _ _ _ _ _ _ _ _ _ c.loop-turn.invariant.0 _ _ _ _ _
+    (turn-flow _ _ _ _ _ _ _ _ _ _ _ _ c.advance.ensures _ _ c.in_ok-turn.was c.in-Break.is)

@@ -1,36 +1,25 @@
-use native.Mathlib.Omega.{arith}
-use mathlib.Core.Path.{◌∙◌}
-use Rattle.walk.proofs.Finding.{reading-first}
-use Rattle.leads.proofs.Looking.{looked}
+use Rattle.walk.proofs.Finding.{reading-first, any-kind, any-hit, any-miss, any_none}
 use Rattle.leads.proofs.filter.any_id.Goals as goal
+use Rattle.leads.proofs.filter.any_id.Goals.{else-is_filter-via-then-is_filter+else-is_id, else-is_filter-via-else-is_filter}
 
-pub loop-next-init : goal.loop-next-init
-loop-next-init c = reading-first _ _ _ _ c.requires.fit
+pub loop-x-init : goal.loop-x-init
+loop-x-init c = reading-first _ _ _ _ c.requires.fit
 
-pub look_at-requires : goal.look_at-requires
-look_at-requires c =
-    record {
-      fit = c.loop-next.invariant.fit;
-      start_le_most_place = c.requires.start_le_most_place;
-      stands = c.requires.stands;
-    }
+pub returns-then-is_id : goal.returns-then-is_id
+returns-then-is_id c =
+    any-hit _ _ _ _ _ _ _ _ c.in-Some.is (c.next_reading.ensures.same, c.next_reading.ensures.fit) _
+    c.loop-x.invariant c.if-is_filter.true _ c.part_at.ensures _ c.is_id.ensures c.if-is_id.true
 
-pub returns-in-Back : goal.returns-in-Back
-returns-in-Back c =
-    let back = looked _ _ _ _ _ _ _ c.in-Back.is c.look_at.ensures in
-    back ∙ c.loop-next.invariant.same
+pub loop-x-preserved : goal.loop-x-preserved
+loop-x-preserved c =
+    elim c.else-is_filter.branch [
+      | else-is_filter-via-then-is_filter+else-is_id w ↦ any-miss _ _ _ _ _ _ _ _ c.in-Some.is
+          (c.next_reading.ensures.same, c.next_reading.ensures.fit) _ c.loop-x.invariant w.if-is_filter.true _ w.part_at.ensures _
+          w.is_id.ensures w.if-is_id.false
+      | else-is_filter-via-else-is_filter w ↦ any-kind _ _ _ _ _ _ _ _ c.in-Some.is
+          (c.next_reading.ensures.same, c.next_reading.ensures.fit) _ c.loop-x.invariant w.if-is_filter.false
+    ]
 
-pub loop-next-smaller : goal.loop-next-smaller
-loop-next-smaller c =
-    let on = looked _ _ _ _ _ _ _ c.in-On.is c.look_at.ensures in
-    omega (arith, on.0, on.1.0.at)
-
-pub loop-next-preserved : goal.loop-next-preserved
-loop-next-preserved c =
-    let on = looked _ _ _ _ _ _ _ c.in-On.is c.look_at.ensures in
-    record { fit = on.1.0; same = on.1.1 ∙ c.loop-next.invariant.same }
-
-pub returns-in-Out : goal.returns-in-Out
-returns-in-Out c =
-    let out = looked _ _ _ _ _ _ _ c.in-Out.is c.look_at.ensures in
-    out ∙ c.loop-next.invariant.same
+pub returns : goal.returns
+returns c =
+    any_none _ _ _ _ _ _ _ _ c.in_default.is (c.next_reading.ensures.same, c.next_reading.ensures.fit) c.loop-x.invariant

@@ -7,9 +7,10 @@ use Rattle.walk.proofs.Finding.{Reading}
 use Rattle.leads.specs.Links.{id_at}
 use Rattle.leads.proofs.filter.any_id.Given as goal
 
-abbrev pub invariant-loop-next : goal.invariant-loop-next
-invariant-loop-next l = Reading (λ s a c. any_reading 4 (id_at l.characters (entries_of l.attributes) l.j) (readings_in s l.characters a
-    c)) l.script l.start l.initial.c l.c
+abbrev pub invariant-loop-x : goal.invariant-loop-x
+invariant-loop-x l =
+    Reading (λ s a c. any_reading 4 (id_at l.characters (entries_of l.attributes) l.j) (readings_in s l.characters a c))
+    l.script l.start l.initial.c l.c
 
-abbrev pub decreases-loop-next : goal.decreases-loop-next
-decreases-loop-next l = length l.script - l.c.at
+abbrev pub decreases-loop-x : goal.decreases-loop-x
+decreases-loop-x l = length l.script - l.c.at

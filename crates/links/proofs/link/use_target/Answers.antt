@@ -8,15 +8,15 @@ returns-then-not-has_tag_name c =
     record {
       same = no-tag _ _ c.args.e _ _
           c.use_href-link.ensures.same _
-          c.linked-node.ensures.same _ c.in-At.is _
+          c.linked.ensures.same _ c.in_ok-l.was _
           c.has_tag_name.ensures (not-true _ c.if-not-has_tag_name.true-raw);
       fit = tt;
     }
 
 pub overflow_add-number : goal.overflow_add-number
 overflow_add-number c =
-    let stands = node-stands _ _ _ c.in-At.is
-    c.linked-node.ensures.fit in
+    let stands = node-stands _ _ _ c.in_ok-l.was
+    c.linked.ensures.fit in
     omega (arith, stands.own.number, stands.own.at, stands.own.size)
 
 pub overflow_add-e : goal.overflow_add-e
@@ -33,8 +33,8 @@ returns-then-number-e c =
     record {
       same = itself _ _ c.args.e _ _
           c.use_href-link.ensures.same _
-          c.linked-node.ensures.same _
-          c.in-At.is _
+          c.linked.ensures.same _
+          c.in_ok-l.was _
           c.has_tag_name.ensures (not-false _ c.if-not-has_tag_name.false-raw) c.if-number-e.true;
       fit = tt;
     }
@@ -45,8 +45,8 @@ returns-then-is_origin c =
       same = its-origin _ _
           c.args.e _ _
           c.use_href-link.ensures.same _
-          c.linked-node.ensures.same _
-          c.in-At.is _
+          c.linked.ensures.same _
+          c.in_ok-l.was _
           c.has_tag_name.ensures (not-false _ c.if-not-has_tag_name.false-raw)
           c.if-number-e.false c.if-is_origin.true;
       fit = tt;
@@ -54,13 +54,13 @@ returns-then-is_origin c =
 
 pub leads_back-requires : goal.leads_back-requires
 leads_back-requires c =
-    let stands = node-stands _ _ _ c.in-At.is
-    c.linked-node.ensures.fit in record {
+    let stands = node-stands _ _ _ c.in_ok-l.was
+    c.linked.ensures.fit in record {
       standing = c.requires.standing;
       standing_2 = stands;
       part_fit = c.use_href-link.ensures.fit;
-      l_value = node-led _ _ _ _ _ c.in-At.is
-          c.linked-node.ensures.same;
+      l_value = node-led _ _ _ _ _ c.in_ok-l.was
+          c.linked.ensures.same;
       memo = c.requires.memo;
     }
 
@@ -69,32 +69,28 @@ returns-then-leads_back c =
     record {
       same = leads-itself _ _ c.args.e _ _
           c.use_href-link.ensures.same _
-          c.linked-node.ensures.same _
-          c.in-At.is _
+          c.linked.ensures.same _
+          c.in_ok-l.was _
           c.has_tag_name.ensures
           (not-false _ c.if-not-has_tag_name.false-raw) c.if-number-e.false
           c.if-is_origin.false _ c.leads_back.ensures c.if-leads_back.true;
       fit = tt;
     }
 
-pub returns-else-leads_back : goal.returns-else-leads_back
-returns-else-leads_back c =
-    let stands = node-stands _ _ _ c.in-At.is
-    c.linked-node.ensures.fit in record {
+pub returns : goal.returns
+returns c =
+    let stands = node-stands _ _ _ c.in_ok-l.was
+    c.linked.ensures.fit in record {
       same = copies _ _ c.args.e _ _
           c.use_href-link.ensures.same _
-          c.linked-node.ensures.same _
-          c.in-At.is _
+          c.linked.ensures.same _
+          c.in_ok-l.was _
           c.has_tag_name.ensures
           (not-false _ c.if-not-has_tag_name.false-raw) c.if-number-e.false
           c.if-is_origin.false _ c.leads_back.ensures c.if-leads_back.false;
       fit = stands;
     }
 
-pub returns-in-Nothing : goal.returns-in-Nothing
-returns-in-Nothing c =
-    record {
-      same = copies-nothing _ _ c.args.e _ _
-          c.use_href-link.ensures.same _ c.linked-node.ensures.same c.in-Nothing.is;
-      fit = tt;
-    }
+pub returns-in_err-l-clause-same : goal.returns-in_err-l-clause-same
+returns-in_err-l-clause-same c =
+    rw c.from_residual.ensures (copies-nothing _ _ c.args.e _ _ c.use_href-link.ensures.same _ c.linked.ensures.same c.in_err-l.was)

@@ -1,25 +1,20 @@
 use mathlib.Core.Path.{sym, ◌∙◌}
-use borrow.Author.Tests.{not-true, not-false}
 use Rattle.memo.proofs.Knowing.{open-long}
 use Rattle.memo.proofs.Entering.{id-shut, id-full, id-put}
 use Rattle.memo.proofs.fill.enter_id.Goals as goal
 
 pub returns-then-not-is_open : goal.returns-then-not-is_open
-returns-then-not-is_open c = id-shut _ _ _ _ c.key_of-key.ensures.same (sym c.is_open.ensures ∙ not-true _ c.if-not-is_open.true-raw)
+returns-then-not-is_open c = id-shut _ _ _ _ c.key_of-key.ensures.same (sym c.if-not-is_open.ensures)
 
-pub free_slot-i-requires : goal.free_slot-i-requires
-free_slot-i-requires c = open-long _ _ (sym c.is_open.ensures ∙ not-false _ c.if-not-is_open.false-raw)
+pub free_slot-requires : goal.free_slot-requires
+free_slot-requires c = open-long _ _ (sym c.if-not-is_open.ensures)
 
-pub returns-then-i-eq0 : goal.returns-then-i-eq0
-returns-then-i-eq0 c =
-    id-full _ _ _ _ c.key_of-key.ensures.same
-    (sym c.is_open.ensures ∙ not-false _ c.if-not-is_open.false-raw) _
-    c.free_slot-i.ensures.same c.if-i-eq0.true
+pub returns-in_default : goal.returns-in_default
+returns-in_default c =
+    id-full _ _ _ _ c.key_of-key.ensures.same (sym c.if-not-is_open.ensures)
+    (sym c.in_default.is ∙ c.free_slot.ensures.same)
 
-pub returns : goal.returns
-returns c =
-    id-put _ _ _ _ c.key_of-key.ensures.same
-    (sym c.is_open.ensures
-    ∙ not-false _ c.if-not-is_open.false-raw) _
-    c.free_slot-i.ensures.same c.if-i-eq0.false _
-    c.put_slot.ensures
+pub returns-in-Some : goal.returns-in-Some
+returns-in-Some c =
+    id-put _ _ _ _ c.key_of-key.ensures.same (sym c.if-not-is_open.ensures) _
+    (sym c.in-Some.is ∙ c.free_slot.ensures.same) _ c.put_slot.ensures

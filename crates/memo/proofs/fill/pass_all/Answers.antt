@@ -1,9 +1,8 @@
 use native.Mathlib.Omega.{arith}
 use mathlib.Core.Path.{refl, ◌∙◌}
 use Rattle.walk.proofs.Walks.{item-told}
-use Rattle.memo.proofs.Ids.{id-text, id_other, id-close}
-use Rattle.memo.proofs.Within.{within_text, within-other, within-close}
 use Rattle.memo.proofs.Filling.{filling-first, filling-at, filling-past, start-fit}
+use Rattle.memo.proofs.Passing.{past}
 use Rattle.memo.proofs.fill.pass_all.Goals as goal
 
 pub loop-e-init : goal.loop-e-init
@@ -22,8 +21,8 @@ pass-p-requires c =
       filling = filling-at _ _ _ _ _ _ _ told.0 c.loop-e.invariant.1.0;
     }
 
-pub loop-e-smaller-in-Begin : goal.loop-e-smaller-in-Begin
-loop-e-smaller-in-Begin c =
+pub loop-e-smaller-in-Begin-1 : goal.loop-e-smaller-in-Begin-1
+loop-e-smaller-in-Begin-1 c =
     let told = item-told _ _ _ _ _ c.in-Begin.is
     (c.next_item.ensures.same, c.next_item.ensures.fit) in
     omega (
@@ -33,8 +32,8 @@ loop-e-smaller-in-Begin c =
       c.pass-p.ensures.nodes.fit.at,
     )
 
-pub loop-e-preserved-in-Begin : goal.loop-e-preserved-in-Begin
-loop-e-preserved-in-Begin c = (
+pub loop-e-preserved-in-Begin-1 : goal.loop-e-preserved-in-Begin-1
+loop-e-preserved-in-Begin-1 c = (
   c.pass-p.ensures.nodes.fit,
   (
     c.pass-p.ensures.filling,
@@ -45,54 +44,33 @@ loop-e-preserved-in-Begin c = (
 
 pub loop-e-smaller-in-Text : goal.loop-e-smaller-in-Text
 loop-e-smaller-in-Text c =
-    let text = item-told _ _ _ _ _ c.in-Text.is (c.next_item.ensures.same, c.next_item.ensures.fit) in
-    omega (arith, text.1.1.further, text.1.1.fit.at)
+    let p = past _ _ _ _ _ c.in-Text.is (c.next_item.ensures.same, c.next_item.ensures.fit) in
+    omega (arith, p.further.further, p.further.fit.at)
 
 pub loop-e-preserved-in-Text : goal.loop-e-preserved-in-Text
 loop-e-preserved-in-Text c =
-    let text = item-told _ _ _ _ _ c.in-Text.is (c.next_item.ensures.same, c.next_item.ensures.fit) in (
-      text.1.1.fit,
-      (
-        filling-past _ _ _ _ _ _ _
-            (filling-at _ _ _ _ _ _ _ text.0 c.loop-e.invariant.1.0) (λ id. id-text id _ _)
-            (λ id. within_text id _ _ _),
-        c.loop-e.invariant.1.1,
-      ),
-    )
+    let p = past _ _ _ _ _ c.in-Text.is (c.next_item.ensures.same, c.next_item.ensures.fit) in
+    (p.further.fit, (filling-past _ _ _ _ _ _ _ c.loop-e.invariant.1.0 p.first (p.near _), c.loop-e.invariant.1.1))
 
-pub loop-e-smaller-in-Other : goal.loop-e-smaller-in-Other
-loop-e-smaller-in-Other c =
-    let other = item-told _ _ _ _ _ c.in-Other.is (c.next_item.ensures.same, c.next_item.ensures.fit) in
-    omega (arith, other.1.further, other.1.fit.at)
+pub loop-e-smaller-in-Text-2 : goal.loop-e-smaller-in-Text-2
+loop-e-smaller-in-Text-2 c =
+    let p = past _ _ _ _ _ c.in-Text.is (c.next_item.ensures.same, c.next_item.ensures.fit) in
+    omega (arith, p.further.further, p.further.fit.at)
 
-pub loop-e-preserved-in-Other : goal.loop-e-preserved-in-Other
-loop-e-preserved-in-Other c =
-    let other = item-told _ _ _ _ _ c.in-Other.is (c.next_item.ensures.same, c.next_item.ensures.fit) in (
-      other.1.fit,
-      (
-        filling-past _ _ _ _ _ _ _
-            (filling-at _ _ _ _ _ _ _ other.0 c.loop-e.invariant.1.0) (λ id. id_other id _)
-            (λ id. within-other id _ _),
-        c.loop-e.invariant.1.1,
-      ),
-    )
+pub loop-e-preserved-in-Text-2 : goal.loop-e-preserved-in-Text-2
+loop-e-preserved-in-Text-2 c =
+    let p = past _ _ _ _ _ c.in-Text.is (c.next_item.ensures.same, c.next_item.ensures.fit) in
+    (p.further.fit, (filling-past _ _ _ _ _ _ _ c.loop-e.invariant.1.0 p.first (p.near _), c.loop-e.invariant.1.1))
 
 pub loop-e-smaller : goal.loop-e-smaller
 loop-e-smaller c =
-    let closed = item-told _ _ _ _ _ c.in-Close.is (c.next_item.ensures.same, c.next_item.ensures.fit) in
-    omega (arith, closed.1.further, closed.1.fit.at)
+    let p = past _ _ _ _ _ c.in-Text.is (c.next_item.ensures.same, c.next_item.ensures.fit) in
+    omega (arith, p.further.further, p.further.fit.at)
 
 pub loop-e-preserved : goal.loop-e-preserved
 loop-e-preserved c =
-    let closed = item-told _ _ _ _ _ c.in-Close.is (c.next_item.ensures.same, c.next_item.ensures.fit) in (
-      closed.1.fit,
-      (
-        filling-past _ _ _ _ _ _ _
-            (filling-at _ _ _ _ _ _ _ closed.0 c.loop-e.invariant.1.0) (λ id. id-close id _)
-            (λ id. within-close id _ _),
-        c.loop-e.invariant.1.1,
-      ),
-    )
+    let p = past _ _ _ _ _ c.in-Text.is (c.next_item.ensures.same, c.next_item.ensures.fit) in
+    (p.further.fit, (filling-past _ _ _ _ _ _ _ c.loop-e.invariant.1.0 p.first (p.near _), c.loop-e.invariant.1.1))
 
 pub shape_of-slots-in-End : goal.shape_of-slots-in-End
 shape_of-slots-in-End c = c.loop-e.invariant.1.1

@@ -1,6 +1,5 @@
 use native.Mathlib.Omega.{arith}
 use mathlib.Core.Path.{sym, refl, ◌∙◌}
-use borrow.Author.Tests.{not-false}
 use Rattle.memo.proofs.Filling.{ready-near, passed-near, passed-closed, filling-closed, ready-new, passed-new, nodes-inside, at_left}
 use Rattle.memo.proofs.Filling.{spaced-still, set_long}
 use Rattle.memo.proofs.fill.pass_named.Goals as goal
@@ -54,14 +53,14 @@ returns-then-not-has_room c =
     }
 
 pub put_mark-requires : goal.put_mark-requires
-put_mark-requires c = c.has_room.ensures (not-false _ c.if-not-has_room.false-raw)
+put_mark-requires c = c.has_room.ensures (c.if-not-has_room.false)
 
 pub enter-place-requires-2 : goal.enter-place-requires-2
 enter-place-requires-2 c =
     record {
       standing = c.requires.standing;
       m_bound = (c.has_room.ensures
-          (not-false _ c.if-not-has_room.false-raw)).few;
+          (c.if-not-has_room.false)).few;
     }
 
 pub overflow_sub-result-2 : goal.overflow_sub-result-2
@@ -81,7 +80,7 @@ returns c =
           (at_left _ _ _ _ _ _ c.requires.filling
           c.if-left-gt0.false) c.requires.standing
           (c.has_room.ensures
-          (not-false _ c.if-not-has_room.false-raw)) _
+          (c.if-not-has_room.false)) _
           c.put_mark.ensures)).kept.long
           ∙ c.put_mark.ensures.apart.long;
       nodes = (c.enter-place-2.ensures _
@@ -89,13 +88,13 @@ returns c =
           (at_left _ _ _ _ _ _ c.requires.filling
           c.if-left-gt0.false) c.requires.standing
           (c.has_room.ensures
-          (not-false _ c.if-not-has_room.false-raw)) _
+          (c.if-not-has_room.false)) _
           c.put_mark.ensures)).nodes;
       filling = passed-new _ _ _ _ c.args.e
           (at_left _ _ _ _ _ _ c.requires.filling
           c.if-left-gt0.false) c.requires.standing
           (c.has_room.ensures
-          (not-false _ c.if-not-has_room.false-raw)) _
+          (c.if-not-has_room.false)) _
           c.put_mark.ensures _
           c.spacing-most.ensures
           (omega (
@@ -108,6 +107,6 @@ returns c =
           (at_left _ _ _ _ _ _ c.requires.filling
           c.if-left-gt0.false) c.requires.standing
           (c.has_room.ensures
-          (not-false _ c.if-not-has_room.false-raw)) _
+          (c.if-not-has_room.false)) _
           c.put_mark.ensures));
     }

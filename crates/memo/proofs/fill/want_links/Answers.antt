@@ -2,6 +2,7 @@ use native.Mathlib.Omega.{arith}
 use Rattle.walk.proofs.Walks.{item-told}
 use Rattle.memo.proofs.Parts.{apart_none}
 use Rattle.memo.proofs.Filling.{start-fit, wanted-on}
+use Rattle.memo.proofs.Passing.{past}
 use Rattle.memo.proofs.fill.want_links.Goals as goal
 
 pub loop-e-init : goal.loop-e-init
@@ -115,55 +116,46 @@ loop-e-preserved-else-is_link c =
 
 pub loop-e-smaller-in-Text : goal.loop-e-smaller-in-Text
 loop-e-smaller-in-Text c =
-    let text = item-told _ _ _ _ _ c.in-Text.is (c.next_item.ensures.same, c.next_item.ensures.fit) in
-    omega (arith, text.1.1.further, text.1.1.fit.at)
+    let p = past _ _ _ _ _ c.in-Text.is (c.next_item.ensures.same, c.next_item.ensures.fit) in
+    omega (arith, p.further.further, p.further.fit.at)
 
 pub loop-e-preserved-in-Text : goal.loop-e-preserved-in-Text
 loop-e-preserved-in-Text c =
-    let text = item-told _ _ _ _ _ c.in-Text.is (c.next_item.ensures.same, c.next_item.ensures.fit) in (
-      text.1.1.fit,
+    let p = past _ _ _ _ _ c.in-Text.is (c.next_item.ensures.same, c.next_item.ensures.fit) in (
+      p.further.fit,
       (
         c.loop-e.invariant.1.0,
-        (
-          omega (arith, c.loop-e.invariant.1.1.0, text.1.1.further),
-          c.loop-e.invariant.1.1.1,
-        ),
+        (omega (arith, c.loop-e.invariant.1.1.0, p.further.further), c.loop-e.invariant.1.1.1),
       ),
     )
 
-pub loop-e-smaller-in-Other : goal.loop-e-smaller-in-Other
-loop-e-smaller-in-Other c =
-    let other = item-told _ _ _ _ _ c.in-Other.is (c.next_item.ensures.same, c.next_item.ensures.fit) in
-    omega (arith, other.1.further, other.1.fit.at)
+pub loop-e-smaller-in-Text-2 : goal.loop-e-smaller-in-Text-2
+loop-e-smaller-in-Text-2 c =
+    let p = past _ _ _ _ _ c.in-Text.is (c.next_item.ensures.same, c.next_item.ensures.fit) in
+    omega (arith, p.further.further, p.further.fit.at)
 
-pub loop-e-preserved-in-Other : goal.loop-e-preserved-in-Other
-loop-e-preserved-in-Other c =
-    let other = item-told _ _ _ _ _ c.in-Other.is (c.next_item.ensures.same, c.next_item.ensures.fit) in (
-      other.1.fit,
+pub loop-e-preserved-in-Text-2 : goal.loop-e-preserved-in-Text-2
+loop-e-preserved-in-Text-2 c =
+    let p = past _ _ _ _ _ c.in-Text.is (c.next_item.ensures.same, c.next_item.ensures.fit) in (
+      p.further.fit,
       (
         c.loop-e.invariant.1.0,
-        (
-          omega (arith, c.loop-e.invariant.1.1.0, other.1.further),
-          c.loop-e.invariant.1.1.1,
-        ),
+        (omega (arith, c.loop-e.invariant.1.1.0, p.further.further), c.loop-e.invariant.1.1.1),
       ),
     )
 
 pub loop-e-smaller : goal.loop-e-smaller
 loop-e-smaller c =
-    let closed = item-told _ _ _ _ _ c.in-Close.is (c.next_item.ensures.same, c.next_item.ensures.fit) in
-    omega (arith, closed.1.further, closed.1.fit.at)
+    let p = past _ _ _ _ _ c.in-Text.is (c.next_item.ensures.same, c.next_item.ensures.fit) in
+    omega (arith, p.further.further, p.further.fit.at)
 
 pub loop-e-preserved : goal.loop-e-preserved
 loop-e-preserved c =
-    let closed = item-told _ _ _ _ _ c.in-Close.is (c.next_item.ensures.same, c.next_item.ensures.fit) in (
-      closed.1.fit,
+    let p = past _ _ _ _ _ c.in-Text.is (c.next_item.ensures.same, c.next_item.ensures.fit) in (
+      p.further.fit,
       (
         c.loop-e.invariant.1.0,
-        (
-          omega (arith, c.loop-e.invariant.1.1.0, closed.1.further),
-          c.loop-e.invariant.1.1.1,
-        ),
+        (omega (arith, c.loop-e.invariant.1.1.0, p.further.further), c.loop-e.invariant.1.1.1),
       ),
     )
 

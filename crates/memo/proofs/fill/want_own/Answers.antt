@@ -8,5 +8,5 @@ part_at-requires c =
     omega (
       arith,
       fit-chars _ _
-          (value-fit _ _ _ _ _ c.in-At.is c.first_id.ensures.fit).own,
+          (value-fit _ _ _ _ _ c.in-Ok.is c.first_id.ensures.fit).own,
     )

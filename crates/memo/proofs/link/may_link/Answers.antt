@@ -1,20 +1,18 @@
+use Prim.Native.Nat.{◌-◌}
+use mathlib.Core.Path.{◌≡◌, ap, ◌∙◌}
 use native.Mathlib.Omega.{arith}
-use Rattle.memo.proofs.Linking.{scanned-none, scanned-more, scanned-all, no_bytes}
+use lib.ListN.{length}
+use Rattle.memo.specs.Table.{any_opens}
+use Rattle.memo.proofs.Linking.{opens-none, opens-more}
 use Rattle.memo.proofs.link.may_link.Goals as goal
 
-pub returns-then-script-eq0 : goal.returns-then-script-eq0
-returns-then-script-eq0 c = no_bytes _ c.if-script-eq0.true
-
 pub loop-i-init : goal.loop-i-init
-loop-i-init c = scanned-none _ _
-
-pub loop-i-smaller : goal.loop-i-smaller
-loop-i-smaller c = omega (arith, c.loop-i-test.true)
+loop-i-init c = (opens-none c.args.script.now, omega arith)
 
 pub loop-i-preserved : goal.loop-i-preserved
-loop-i-preserved c =
-    scanned-more _ _ _ _ c.loop-i.invariant c.loop-i-test.true _
-    c.opens_link-found.ensures
+loop-i-preserved c = (opens-more _ _ (omega arith) _ _ c.loop-i.invariant.0 c.opens_link-found.ensures, omega arith)
 
 pub returns : goal.returns
-returns c = scanned-all _ _ _ c.loop-i.invariant c.loop-i-test.false
+returns c =
+    let e : c.loop-i.i - 1 ≡ length c.args.script.now - 1 = omega arith in
+    c.loop-i.invariant.0 ∙ ap (any_opens c.args.script.now) e

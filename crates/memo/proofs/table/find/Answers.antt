@@ -1,5 +1,4 @@
 use mathlib.Core.Path.{refl, sym, ◌∙◌}
-use borrow.Author.Tests.{not-false}
 use Rattle.memo.proofs.Ids.{id-none}
 use Rattle.memo.proofs.Knowing.{known-held, probe-told, memo-found, memo-free}
 use Rattle.memo.proofs.table.find.Goals as goal
@@ -9,7 +8,7 @@ look_for-requires c =
     record {
       held = known-held _ _ _ _ _ c.requires.memo.known;
       key_value = c.key_of-key.ensures.same;
-      key_value_2 = sym c.is_open.ensures ∙ not-false _ c.if-not-is_open.false-raw;
+      key_value_2 = sym c.if-not-is_open.ensures;
     }
 
 pub returns-in-Found : goal.returns-in-Found

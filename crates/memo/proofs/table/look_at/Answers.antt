@@ -41,8 +41,8 @@ within-requires c =
     c.requires.held
     c.if-v-eq0.false).fit
 
-pub returns-in-At : goal.returns-in-At
-returns-in-At c =
+pub returns-in-Some : goal.returns-in-Some
+returns-in-Some c =
     record {
       same = look-nodes _ _
           c.args.slots.now
@@ -51,12 +51,12 @@ returns-in-At c =
           c.if-v-eq0.false
           c.if-v-key.false _ c.mark_at-mark.ensures
           _ c.spacing.ensures _
-          (found-told _ _ _ _ _ c.in-At.is (c.within.ensures.same, c.within.ensures.fit)).0;
-      fit = (found-told _ _ _ _ _ c.in-At.is (c.within.ensures.same, c.within.ensures.fit)).1;
+          (found-told _ _ _ _ _ c.in-Some.is (c.within.ensures.same, c.within.ensures.fit)).0;
+      fit = (found-told _ _ _ _ _ c.in-Some.is (c.within.ensures.same, c.within.ensures.fit)).1;
     }
 
-pub returns-in-Nothing : goal.returns-in-Nothing
-returns-in-Nothing c =
+pub returns-in-None : goal.returns-in-None
+returns-in-None c =
     record {
       same = look-nodes _ _
           c.args.slots.now _ _ _ _
@@ -64,6 +64,6 @@ returns-in-Nothing c =
           c.requires.key_value
           c.if-v-eq0.false c.if-v-key.false _
           c.mark_at-mark.ensures _ c.spacing.ensures _
-          (found-told _ _ _ _ _ c.in-Nothing.is (c.within.ensures.same, c.within.ensures.fit)).0;
+          (found-told _ _ _ _ _ c.in-None.is (c.within.ensures.same, c.within.ensures.fit)).0;
       fit = tt;
     }

@@ -1,13 +1,11 @@
 use mathlib.Core.Path.{◌≡◌}
-use Prim.Native.Nat.{◌<◌}
-use Rattle.memo.specs.Words.{unit, slot_count, next_slot}
+use Prim.Native.Nat.{◌-◌, ◌<◌}
+use Rattle.memo.specs.Words.{unit, slot_count, next_slot, probes}
 use Rattle.memo.specs.Table.{sees, probing, probed}
 use Rattle.memo.proofs.table.look_for.Given as goal
 
-abbrev pub invariant-loop-left : goal.invariant-loop-left
-invariant-loop-left l = (probing (sees l.script l.characters l.slots l.id) (next_slot (unit l.slots) l.step) l.i l.left ≡ probed l.script
-    l.characters l.slots l.id)
+abbrev pub invariant-loop : goal.invariant-loop
+invariant-loop l =
+    (probing (sees l.script l.characters l.slots l.id) (next_slot (unit l.slots) l.step) l.i (probes - l.counter)
+    ≡ probed l.script l.characters l.slots l.id)
     × (l.i < slot_count l.slots)
-
-abbrev pub decreases-loop-left : goal.decreases-loop-left
-decreases-loop-left l = l.left

@@ -2,7 +2,8 @@ use native.Mathlib.Omega.{arith}
 use mathlib.Core.Path.{refl, ◌∙◌}
 use Rattle.walk.proofs.Walks.{item-told}
 use Rattle.memo.proofs.Ids.{tested}
-use Rattle.memo.proofs.Within.{seek-at, seek-past, seek_hit, seek-miss, within_text, within-other, within-close, within-zero, within_end}
+use Rattle.memo.proofs.Within.{seek-at, seek_hit, seek-miss, within-zero, within_end}
+use Rattle.memo.proofs.Passing.{past, seek-past}
 use Rattle.memo.proofs.table.within.Goals as goal
 
 pub loop-left-init : goal.loop-left-init
@@ -16,30 +17,30 @@ has_id-requires c =
     let told = item-told _ _ _ _ _ c.in-Begin.is (c.next_item.ensures.same, c.next_item.ensures.fit) in
     told.1.0
 
-pub returns-in-Has : goal.returns-in-Has
-returns-in-Has c =
+pub returns-in-Ok : goal.returns-in-Ok
+returns-in-Ok c =
     let told = item-told _ _ _ _ _ c.in-Begin.is
     (c.next_item.ensures.same, c.next_item.ensures.fit) in record {
       same = seek_hit _ _ _ _ _ _ c.loop-left.invariant _ _
           c.in-Begin.is (c.next_item.ensures.same, c.next_item.ensures.fit)
           c.loop-left-test.true
-          (tested _ _ _ _ _ _ c.in-Has.is c.has_id.ensures);
+          (tested _ _ _ _ _ _ c.in-Ok.is c.has_id.ensures);
       fit = told.1.0;
     }
 
 pub overflow_sub-left : goal.overflow_sub-left
 overflow_sub-left c = omega (arith, c.loop-left-test.true)
 
-pub loop-left-smaller-in-HasNot : goal.loop-left-smaller-in-HasNot
-loop-left-smaller-in-HasNot c =
+pub loop-left-smaller-in-Begin-1 : goal.loop-left-smaller-in-Begin-1
+loop-left-smaller-in-Begin-1 c =
     let told = item-told _ _ _ _ _ c.in-Begin.is
     (c.next_item.ensures.same, c.next_item.ensures.fit) in
-    let without = tested _ _ _ _ _ _ c.in-HasNot.is c.has_id.ensures in
+    let without = tested _ _ _ _ _ _ c.in-Err.is c.has_id.ensures in
     omega (arith, told.1.1.further, without.nodes.later, without.nodes.fit.at)
 
-pub loop-left-preserved-in-HasNot : goal.loop-left-preserved-in-HasNot
-loop-left-preserved-in-HasNot c =
-    let without = tested _ _ _ _ _ _ c.in-HasNot.is c.has_id.ensures in
+pub loop-left-preserved-in-Begin-1 : goal.loop-left-preserved-in-Begin-1
+loop-left-preserved-in-Begin-1 c =
+    let without = tested _ _ _ _ _ _ c.in-Err.is c.has_id.ensures in
     seek-miss _ _ _ _ _ _ c.loop-left.invariant _ _
     c.in-Begin.is
     (c.next_item.ensures.same, c.next_item.ensures.fit)
@@ -47,36 +48,33 @@ loop-left-preserved-in-HasNot c =
 
 pub loop-left-smaller-in-Text : goal.loop-left-smaller-in-Text
 loop-left-smaller-in-Text c =
-    let text = item-told _ _ _ _ _ c.in-Text.is (c.next_item.ensures.same, c.next_item.ensures.fit) in
-    omega (arith, text.1.1.further, text.1.1.fit.at)
+    let p = past _ _ _ _ _ c.in-Text.is (c.next_item.ensures.same, c.next_item.ensures.fit) in
+    omega (arith, p.further.further, p.further.fit.at)
 
 pub loop-left-preserved-in-Text : goal.loop-left-preserved-in-Text
 loop-left-preserved-in-Text c =
-    let text = item-told _ _ _ _ _ c.in-Text.is (c.next_item.ensures.same, c.next_item.ensures.fit) in
-    seek-past _ _ _ _ _ _ c.loop-left.invariant _ _ c.in-Text.is
-    (c.next_item.ensures.same, c.next_item.ensures.fit) _ text.1.1 (within_text _ _ _ _)
+    let p = past _ _ _ _ _ c.in-Text.is (c.next_item.ensures.same, c.next_item.ensures.fit) in
+    seek-past _ _ _ _ p _ _ _ c.loop-left.invariant
 
-pub loop-left-smaller-in-Other : goal.loop-left-smaller-in-Other
-loop-left-smaller-in-Other c =
-    let other = item-told _ _ _ _ _ c.in-Other.is (c.next_item.ensures.same, c.next_item.ensures.fit) in
-    omega (arith, other.1.further, other.1.fit.at)
+pub loop-left-smaller-in-Text-2 : goal.loop-left-smaller-in-Text-2
+loop-left-smaller-in-Text-2 c =
+    let p = past _ _ _ _ _ c.in-Text.is (c.next_item.ensures.same, c.next_item.ensures.fit) in
+    omega (arith, p.further.further, p.further.fit.at)
 
-pub loop-left-preserved-in-Other : goal.loop-left-preserved-in-Other
-loop-left-preserved-in-Other c =
-    let other = item-told _ _ _ _ _ c.in-Other.is (c.next_item.ensures.same, c.next_item.ensures.fit) in
-    seek-past _ _ _ _ _ _ c.loop-left.invariant _ _ c.in-Other.is
-    (c.next_item.ensures.same, c.next_item.ensures.fit) _ other.1 (within-other _ _ _)
+pub loop-left-preserved-in-Text-2 : goal.loop-left-preserved-in-Text-2
+loop-left-preserved-in-Text-2 c =
+    let p = past _ _ _ _ _ c.in-Text.is (c.next_item.ensures.same, c.next_item.ensures.fit) in
+    seek-past _ _ _ _ p _ _ _ c.loop-left.invariant
 
 pub loop-left-smaller : goal.loop-left-smaller
 loop-left-smaller c =
-    let closed = item-told _ _ _ _ _ c.in-Close.is (c.next_item.ensures.same, c.next_item.ensures.fit) in
-    omega (arith, closed.1.further, closed.1.fit.at)
+    let p = past _ _ _ _ _ c.in-Text.is (c.next_item.ensures.same, c.next_item.ensures.fit) in
+    omega (arith, p.further.further, p.further.fit.at)
 
 pub loop-left-preserved : goal.loop-left-preserved
 loop-left-preserved c =
-    let closed = item-told _ _ _ _ _ c.in-Close.is (c.next_item.ensures.same, c.next_item.ensures.fit) in
-    seek-past _ _ _ _ _ _ c.loop-left.invariant _ _ c.in-Close.is
-    (c.next_item.ensures.same, c.next_item.ensures.fit) _ closed.1 (within-close _ _ _)
+    let p = past _ _ _ _ _ c.in-Text.is (c.next_item.ensures.same, c.next_item.ensures.fit) in
+    seek-past _ _ _ _ p _ _ _ c.loop-left.invariant
 
 pub returns-in-End : goal.returns-in-End
 returns-in-End c =

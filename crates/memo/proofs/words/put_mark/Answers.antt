@@ -1,12 +1,9 @@
 use Prim.Native.Nat.{◌+◌, ◌*◌}
-use mathlib.Core.Path.{ap}
+use mathlib.Core.Path.{refl, ap}
 use Rattle.memo.proofs.Parts.{mark-put}
 use Rattle.memo.proofs.words.put_mark.Goals as goal
 
 pub returns : goal.returns
 returns c =
-    mark-put _ _ _ _ _ _ _ _ _ _ c.requires
-    (ap (λ u. u + 5 * c.args.m + 1) c.unit.ensures.same)
-    c.upper_of.ensures.0 c.put_word.ensures c.put_word-2.ensures
-    c.put_word-3.ensures c.put_word-4.ensures
-    c.put_word-5.ensures
+    mark-put _ _ _ _ _ _ _ _ _ _ c.requires (ap (λ u. u + 5 * c.args.m + 1) c.unit.ensures.same) c.upper_of.ensures
+    refl refl refl refl refl

@@ -1,15 +1,10 @@
 use Rattle.parse.proofs.Meeting.{copy-found, copy-none}
 use Rattle.parse.proofs.met.begin_copy.Goals as goal
 
-pub returns-in-At : goal.returns-in-At
-returns-in-At c =
-    copy-found _ _ _ _ _ _ c.use_target.ensures.same
-    c.use_target.ensures.fit _
-    c.in-At.is _ c.stand_aside.ensures
+pub returns : goal.returns
+returns c = copy-found _ _ _ _ _ _ c.use_target.ensures.same c.use_target.ensures.fit _ c.in-Some.is
 
-pub returns-in-Nothing : goal.returns-in-Nothing
-returns-in-Nothing c =
-    copy-none _ _ _ _ _ _ c.use_target.ensures.same
-    c.use_target.ensures.fit c.in-Nothing.is _
-    c.past_element-past.ensures.same c.past_element-past.ensures.fit
-    c.past_element-past.ensures.further _ c.stand.ensures
+pub returns-in_default : goal.returns-in_default
+returns-in_default c =
+    copy-none _ _ _ _ _ _ c.use_target.ensures.same c.use_target.ensures.fit c.in_default.is _
+    c.past_element-state.ensures.same c.past_element-state.ensures.fit c.past_element-state.ensures.further

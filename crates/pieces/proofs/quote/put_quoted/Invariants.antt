@@ -4,8 +4,8 @@ use Rattle.text.specs.Spaces.{space_in}
 use Rattle.pieces.proofs.Putting.{Putting}
 use Rattle.pieces.proofs.quote.put_quoted.Given as goal
 
-abbrev pub invariant-loop-own : goal.invariant-loop-own
-invariant-loop-own l = Putting (space_in l.space) l.script l.characters l.initial.place l.initial.c l.place l.c l.level l.done
+abbrev pub invariant-loop-t : goal.invariant-loop-t
+invariant-loop-t l = Putting (space_in l.space) l.script l.characters l.initial.place l.initial.c l.place l.c l.level l.done
 
-abbrev pub decreases-loop-own : goal.decreases-loop-own
-decreases-loop-own l = length l.script - l.c.at
+abbrev pub decreases-loop-t : goal.decreases-loop-t
+decreases-loop-t l = length l.script - l.c.at

@@ -4,5 +4,5 @@ use Rattle.pieces.proofs.remember.split.Goals as goal
 pub returns-then-top-eq0 : goal.returns-then-top-eq0
 returns-then-top-eq0 c = split-default _ _ c.if-top-eq0.true
 
-pub returns : goal.returns
-returns c = split-preserve _ _ c.if-top-eq0.false
+pub returns-else-top-eq0 : goal.returns-else-top-eq0
+returns-else-top-eq0 c = split-preserve _ _ c.if-top-eq0.false

@@ -94,8 +94,8 @@ pub loop-e-preserved : goal.loop-e-preserved
 loop-e-preserved c =
     let closed = item-told _ _ _ _ _ c.in-Close.is (c.next_item.ensures.same, c.next_item.ensures.fit) in
     over _ _ _ _ _ _ _ c.loop-e.invariant _ _ c.in-Close.is
-    (c.next_item.ensures.same, c.next_item.ensures.fit) _ _ closed.1 (omega (arith, c.closed_level-level.ensures))
-    (sought-close _ _ _ _ c.closed_level-level.ensures)
+    (c.next_item.ensures.same, c.next_item.ensures.fit) _ _ closed.1 (omega (arith, c.saturating_sub-level.ensures))
+    (sought-close _ _ _ _ c.saturating_sub-level.ensures)
 
 pub returns-in-End : goal.returns-in-End
 returns-in-End c =

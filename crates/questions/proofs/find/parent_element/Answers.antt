@@ -1,71 +1,40 @@
-use mathlib.Core.Path.{sym, ◌∙◌, ap}
-use Prim.Native.Nat.{ℕ, ◌-◌}
+use mathlib.Core.Path.{◌∙◌, ap}
+use Prim.Native.Nat.{ℕ, ◌≤◌}
 use native.Mathlib.Omega.{arith}
 use lib.Dec.{eqb}
-use borrow.Author.Tests.{eq-eqb, ne_eqb}
 use Rattle.model.specs.Tables.{kind_of, parent_of}
-use Rattle.tree.specs.Lent.{nodes_read}
-use Rattle.tree.proofs.Climbs.{climb, climb-step, climb-end}
+use Rattle.tree.specs.Lent.{plus_one, nodes_read}
+use Rattle.tree.proofs.Climbs.{climb, climb-turn, climb-end}
 use Rattle.questions.proofs.Above.{element-start}
 use Rattle.questions.proofs.find.parent_element.Goals as goal
 
-pub node_word-w-requires : goal.node_word-w-requires
-node_word-w-requires c = omega (arith, (c.requires c.args.i (omega arith)).inside)
-
-pub loop-w-init : goal.loop-w-init
-loop-w-init c = (
-  omega (arith, (c.requires c.args.i (omega arith)).falls, c.node_word-w.ensures),
-  ap (λ (n : ℕ). climb (λ k. eqb (kind_of (nodes_read c.args.nodes.now) k) 2)
-      (parent_of (nodes_read c.args.nodes.now)) n n) c.node_word-w.ensures
-      ∙ element-start _ _ (λ k l. (c.requires k l).falls),
-)
-
-pub overflow_sub-w : goal.overflow_sub-w
-overflow_sub-w c = omega arith
-
-pub node_word-is_named-requires : goal.node_word-is_named-requires
-node_word-is_named-requires c = omega (arith, (c.requires (c.loop-w.w - 1) (omega arith)).inside)
-
-pub returns-then-is_named : goal.returns-then-is_named
-returns-then-is_named c =
-    record {
-      found = sym (climb-step _ _ _ c.loop-w-test.true
-          (λ k l. (c.requires k (omega arith)).falls)
-          ∙ rw (sym c.node_word-is_named.ensures, eq-eqb _ _ c.if-is_named.true)) ∙ c.loop-w.invariant.1;
-      within = omega arith;
-    }
-
-pub overflow_sub-w-in-loop-w : goal.overflow_sub-w-in-loop-w
-overflow_sub-w-in-loop-w c = omega arith
-
-pub node_word-w-requires-in-loop-w : goal.node_word-w-requires-in-loop-w
-node_word-w-requires-in-loop-w c =
-    omega (
-      arith,
-      (c.requires (c.loop-w.w - 1) (omega arith)).inside,
+pub loop-above-init : goal.loop-above-init
+loop-above-init c =
+    let read = nodes_read c.args.nodes.now in (
+      omega (arith, c.node_link-above.ensures, (c.requires c.args.i (omega arith)).falls),
+      ap (λ (n : ℕ). climb (λ k. eqb (kind_of read k) 2) (parent_of read) n n) c.node_link-above.ensures
+          ∙ element-start _ _ (λ k l. (c.requires k l).falls),
     )
 
-pub loop-w-smaller : goal.loop-w-smaller
-loop-w-smaller c =
-    omega (
-      arith,
-      (c.requires (c.loop-w.w - 1)
-          (omega arith)).falls,
+pub returns-then-is_named-clause-found : goal.returns-then-is_named-clause-found
+returns-then-is_named-clause-found c =
+    let w = ap plus_one c.in-Some.is in
+    let falls = λ (j : ℕ) (l : j ≤ c.in-Some.k). (c.requires j (omega (arith, w))).falls in
+    let t = climb-turn _ _ _ _ _ _ falls c.has_kind-is_named.ensures w c.loop-above.invariant.1 in
+    rw c.if-is_named.true at t
+
+pub loop-above-preserved : goal.loop-above-preserved
+loop-above-preserved c =
+    let read = nodes_read c.args.nodes.now in
+    let w = ap plus_one c.in-Some.is in
+    let falls = λ (j : ℕ) (l : j ≤ c.in-Some.k). (c.requires j (omega (arith, w))).falls in
+    let t = climb-turn _ _ _ _ _ _ falls c.has_kind-is_named.ensures w c.loop-above.invariant.1 in
+    let u = rw c.if-is_named.false at t in (
+      omega (arith, w, c.node_link-above-in-Some.ensures, falls c.in-Some.k (omega arith)),
+      ap (λ (n : ℕ). climb (λ k. eqb (kind_of read k) 2) (parent_of read) n n) c.node_link-above-in-Some.ensures ∙ u,
     )
 
-pub loop-w-preserved : goal.loop-w-preserved
-loop-w-preserved c =
-    let nodes2 = c.args.nodes.now in (
-      omega (arith, (c.requires (c.loop-w.w - 1) (omega arith)).falls),
-      ap (λ (n : ℕ). climb (λ k. eqb (kind_of (nodes_read nodes2) k) 2) (parent_of (nodes_read nodes2)) n n) c.node_word-w-in-loop-w.ensures
-          ∙ sym (climb-step _ _ _ c.loop-w-test.true
-          (λ k l. (c.requires k (omega arith)).falls)
-          ∙ rw (sym c.node_word-is_named.ensures, ne_eqb _ _ c.if-is_named.false)) ∙ c.loop-w.invariant.1,
-    )
-
-pub returns : goal.returns
-returns c =
-    record {
-      found = climb-end _ _ _ c.loop-w-test.false ∙ c.loop-w.invariant.1;
-      within = omega arith;
-    }
+pub returns-clause-found : goal.returns-clause-found
+returns-clause-found c =
+    let w = ap plus_one c.in_default.is in
+    let h = c.loop-above.invariant.1 in climb-end _ _ ∙ (rw w at h)

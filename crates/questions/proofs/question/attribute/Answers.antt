@@ -1,24 +1,27 @@
-use borrow.Author.Tests.{eq-eqb, ne_eqb}
-use mathlib.Core.Path.{sym, ◌∙◌, ap}
-use Prim.Native.Nat.{ℕ}
-use Rattle.model.specs.Questions.{attribute_question, answer_of}
-use Rattle.questions.specs.Answers.{answered}
+use mathlib.Core.Path.{sym, ◌∙◌}
+use Rattle.std.proofs.lemmas.Result.{err_from_is_err_and}
+use Rattle.model.specs.Questions.{attribute_question}
+use Rattle.tree.specs.Lent.{tree_of}
 use Rattle.tree.proofs.Facts.{readable-in}
-use Rattle.questions.proofs.Facts.{no-fault}
 use Rattle.tree.proofs.Alike.{attribute-same}
+use Rattle.questions.proofs.Asked.{unless-err, unless-ok}
+use Rattle.questions.proofs.Facts.{no-fault}
 use Rattle.questions.proofs.question.attribute.Goals as goal
 
-pub returns-then-fault-ne0 : goal.returns-then-fault-ne0
+pub returns-in_err-question_fault : goal.returns-in_err-question_fault
 unfolding attribute_question
-returns-then-fault-ne0 c = rw (sym c.question_fault-fault.ensures, ne_eqb _ _ c.if-fault-ne0.true)
+returns-in_err-question_fault c =
+    let p = err_from_is_err_and c.from_residual.result c.from_residual.ensures.1 in
+    rw (p.1, p.2) (unless-err _ _ c.in_err-question_fault.ensures)
 
 pub attribute_of-requires : goal.attribute_of-requires
 attribute_of-requires c =
-    let fault = no-fault _ _ _ _ (sym c.question_fault-fault.ensures ∙ c.if-fault-ne0.false) in
-    readable-in _ _ fault.0 _ fault.1
+    let sound = no-fault _ _ _ _ (sym c.in_ok-question_fault.ensures) in
+    readable-in _ _ sound.0 _ sound.1
 
 pub returns : goal.returns
 unfolding attribute_question
 returns c =
-    rw (sym c.question_fault-fault.ensures, eq-eqb _ _ c.if-fault-ne0.false)
-    (c.answer_of.ensures ∙ ap (λ (n : ℕ). answered (answer_of n)) (c.attribute_of.ensures.found ∙ attribute-same _ _ _ _))
+    let args = c.args in
+    unless-ok _ c.in_ok-question_fault.ensures
+    (c.attribute_of.ensures.found ∙ attribute-same (tree_of _ _ args.text.now args.counts) _ _ _)

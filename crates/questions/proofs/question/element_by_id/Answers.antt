@@ -1,24 +1,24 @@
-use mathlib.Core.Path.{◌∙◌, ap}
-use Prim.Native.Nat.{ℕ}
+use mathlib.Core.Path.{refl, sym, ◌∙◌}
+use Rattle.model.proofs.Theorems.Sound.{sound-kept}
 use Rattle.model.specs.Check.{first_of}
 use Rattle.model.specs.Tables.{element_by_id}
-use Rattle.model.specs.Questions.{element_by_id_question, answer_of}
-use Rattle.questions.specs.Answers.{answered}
-use Rattle.tree.proofs.Bools.{fails, passes}
-use Rattle.model.proofs.Theorems.Sound.{sound-kept}
+use Rattle.model.specs.Questions.{element_by_id_question}
+use Rattle.tree.specs.Lent.{tree_of}
 use Rattle.tree.proofs.Facts.{readable-in}
 use Rattle.tree.proofs.Alike.{last-same}
+use Rattle.questions.proofs.Asked.{unless-ok}
 use Rattle.questions.proofs.question.element_by_id.Goals as goal
 
 pub returns-then-not-is_sound : goal.returns-then-not-is_sound
 unfolding element_by_id_question first_of
-returns-then-not-is_sound c = rw (fails c.is_sound.ensures c.if-not-is_sound.true-raw)
+returns-then-not-is_sound c = rw (sym c.if-not-is_sound.ensures)
 
 pub last_with_id-requires : goal.last_with_id-requires
-last_with_id-requires c = λ k l. readable-in _ _ (sound-kept _ _ (passes c.is_sound.ensures c.if-not-is_sound.false-raw)) k l
+last_with_id-requires c = λ k l. readable-in _ _ (sound-kept _ _ (sym c.if-not-is_sound.ensures)) k l
 
 pub returns : goal.returns
 unfolding element_by_id_question first_of element_by_id
 returns c =
-    rw (passes c.is_sound.ensures c.if-not-is_sound.false-raw)
-    (c.answer_of.ensures ∙ ap (λ (n : ℕ). answered (answer_of n)) (c.last_with_id.ensures.found ∙ last-same _ _ _ _))
+    let args = c.args in
+    rw (sym c.if-not-is_sound.ensures)
+    (unless-ok _ {k = 0} refl (c.last_with_id.ensures.found ∙ last-same (tree_of _ _ args.text.now args.counts) _ _ _))

@@ -1,51 +1,46 @@
-use borrow.Author.Tests.{eq-eqb, ne_eqb}
-use mathlib.Core.Path.{sym, ◌∙◌, ap}
-use Prim.Native.Nat.{ℕ}
+use mathlib.Core.Path.{refl, sym, ◌∙◌, ap}
 use native.Mathlib.Omega.{arith}
-use Rattle.model.specs.Questions.{find_attribute_question, answer_of}
-use Rattle.tree.specs.Lent.{tree_of}
-use Rattle.questions.specs.Answers.{answered}
+use Rattle.std.proofs.lemmas.Result.{err_from_is_err_and}
+use Rattle.model.specs.Questions.{find_attribute_question}
+use Rattle.tree.specs.Lent.{plus_one, tree_of}
 use Rattle.tree.proofs.Facts.{readable-in, climbable}
-use Rattle.questions.proofs.Facts.{no-fault}
+use Rattle.tree.proofs.Entries.{taken, one-less}
 use Rattle.tree.proofs.Alike.{attribute-same}
 use Rattle.questions.proofs.Above.{impl-same}
+use Rattle.questions.proofs.Asked.{unless-err, unless-ok}
+use Rattle.questions.proofs.Facts.{no-fault}
 use Rattle.questions.proofs.question.find_attribute.Goals as goal
 
-pub returns-then-fault-ne0 : goal.returns-then-fault-ne0
+pub returns-in_err-question_fault : goal.returns-in_err-question_fault
 unfolding find_attribute_question
-returns-then-fault-ne0 c = rw (sym c.question_fault-fault.ensures, ne_eqb _ _ c.if-fault-ne0.true)
+returns-in_err-question_fault c =
+    let p = err_from_is_err_and c.from_residual.result c.from_residual.ensures.1 in
+    rw (p.1, p.2) (unless-err _ _ c.in_err-question_fault.ensures)
 
-pub find_attribute_impl-w-requires : goal.find_attribute_impl-w-requires
-find_attribute_impl-w-requires c =
-    let fault = no-fault _ _ _ _ (sym c.question_fault-fault.ensures ∙ c.if-fault-ne0.false) in
-    climbable _ _ fault.0 _ fault.1 (omega arith)
+pub find_attribute_impl-requires : goal.find_attribute_impl-requires
+find_attribute_impl-requires c =
+    let sound = no-fault _ _ _ _ (sym c.in_ok-question_fault.ensures) in
+    climbable _ _ sound.0 _ sound.1 (omega arith)
 
-pub returns-then-w-eq0 : goal.returns-then-w-eq0
+pub returns-in_default : goal.returns-in_default
 unfolding find_attribute_question
-returns-then-w-eq0 c =
+returns-in_default c =
     let args = c.args in
-    rw (
-      sym c.question_fault-fault.ensures,
-      eq-eqb _ _ c.if-fault-ne0.false,
-      sym (c.find_attribute_impl-w.ensures.found ∙ impl-same (tree_of _ _ args.text.now args.counts) _ _),
-      eq-eqb _ _ c.if-w-eq0.true,
-    ) c.answer_of.ensures
+    let found = c.find_attribute_impl.ensures.found ∙ impl-same (tree_of _ _ args.text.now args.counts) _ _ in
+    let e = sym (ap plus_one c.in_default.is) ∙ found in
+    rw (sym c.in_ok-question_fault.ensures, sym e)
 
 pub attribute_of-requires : goal.attribute_of-requires
 attribute_of-requires c =
-    let fault = no-fault _ _ _ _ (sym c.question_fault-fault.ensures ∙ c.if-fault-ne0.false) in
-    readable-in _ _ fault.0 _ (omega (arith, c.find_attribute_impl-w.ensures.within, fault.1))
+    let sound = no-fault _ _ _ _ (sym c.in_ok-question_fault.ensures) in
+    readable-in _ _ sound.0 _ (omega (arith, c.in-Some.ensures.within, sound.1))
 
 pub returns : goal.returns
 unfolding find_attribute_question
 returns c =
     let args = c.args in
-    rw (
-      sym c.question_fault-fault.ensures,
-      eq-eqb _ _ c.if-fault-ne0.false,
-      sym
-          (c.find_attribute_impl-w.ensures.found ∙ impl-same (tree_of _ _ args.text.now args.counts) _ _),
-      ne_eqb _ _ c.if-w-eq0.false,
-    )
-    (c.answer_of-2.ensures
-    ∙ ap (λ (n : ℕ). answered (answer_of n)) (c.attribute_of.ensures.found ∙ attribute-same _ _ _ _))
+    let holder = c.in-Some.holder in
+    let e = c.in-Some.ensures.found ∙ impl-same (tree_of _ _ args.text.now args.counts) _ _ in
+    rw (sym e, taken holder refl, one-less holder refl)
+    (unless-ok _ c.in_ok-question_fault.ensures
+    (c.attribute_of.ensures.found ∙ attribute-same (tree_of _ _ args.text.now args.counts) _ _ _))

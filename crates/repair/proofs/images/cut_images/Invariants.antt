@@ -1,4 +1,3 @@
-use Prim.Native.Nat.{◌-◌}
 use Rattle.leads.specs.Links.{values_of}
 use Rattle.repair.specs.Passes.{image_cuts}
 use Rattle.repair.proofs.Passing.{Pass}
@@ -7,6 +6,3 @@ use Rattle.repair.proofs.images.cut_images.Given as goal
 abbrev pub invariant-loop-i : goal.invariant-loop-i
 invariant-loop-i l = Pass l.script l.characters l.marks l.heads l.nodes l.counts (image_cuts l.characters (values_of l.script
     l.characters)) l.initial.attributes l.attributes l.i l.c
-
-abbrev pub decreases-loop-i : goal.decreases-loop-i
-decreases-loop-i l = l.counts.nodes - l.i

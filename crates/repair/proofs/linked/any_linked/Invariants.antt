@@ -1,10 +1,6 @@
-use Prim.Native.Nat.{◌-◌}
 use Rattle.tree.specs.Lent.{nodes_read}
 use Rattle.repair.proofs.Mending.{Unlinked}
 use Rattle.repair.proofs.linked.any_linked.Given as goal
 
 abbrev pub invariant-loop-i : goal.invariant-loop-i
 invariant-loop-i l = Unlinked (nodes_read l.nodes) l.count l.i
-
-abbrev pub decreases-loop-i : goal.decreases-loop-i
-decreases-loop-i l = l.count - l.i

@@ -1,8 +1,8 @@
-use Prim.Native.Nat.{◌-◌}
 use mathlib.Core.Path.{◌≡◌}
 use lib.ListN.{get_or}
 use Rattle.script.specs.Step.{at_start}
 use Rattle.leads.specs.Links.{values_of}
+use Rattle.targets.specs.Pass.{pass_number}
 use Rattle.targets.specs.Targets.{seen_of}
 use Rattle.cuts.specs.Seen.{Known}
 use Rattle.repair.specs.Passes.{link_cuts, Sought}
@@ -11,10 +11,7 @@ use Rattle.repair.proofs.pass.cut_pass.Given as goal
 
 abbrev pub invariant-loop-i : goal.invariant-loop-i
 invariant-loop-i l = Pass l.script l.characters l.marks l.heads l.nodes l.counts (link_cuts l.characters (values_of l.script
-    l.characters) l.pass l.code) l.initial.attributes l.attributes l.i
+    l.characters) (pass_number l.pass) l.code) l.initial.attributes l.attributes l.i
     at_start × ((get_or l.heads 2048 0 ≡ 0 → ⊥) → Sought l.characters (values_of l.script l.characters) (seen_of l.nodes l.attributes
-    l.counts) l.pass)
-    × Known l.characters (values_of l.script l.characters) l.pass (seen_of l.nodes l.attributes l.counts) l.known l.quiet
-
-abbrev pub decreases-loop-i : goal.decreases-loop-i
-decreases-loop-i l = l.counts.nodes - l.i
+    l.counts) (pass_number l.pass))
+    × Known l.characters (values_of l.script l.characters) (pass_number l.pass) (seen_of l.nodes l.attributes l.counts) l.known l.quiet

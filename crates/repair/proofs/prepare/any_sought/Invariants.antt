@@ -1,10 +1,6 @@
-use Prim.Native.Nat.{◌-◌, ◌≤◌}
 use Rattle.targets.specs.Targets.{seen_of}
 use Rattle.repair.proofs.Preparing.{Unsought}
 use Rattle.repair.proofs.prepare.any_sought.Given as goal
 
 abbrev pub invariant-loop-i : goal.invariant-loop-i
-invariant-loop-i l = (l.i ≤ l.counts.nodes) × Unsought (seen_of l.nodes l.attributes l.counts) l.code l.name l.i
-
-abbrev pub decreases-loop-i : goal.decreases-loop-i
-decreases-loop-i l = l.counts.nodes - l.i
+invariant-loop-i l = Unsought (seen_of l.nodes l.attributes l.counts) l.code l.name l.i

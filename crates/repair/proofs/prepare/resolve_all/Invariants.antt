@@ -1,9 +1,7 @@
-use Prim.Native.Nat.{◌-◌}
+use Prim.Native.Nat.{◌+◌}
 use Rattle.repair.proofs.Preparing.{Resolving}
 use Rattle.repair.proofs.prepare.resolve_all.Given as goal
 
 abbrev pub invariant-loop-pass : goal.invariant-loop-pass
-invariant-loop-pass l = Resolving l.script l.characters l.heads l.nodes l.initial.attributes l.counts l.attributes l.pass
-
-abbrev pub decreases-loop-pass : goal.decreases-loop-pass
-decreases-loop-pass l = 6 - l.pass
+invariant-loop-pass l =
+    Resolving l.script l.characters l.heads l.nodes l.initial.attributes l.counts l.attributes (l.pass-index + 1)

@@ -1,4 +1,5 @@
 use mathlib.Core.List.{[]}
+use Rattle.std.proofs.lemmas.Result.{err_from_is_err_and}
 use Rattle.model.specs.Drawing.{other, closing}
 use Rattle.script.specs.declared.cursor.Step.TheVariants.{End}
 use Rattle.script.proofs.Commands.{told, goes}
@@ -59,10 +60,14 @@ returns-in-Broken c =
     let args = c.args in
     λ ks h. stops _ _ args.s _ ks _ [] _
     (told _ _ _ _ c.in-Broken.is c.next.ensures.step)
-    (c.judge_broken.ensures args.characters.now args.c.chars ks h).0
-    (c.judge_broken.ensures args.characters.now args.c.chars ks h).1
+    (c.judge_broken.ensures args.characters.now args.c.chars ks h)
 
-pub returns-in-End : goal.returns-in-End
-returns-in-End c =
-    λ ks h. ends _ _ c.args.s _ ks _
-    (told _ _ _ End c.in-End.is c.next.ensures.step) (c.judge_end.ensures ks h)
+pub returns-in_err-judge_end-in-End : goal.returns-in_err-judge_end-in-End
+returns-in_err-judge_end-in-End c =
+    λ ks h. let out = err_from_is_err_and c.from_residual.result c.from_residual.ensures.1 in
+    rw (out.1, out.2) (ends _ _ c.args.s _ ks _
+    (told _ _ _ End c.in-End.is c.next.ensures.step) (c.in_err-judge_end-in-End.ensures ks h))
+
+pub returns-in_ok-judge_end-in-End : goal.returns-in_ok-judge_end-in-End
+returns-in_ok-judge_end-in-End c =
+    λ ks h. ends _ _ c.args.s _ ks _ (told _ _ _ End c.in-End.is c.next.ensures.step) (c.in_ok-judge_end-in-End.ensures ks h)

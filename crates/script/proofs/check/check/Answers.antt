@@ -1,46 +1,36 @@
 use native.Mathlib.Omega.{arith}
-use mathlib.Core.Path.{◌∙◌, subst}
-use Rattle.script.specs.Known.{Turned}
+use mathlib.Core.Path.{◌∙◌}
+use Rattle.std.proofs.lemmas.Result.{err_from_is_err_and}
 use Rattle.script.proofs.Judging.{checking, checking-on, too_long, too_many}
 use Rattle.script.proofs.check.check.Goals as goal
 
-pub returns-then-script-gt1048576 : goal.returns-then-script-gt1048576
-returns-then-script-gt1048576 c = too_long _ _ c.if-script-gt1048576.true
+pub returns-then-script-gt-MOST_BYTES : goal.returns-then-script-gt-MOST_BYTES
+returns-then-script-gt-MOST_BYTES c = too_long _ _ c.if-script-gt-MOST_BYTES.true
 
 pub returns-then-is_long : goal.returns-then-is_long
-returns-then-is_long c = too_many _ _ c.if-script-gt1048576.false c.if-is_long.true
+returns-then-is_long c = too_many _ _ c.if-script-gt-MOST_BYTES.false c.if-is_long.true
 
 pub loop-next-init : goal.loop-next-init
 loop-next-init c =
-    checking _ _ _ _ c.if-script-gt1048576.false c.if-is_long.false c.start-s.ensures
+    checking _ _ _ _ c.if-script-gt-MOST_BYTES.false c.if-is_long.false c.start-s.ensures
     c.start-c.ensures
 
 pub advance-requires : goal.advance-requires
-advance-requires c =
-    record {
-      fit = c.loop-next.invariant.fit;
-      inside = c.loop-next.invariant.inside;
-    }
+advance-requires c = record { fit = c.loop-next.invariant.fit; inside = c.loop-next.invariant.inside }
 
 pub loop-next-smaller : goal.loop-next-smaller
 loop-next-smaller c =
-    let loop = c.loop-next in
-    let args = c.args in
-    let the-subst = subst (λ r. Turned args.script.now args.characters.now loop.s loop.c loop.invariant.kinds r)
-    c.in-On.is (c.advance.ensures _ loop.invariant.held) in
-    omega (arith, the-subst.further, the-subst.fit.at)
+    let on = rw c.in-Some.is at (c.in_ok-next.ensures _ c.loop-next.invariant.held) in
+    omega (arith, on.further, on.fit.at)
 
 pub loop-next-preserved : goal.loop-next-preserved
 loop-next-preserved c =
-    let loop = c.loop-next in
-    let args = c.args in
-    checking-on _ _ _ _ loop.invariant _ _ (subst
-    (λ r. Turned args.script.now args.characters.now loop.s loop.c loop.invariant.kinds r) c.in-On.is
-    (c.advance.ensures _ loop.invariant.held))
+    checking-on _ _ _ _ c.loop-next.invariant _ _ (rw c.in-Some.is at (c.in_ok-next.ensures _ c.loop-next.invariant.held))
 
-pub returns-in-Stop : goal.returns-in-Stop
-returns-in-Stop c =
-    let loop = c.loop-next in
-    let args = c.args in
-    subst (λ r. Turned args.script.now args.characters.now loop.s loop.c loop.invariant.kinds r)
-    c.in-Stop.is (c.advance.ensures _ loop.invariant.held) ∙ loop.invariant.same
+pub returns : goal.returns
+returns c = rw c.in_default.is at (c.in_ok-next.ensures _ c.loop-next.invariant.held) ∙ c.loop-next.invariant.same
+
+pub returns-in_err-next : goal.returns-in_err-next
+returns-in_err-next c =
+    let out = err_from_is_err_and c.from_residual.result c.from_residual.ensures.1 in
+    rw (out.1, out.2) (c.in_err-next.ensures _ c.loop-next.invariant.held ∙ c.loop-next.invariant.same)

@@ -1,5 +1,4 @@
 use mathlib.Core.Path.{sym, ◌∙◌}
-use native.Mathlib.Omega.{arith}
 use Rattle.model.specs.Check.{tests_of}
 use Rattle.script.proofs.Parts.{hit, over, passed}
 use Rattle.script.proofs.Judging.{other-passes}
@@ -7,7 +6,7 @@ use Rattle.script.proofs.check.judge_other.Goals as goal
 
 pub returns-then-is_half_font : goal.returns-then-is_half_font
 unfolding tests_of
-returns-then-is_half_font c = λ chars at ks h. (hit _ _ (sym (c.is_half_font.ensures ks h) ∙ c.if-is_half_font.true), λ e. omega arith)
+returns-then-is_half_font c = λ chars at ks h. hit _ _ (sym (c.is_half_font.ensures ks h) ∙ c.if-is_half_font.true)
 
 pub returns : goal.returns
 unfolding tests_of

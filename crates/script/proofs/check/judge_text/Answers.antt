@@ -1,6 +1,6 @@
 use mathlib.Core.Path.{sym, ◌∙◌}
-use native.Mathlib.Omega.{arith}
 use borrow.Author.Tests.{eq-eqb, ne_eqb}
+use Rattle.std.proofs.lemmas.Result.{err_from_is_err_and}
 use Rattle.model.specs.Check.{tests_of}
 use Rattle.script.proofs.Parts.{hit, over}
 use Rattle.script.proofs.Judging.{text-passes}
@@ -8,30 +8,22 @@ use Rattle.script.proofs.check.judge_text.Goals as goal
 
 pub returns-then-is_half_font : goal.returns-then-is_half_font
 unfolding tests_of
-returns-then-is_half_font c = λ ks h. (hit _ _ (sym (c.is_half_font.ensures ks h) ∙ c.if-is_half_font.true), λ e. omega arith)
+returns-then-is_half_font c = λ ks h. hit _ _ (sym (c.is_half_font.ensures ks h) ∙ c.if-is_half_font.true)
 
-pub returns-then-depth-eq0 : goal.returns-then-depth-eq0
+pub returns-then-s-eq0 : goal.returns-then-s-eq0
 unfolding tests_of
-returns-then-depth-eq0 c =
-    λ ks h. (
-      over _ _ _ (sym (c.is_half_font.ensures ks h) ∙ c.if-is_half_font.false)
-          (hit _ _ (eq-eqb _ _ c.if-depth-eq0.true)),
-      λ e. omega arith,
-    )
+returns-then-s-eq0 c =
+    λ ks h. over _ _ _ (sym (c.is_half_font.ensures ks h) ∙ c.if-is_half_font.false) (hit _ _ (eq-eqb _ _ c.if-s-eq0.true))
 
-pub returns-then-t-ne0 : goal.returns-then-t-ne0
+pub returns-in_err-test_string : goal.returns-in_err-test_string
 unfolding tests_of
-returns-then-t-ne0 c =
-    λ ks h. (
-      over _ _ _
-          (sym (c.is_half_font.ensures ks h) ∙ c.if-is_half_font.false)
-          (over _ _ _ (ne_eqb _ _ c.if-depth-eq0.false) c.test_string-t.ensures),
-      c.if-t-ne0.true,
-    )
+returns-in_err-test_string c =
+    λ ks h. let out = err_from_is_err_and c.from_residual.result c.from_residual.ensures.1 in
+    rw (out.1, out.2) (over _ _ _ (sym (c.is_half_font.ensures ks h) ∙ c.if-is_half_font.false)
+    (over _ _ _ (ne_eqb _ _ c.if-s-eq0.false) c.in_err-test_string.ensures))
 
 pub returns : goal.returns
 unfolding tests_of
 returns c =
-    λ ks h. text-passes _ _ _ ks _ (over _ _ _
-    (sym (c.is_half_font.ensures ks h) ∙ c.if-is_half_font.false)
-    (over _ _ _ (ne_eqb _ _ c.if-depth-eq0.false) (sym c.if-t-ne0.false ∙ c.test_string-t.ensures)))
+    λ ks h. text-passes _ _ _ ks _ (over _ _ _ (sym (c.is_half_font.ensures ks h) ∙ c.if-is_half_font.false)
+    (over _ _ _ (ne_eqb _ _ c.if-s-eq0.false) c.in_ok-test_string.ensures))

@@ -11,17 +11,15 @@ returns-then-is_behind c = hit _ _ (lt-ltb _ _ c.if-is_behind.true)
 pub returns-then-is_repeated : goal.returns-then-is_repeated
 returns-then-is_repeated c = over _ _ _ (le-ltb _ _ c.if-is_behind.false) (hit _ _ (sym c.is_repeated.ensures ∙ c.if-is_repeated.true))
 
-pub returns-then-is_utf8 : goal.returns-then-is_utf8
-returns-then-is_utf8 c =
-    let args = c.args in
+pub returns-then-not-is_utf8 : goal.returns-then-not-is_utf8
+returns-then-not-is_utf8 c =
     over _ _ _ (le-ltb _ _ c.if-is_behind.false)
     (over _ _ _ (sym c.is_repeated.ensures ∙ c.if-is_repeated.false)
-    (over _ _ _ ((utf8-part _ (args.start + args.offset) _ _ _ _ c.is_utf8.ensures (omega arith)) c.if-is_utf8.true)
-    passed))
+    (hit _ _ (utf8-part _ (c.args.value.start + c.args.offset) _ _ _ _ c.is_utf8.ensures (omega arith) c.if-not-is_utf8.true)))
 
 pub returns : goal.returns
 returns c =
-    let args = c.args in
     over _ _ _ (le-ltb _ _ c.if-is_behind.false)
     (over _ _ _ (sym c.is_repeated.ensures ∙ c.if-is_repeated.false)
-    (hit _ _ ((utf8-part _ (args.start + args.offset) _ _ _ _ c.is_utf8.ensures (omega arith)) c.if-is_utf8.false)))
+    (over _ _ _ (utf8-part _ (c.args.value.start + c.args.offset) _ _ _ _ c.is_utf8.ensures (omega arith) c.if-not-is_utf8.false)
+    passed))

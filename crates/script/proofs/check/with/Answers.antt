@@ -2,4 +2,4 @@ use Rattle.script.proofs.Mask.{one_more}
 use Rattle.script.proofs.check.with.Goals as goal
 
 pub returns : goal.returns
-returns c = λ ks h. one_more c.args.kinds c.args.kind ks c.requires h
+returns c = λ ks k. rw c.from-n.ensures (one_more _ _ ks c.requires k)

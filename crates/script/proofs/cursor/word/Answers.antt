@@ -4,11 +4,4 @@ use Rattle.script.proofs.cursor.word.Goals as goal
 
 pub returns : goal.returns
 unfolding word_at
-returns c =
-    omega (
-      arith,
-      c.wide-a.ensures.0,
-      c.wide-b.ensures.0,
-      c.wide-c.ensures.0,
-      c.wide-d.ensures.0,
-    )
+returns c = omega arith

@@ -13,7 +13,6 @@ find_mark-found-requires c =
       };
       kept = c.requires.kept;
       indexed = c.requires.indexed;
-      le_pass = c.requires.le_pass;
       m_lt_nodes = c.requires.m_lt_nodes;
     }
 

@@ -1,4 +1,5 @@
 use Rattle.targets.proofs.Finding.{start-fit}
+use Rattle.targets.proofs.Passes.{pass-first}
 use Rattle.targets.proofs.Resolving.{resolving-first, resolving-tidy, resolving-next, resolving-done}
 use Rattle.targets.proofs.resolve.resolve.Goals as goal
 
@@ -9,10 +10,10 @@ pub resolve_one-hint-requires : goal.resolve_one-hint-requires
 resolve_one-hint-requires c =
     let inv = c.loop-m.invariant in record {
       drawn = record { checked = c.requires.characters_value; marked = c.requires.marked; fit = inv.fit };
-      tidy = resolving-tidy _ _ _ _ _ _ c.requires.le_pass.0 c.requires.le_pass.1 c.requires.characters_value _ c.requires.tidy _ _ _ inv;
+      tidy = resolving-tidy _ _ _ _ _ _
+          (pass-first c.args.pass) c.requires.pass_bound c.requires.characters_value _ c.requires.tidy _ _ _ inv;
       indexed = inv.indexed;
       nodes_bound = c.requires.nodes_bound;
-      le_pass = c.requires.le_pass;
       m_lt_nodes = c.loop-m-test.true;
       stored_before = record { marks = inv.marks };
     }
@@ -20,7 +21,7 @@ resolve_one-hint-requires c =
 pub loop-m-preserved : goal.loop-m-preserved
 loop-m-preserved c =
     let inv = c.loop-m.invariant in
-    resolving-next _ _ _ _ _ _ c.requires.le_pass.0 c.requires.le_pass.1 c.requires.characters_value _ c.requires.tidy _ _ _ inv
+    resolving-next _ _ _ _ _ _ (pass-first c.args.pass) c.requires.pass_bound c.requires.characters_value _ c.requires.tidy _ _ _ inv
     c.loop-m-test.true _ _ c.resolve_one-hint.ensures.stored
     c.resolve_one-hint.ensures.fit
 

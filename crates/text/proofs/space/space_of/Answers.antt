@@ -1,19 +1,17 @@
 use mathlib.Core.Path.{refl, sym}
-use native.Mathlib.Omega.{arith}
 use Rattle.model.specs.Text.{space_of}
-use Rattle.tree.proofs.Entries.{some-there, none-there}
+use Rattle.tree.proofs.Entries.{taken, one-less}
 use Rattle.text.proofs.space.space_of.Goals as goal
 
-pub returns-then-w-eq0 : goal.returns-then-w-eq0
+pub returns-in-None : goal.returns-in-None
 unfolding space_of
-returns-then-w-eq0 c = rw (none-there c.holder_of-w.ensures.found c.if-w-eq0.true) refl
+returns-in-None c = rw (sym c.in-None.ensures.found) refl
 
 pub get_xmlspace-requires : goal.get_xmlspace-requires
-get_xmlspace-requires c = c.requires.by_index _ (omega (arith, c.holder_of-w.ensures.within))
+get_xmlspace-requires c = c.requires.by_index _ c.in-Some.ensures.within
 
-pub returns : goal.returns
+pub returns-in-Some : goal.returns-in-Some
 unfolding space_of
-returns c =
-    rw
-    (some-there c.holder_of-w.ensures.found c.if-w-eq0.false, sym c.holder_of-w.ensures.found)
-    c.get_xmlspace.ensures
+returns-in-Some c =
+    let found = c.in-Some.ensures.found in
+    rw (taken _ found, one-less _ found) c.get_xmlspace.ensures

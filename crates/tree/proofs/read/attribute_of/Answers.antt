@@ -1,60 +1,29 @@
-use mathlib.Core.Path.{refl, sym}
-use Prim.Native.Nat.{zero-le}
+use mathlib.Core.Path.{sym, ap, ◌∙◌}
+use mathlib.Core.Bool.{true, false}
 use Rattle.model.specs.Names.{fixed_bytes, fixed_values}
-use Rattle.model.specs.Tables.{entry_at, attribute_of}
-use Rattle.tree.proofs.Bools.{fails, passes}
-use Rattle.tree.proofs.Entries.{some-there, none-there}
-use Rattle.tree.proofs.Alike.{held-value}
+use Rattle.model.specs.Tables.{entry_at}
+use Rattle.tree.specs.Lent.{plus_one}
+use Rattle.tree.proofs.Alike.{held-value, attribute-none, attribute-some}
+use Rattle.tree.proofs.read.attribute_of.Goals.{else-is_possible_none-via-then-is_possible_none+else-has_value}
+use Rattle.tree.proofs.read.attribute_of.Goals.{else-is_possible_none-via-else-is_possible_none}
 use Rattle.tree.proofs.read.attribute_of.Goals as goal
 
-pub returns-then-j-eq0 : goal.returns-then-j-eq0
-unfolding attribute_of
-returns-then-j-eq0 c =
-    record {
-      found = rw (none-there c.attribute_id-j.ensures.found c.if-j-eq0.true);
-      held = record { element = λ h. absurd (h refl); last = zero-le };
-    }
-
-pub returns-then-not-is_possible_none : goal.returns-then-not-is_possible_none
-unfolding attribute_of
-returns-then-not-is_possible_none c =
-    record {
-      found = rw (
-        some-there c.attribute_id-j.ensures.found c.if-j-eq0.false,
-        fails c.is_possible_none.ensures c.if-not-is_possible_none.true-raw,
-      ) c.attribute_id-j.ensures.found;
-      held = c.attribute_id-j.ensures.held;
-    }
+pub returns-in_err-j-clause-found : goal.returns-in_err-j-clause-found
+returns-in_err-j-clause-found c =
+    ap plus_one c.from_residual.ensures ∙ attribute-none _ _ _ _ c.in_err-j.ensures.found
 
 pub has_value-requires : goal.has_value-requires
-has_value-requires c =
-    held-value _ _ _ _ c.requires
-    c.attribute_id-j.ensures.held c.if-j-eq0.false
+has_value-requires c = held-value _ _ _ _ c.requires c.in_ok-j.ensures.held
 
-pub returns-then-has_value : goal.returns-then-has_value
-unfolding attribute_of entry_at fixed_bytes fixed_values
-returns-then-has_value c =
-    let attribute-id-ensures = c.attribute_id-j.ensures.found in record {
-      found = rw (
-        some-there attribute-id-ensures c.if-j-eq0.false,
-        passes c.is_possible_none.ensures c.if-not-is_possible_none.false-raw,
-        sym attribute-id-ensures,
-        sym c.has_value.ensures,
-        c.if-has_value.true,
-      );
-      held = record { element = λ h. absurd (h refl); last = zero-le };
-    }
+pub returns-then-has_value-clause-found : goal.returns-then-has_value-clause-found
+unfolding fixed_bytes fixed_values entry_at
+returns-then-has_value-clause-found c =
+    sym (attribute-some _ _ _ _ _ true c.in_ok-j.ensures.found (rw (sym c.if-is_possible_none.ensures) c.if-has_value.ensures))
 
-pub returns : goal.returns
-unfolding attribute_of entry_at fixed_bytes fixed_values
-returns c =
-    record {
-      found = rw (
-        some-there c.attribute_id-j.ensures.found c.if-j-eq0.false,
-        passes c.is_possible_none.ensures c.if-not-is_possible_none.false-raw,
-        sym c.attribute_id-j.ensures.found,
-        sym c.has_value.ensures,
-        c.if-has_value.false,
-      );
-      held = c.attribute_id-j.ensures.held;
-    }
+pub returns-clause-found : goal.returns-clause-found
+unfolding fixed_bytes fixed_values entry_at
+returns-clause-found c =
+    sym (attribute-some _ _ _ _ _ false c.in_ok-j.ensures.found (elim c.else-is_possible_none.branch [
+      | else-is_possible_none-via-then-is_possible_none+else-has_value w ↦ rw (sym w.if-is_possible_none.ensures) w.if-has_value.ensures
+      | else-is_possible_none-via-else-is_possible_none w ↦ rw (sym w.if-is_possible_none.ensures)
+    ]))

@@ -7,6 +7,3 @@ use Rattle.tree.proofs.read.find_entry.Given as goal
 abbrev pub invariant-loop-j : goal.invariant-loop-j
 invariant-loop-j l = find_entry (entries_of l.attributes) l.a l.j (l.to - l.j) ≡ find_entry (entries_of l.attributes) l.a l.from (l.to -
     l.from)
-
-abbrev pub decreases-loop-j : goal.decreases-loop-j
-decreases-loop-j l = l.to - l.j

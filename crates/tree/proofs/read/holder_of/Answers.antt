@@ -1,66 +1,49 @@
 use mathlib.Core.Path.{sym, ◌∙◌, ap}
-use Prim.Native.Nat.{ℕ, ◌-◌}
+use Prim.Native.Nat.{ℕ, ◌≤◌}
 use native.Mathlib.Omega.{arith}
 use Rattle.model.specs.Tables.{parent_of, has_attribute}
-use Rattle.tree.specs.Lent.{read_of}
-use Rattle.tree.proofs.Entries.{has, has-not}
-use Rattle.tree.proofs.Climbs.{climb, holder-climbs, climb-step, climb-end}
+use Rattle.tree.specs.Lent.{plus_one, read_of}
+use Rattle.tree.proofs.Climbs.{climb, holder-climbs, climb-turn, climb-end, has_attribute-by}
 use Rattle.tree.proofs.read.holder_of.Goals as goal
 
-pub overflow_add-w : goal.overflow_add-w
-overflow_add-w c = omega (arith, c.requires.small)
+pub loop-above-init : goal.loop-above-init
+loop-above-init c = (omega arith, sym (holder-climbs _ _ _ _))
 
-pub loop-w-init : goal.loop-w-init
-loop-w-init c = (omega arith, sym (holder-climbs _ _ _ _))
+pub attribute_id-requires : goal.attribute_id-requires
+attribute_id-requires c = c.requires.readable c.in-Some.k (omega (arith, ap plus_one c.in-Some.is))
 
-pub overflow_sub-w : goal.overflow_sub-w
-overflow_sub-w c = omega arith
+pub returns-then-is_holder-clause-found : goal.returns-then-is_holder-clause-found
+returns-then-is_holder-clause-found c =
+    let w = ap plus_one c.in-Some.is in
+    let falls = λ (j : ℕ) (l : j ≤ c.in-Some.k). (c.requires.placed j (omega (arith, w))).falls in
+    let t = climb-turn _ _ _ _ _ _ falls (has_attribute-by _ _ _ _ c.attribute_id.ensures.found) w c.loop-above.invariant.1 in
+    rw (sym c.if-is_holder.ensures) at t
 
-pub attribute_id-is_holder-requires : goal.attribute_id-is_holder-requires
-attribute_id-is_holder-requires c = c.requires.readable (c.loop-w.w - 1) (omega arith)
+pub node_link-above-requires : goal.node_link-above-requires
+node_link-above-requires c = omega (arith, (c.requires.placed c.in-Some.k (omega (arith, ap plus_one c.in-Some.is))).inside)
 
-pub returns-then-is_holder : goal.returns-then-is_holder
-returns-then-is_holder c =
-    record {
-      found = sym (climb-step _ _ _ c.loop-w-test.true
-          (λ k l. (c.requires.placed k (omega arith)).falls)
-          ∙ rw (has c.attribute_id-is_holder.ensures.found c.if-is_holder.true)) ∙ c.loop-w.invariant.1;
-      within = omega arith;
-    }
-
-pub overflow_sub-w-in-loop-w : goal.overflow_sub-w-in-loop-w
-overflow_sub-w-in-loop-w c = omega arith
-
-pub node_word-w-requires : goal.node_word-w-requires
-node_word-w-requires c =
+pub loop-above-smaller : goal.loop-above-smaller
+loop-above-smaller c =
     omega (
       arith,
-      (c.requires.placed (c.loop-w.w - 1)
-          (omega arith)).inside,
+      ap plus_one c.in-Some.is,
+      c.node_link-above.ensures,
+      (c.requires.placed c.in-Some.k (omega (arith, ap plus_one c.in-Some.is))).falls,
     )
 
-pub loop-w-smaller : goal.loop-w-smaller
-loop-w-smaller c =
-    omega (
-      arith,
-      (c.requires.placed
-          (c.loop-w.w - 1) (omega arith)).falls,
-    )
-
-pub loop-w-preserved : goal.loop-w-preserved
-loop-w-preserved c =
+pub loop-above-preserved : goal.loop-above-preserved
+loop-above-preserved c =
     let args = c.args in
-    let read = read_of args.nodes.now args.attributes.now in (
-      omega (arith, (c.requires.placed (c.loop-w.w - 1) (omega arith)).falls),
-      ap (λ (n : ℕ). climb (λ k. has_attribute read k args.a) (parent_of read) n n) c.node_word-w.ensures
-          ∙ sym (climb-step _ _ _ c.loop-w-test.true
-          (λ k l. (c.requires.placed k (omega arith)).falls)
-          ∙ rw (has-not c.attribute_id-is_holder.ensures.found c.if-is_holder.false)) ∙ c.loop-w.invariant.1,
+    let read = read_of args.nodes.now args.attributes.now in
+    let w = ap plus_one c.in-Some.is in
+    let falls = λ (j : ℕ) (l : j ≤ c.in-Some.k). (c.requires.placed j (omega (arith, w))).falls in
+    let t = climb-turn _ _ _ _ _ _ falls (has_attribute-by _ _ _ _ c.attribute_id.ensures.found) w c.loop-above.invariant.1 in
+    let u = rw (sym c.if-is_holder.ensures) at t in (
+      omega (arith, w, c.node_link-above.ensures, (c.requires.placed c.in-Some.k (omega (arith, w))).falls),
+      ap (λ (n : ℕ). climb (λ k. has_attribute read k args.a) (parent_of read) n n) c.node_link-above.ensures ∙ u,
     )
 
-pub returns : goal.returns
-returns c =
-    record {
-      found = climb-end _ _ _ c.loop-w-test.false ∙ c.loop-w.invariant.1;
-      within = omega arith;
-    }
+pub returns-clause-found : goal.returns-clause-found
+returns-clause-found c =
+    let w = ap plus_one c.in_default.is in
+    let h = c.loop-above.invariant.1 in climb-end _ _ ∙ (rw w at h)

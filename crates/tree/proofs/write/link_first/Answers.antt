@@ -1,16 +1,11 @@
-use borrow.Author.Tests.{eq-eqb, ne_eqb}
-use mathlib.Core.Path.{sym}
 use Rattle.model.specs.Tables.{first_linked}
+use Rattle.tree.proofs.Entries.{there-not}
 use Rattle.tree.proofs.write.link_first.Goals as goal
 
-pub returns-then-node_word-ne0 : goal.returns-then-node_word-ne0
+pub returns-then-is_none : goal.returns-then-is_none
 unfolding first_linked
-returns-then-node_word-ne0 c = rw (sym c.node_word.ensures, ne_eqb _ _ c.if-node_word-ne0.true)
+returns-then-is_none c = rw (there-not _ c.node_link.ensures, c.if-is_none.ensures) c.set_word.ensures
 
-pub returns : goal.returns
+pub returns-else-is_none : goal.returns-else-is_none
 unfolding first_linked
-returns c =
-    rw (
-      sym c.node_word.ensures,
-      eq-eqb _ _ c.if-node_word-ne0.false,
-    ) c.set_word.ensures
+returns-else-is_none c = rw (there-not _ c.node_link.ensures, c.if-is_none.ensures)

@@ -1,15 +1,12 @@
-use borrow.Author.Tests.{eq-eqb, ne_eqb}
-use native.Mathlib.Omega.{arith}
+use mathlib.Core.Path.{refl}
 use Rattle.model.specs.Tables.{next_linked}
+use Rattle.tree.proofs.Entries.{taken, one-less}
 use Rattle.tree.proofs.write.link_next.Goals as goal
 
-pub returns-then-j-eq0 : goal.returns-then-j-eq0
+pub returns-in-Some : goal.returns-in-Some
 unfolding next_linked
-returns-then-j-eq0 c = rw (eq-eqb _ _ c.if-j-eq0.true)
+returns-in-Some c = let j = c.in-Some.j in rw (c.in-Some.is, taken j refl, one-less j refl) c.set_word.ensures
 
-pub set_word-requires : goal.set_word-requires
-set_word-requires c = omega (arith, c.requires.0 c.if-j-eq0.false)
-
-pub returns : goal.returns
+pub returns-in_default : goal.returns-in_default
 unfolding next_linked
-returns c = rw (ne_eqb _ _ c.if-j-eq0.false) c.set_word.ensures
+returns-in_default c = rw (c.in_default.is)

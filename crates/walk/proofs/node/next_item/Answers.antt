@@ -1,5 +1,5 @@
 use native.Mathlib.Omega.{arith}
-use Rattle.walk.proofs.Walks.{reach-none, item-at}
+use Rattle.walk.proofs.Walks.{reach-none, item-at, item-end}
 use Rattle.walk.proofs.node.next_item.Goals as goal
 
 pub loop-name-init : goal.loop-name-init
@@ -70,10 +70,5 @@ loop-name-preserved c =
 
 pub returns-in-Broken : goal.returns-in-Broken
 returns-in-Broken c =
-    let whole = item-at _ _ _ _ _ _ c.in-Broken.is (c.next.ensures.step, c.next.ensures.going) c.loop-name.invariant in
-    record { same = whole.0; fit = whole.1 }
-
-pub returns-in-End : goal.returns-in-End
-returns-in-End c =
-    let whole = item-at _ _ _ _ _ _ c.in-End.is (c.next.ensures.step, c.next.ensures.going) c.loop-name.invariant in
+    let whole = item-end _ _ _ _ _ c.in-Broken.is (c.next.ensures.step, c.next.ensures.going) c.loop-name.invariant in
     record { same = whole.0; fit = whole.1 }

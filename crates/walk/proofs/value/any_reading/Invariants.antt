@@ -5,8 +5,8 @@ use Rattle.walk.specs.Values.{readings_in}
 use Rattle.walk.proofs.Finding.{Reading}
 use Rattle.walk.proofs.value.any_reading.Given as goal
 
-abbrev pub invariant-loop-k : goal.invariant-loop-k
-invariant-loop-k l = Reading (λ s a c. any_reading l.kind l.id (readings_in s l.characters a c)) l.script l.start l.initial.c l.c
+abbrev pub invariant-loop-x : goal.invariant-loop-x
+invariant-loop-x l = Reading (λ s a c. any_reading l.kind l.id (readings_in s l.characters a c)) l.script l.start l.initial.c l.c
 
-abbrev pub decreases-loop-k : goal.decreases-loop-k
-decreases-loop-k l = length l.script - l.c.at
+abbrev pub decreases-loop-x : goal.decreases-loop-x
+decreases-loop-x l = length l.script - l.c.at

@@ -3,8 +3,8 @@ use lib.ListN.{length}
 use Rattle.walk.proofs.Walks.{Reach, below_from}
 use Rattle.walk.proofs.value.next_declaration.Given as goal
 
-abbrev pub invariant-loop-n : goal.invariant-loop-n
-invariant-loop-n l = Reach (below_from l.characters) l.script l.initial.c l.c
+abbrev pub invariant-loop-name : goal.invariant-loop-name
+invariant-loop-name l = Reach (below_from l.characters) l.script l.initial.c l.c
 
-abbrev pub decreases-loop-n : goal.decreases-loop-n
-decreases-loop-n l = length l.script - l.c.at
+abbrev pub decreases-loop-name : goal.decreases-loop-name
+decreases-loop-name l = length l.script - l.c.at

@@ -3,40 +3,33 @@ use Rattle.walk.proofs.Walks.{reading-told}
 use Rattle.walk.proofs.Finding.{reading-first, of-kind, other-kind, of-no-kind}
 use Rattle.walk.proofs.value.reading_of.Goals as goal
 
-pub loop-k-init : goal.loop-k-init
-loop-k-init c = reading-first _ _ _ _ c.requires.fit_2
+pub loop-x-init : goal.loop-x-init
+loop-x-init c = reading-first _ _ _ _ c.requires.fit_2
 
 pub next_reading-requires : goal.next_reading-requires
-next_reading-requires c =
-    record {
-      fit_2 = c.loop-k.invariant.fit;
-      start_le_most_place = c.requires.start_le_most_place;
-    }
+next_reading-requires c = record { fit_2 = c.loop-x.invariant.fit; start_le_most_place = c.requires.start_le_most_place }
 
-pub returns-then-k-kind : goal.returns-then-k-kind
-returns-then-k-kind c =
-    let read = reading-told _ _ _ _ _ _ c.in-At.is
-    (c.next_reading.ensures.same, c.next_reading.ensures.fit) in record {
-      same = of-kind _ _ _ _ _ _ _ _ _ _ _ c.in-At.is (c.next_reading.ensures.same, c.next_reading.ensures.fit)
-          c.loop-k.invariant c.if-k-kind.true;
+pub returns-in_err-x : goal.returns-in_err-x
+returns-in_err-x c =
+    rw c.from_residual.ensures (record {
+      same = of-no-kind _ _ _ _ _ _ _ c.in_err-x.was (c.next_reading.ensures.same, c.next_reading.ensures.fit) c.loop-x.invariant;
+      fit = tt;
+    })
+
+pub returns-then-x-kind : goal.returns-then-x-kind
+returns-then-x-kind c =
+    let read = reading-told _ _ _ _ _ _ c.in_ok-x.was (c.next_reading.ensures.same, c.next_reading.ensures.fit) in record {
+      same = of-kind _ _ _ _ _ _ _ _ c.in_ok-x.was (c.next_reading.ensures.same, c.next_reading.ensures.fit)
+          c.loop-x.invariant c.if-x-kind.true;
       fit = read.1.small;
     }
 
-pub loop-k-smaller : goal.loop-k-smaller
-loop-k-smaller c =
-    let read = reading-told _ _ _ _ _ _ c.in-At.is
-    (c.next_reading.ensures.same, c.next_reading.ensures.fit) in
+pub loop-x-smaller : goal.loop-x-smaller
+loop-x-smaller c =
+    let read = reading-told _ _ _ _ _ _ c.in_ok-x.was (c.next_reading.ensures.same, c.next_reading.ensures.fit) in
     omega (arith, read.1.further, read.1.rest.nodes.fit.at)
 
-pub loop-k-preserved : goal.loop-k-preserved
-loop-k-preserved c =
-    other-kind _ _ _ _ _ _ _ _ _ _ _ c.in-At.is (c.next_reading.ensures.same, c.next_reading.ensures.fit)
-    c.loop-k.invariant c.if-k-kind.false
-
-pub returns-in-End : goal.returns-in-End
-returns-in-End c =
-    record {
-      same = of-no-kind _ _ _ _ _ _ _ c.in-End.is (c.next_reading.ensures.same, c.next_reading.ensures.fit)
-          c.loop-k.invariant;
-      fit = tt;
-    }
+pub loop-x-preserved : goal.loop-x-preserved
+loop-x-preserved c =
+    other-kind _ _ _ _ _ _ _ _ c.in_ok-x.was (c.next_reading.ensures.same, c.next_reading.ensures.fit)
+    c.loop-x.invariant c.if-x-kind.false
