@@ -1,6 +1,7 @@
 -- The answer of an operation on the tables as the model has it, and what the steps of a build ask.
+use Rattle.script.specs.Step.{Checked}
+use Rattle.script.specs.declared.drawing.Drawing.{Drawing}
 use Rattle.std.specs.Prelude.{◌≡◌, ℕ, ◌≤◌, Bool, true, false, List, length, Ok, Err}
-use Rattle.model.specs.Check.{check}
 use Rattle.model.specs.Tables.{Tree, cleared, rooted}
 use Rattle.model.specs.Build.{Result}
 use Rattle.std.specs.Prelude as std
@@ -42,12 +43,12 @@ left_by true ns es bs = cleared_as ns es bs
 left_by false ns es bs = tree_of ns es bs nothing
 
 -- A drawing that check takes, and tables as a build of it has them.
-pub record Tended (script chars : List ℕ) (t : Tree) : Type 0 where
-  pub checked : check script chars ≡ 0
-  pub tidy : Tidy (length chars) t
+pub record Tended (drawing : Drawing) (t : Tree) : Type 0 where
+  pub checked : Checked drawing
+  pub tidy : Tidy (length drawing.characters.now) t
 
 -- The same with the root alone in cleared tables.
-pub record Rooted (script chars : List ℕ) (t : Tree) : Type 0 where
-  pub checked : check script chars ≡ 0
+pub record Rooted (drawing : Drawing) (t : Tree) : Type 0 where
+  pub checked : Checked drawing
   pub room : 8 ≤ length t.nodes
   pub root : t ≡ rooted (cleared (length t.nodes) (length t.attributes) (length t.text))

@@ -4,7 +4,7 @@ ghost use Rattle.model.specs.Tables.{word, refused};
 ghost use Rattle.model.specs.Build.{answered, first_is_svg};
 ghost use Rattle.tree.specs.Lent.{tree_of, nodes_read};
 ghost use Rattle.refusal.specs.Number.{number_of};
-ghost use Rattle.build.specs.Results.{built_of, result_of, nothing, cleared_as, left_by};
+ghost use Rattle.build.specs.Results.{built_of, result_of, nothing, cleared_as};
 
 use names::eid;
 use refusal::Refusal;
@@ -14,28 +14,24 @@ use tree::{Counts, word};
 
 // All three tables become zero.
 pub fn clear(nodes: &mut [u32], attributes: &mut [u32], text: &mut [u8])
-    ensures { tree_of nodes.new attributes.new text.new nothing
-        ≡ cleared_as nodes.old attributes.old text.old }
+    ensures { tree_of nodes.new attributes.new text.new nothing ≡ cleared_as nodes.old attributes.old text.old }
 {
     nodes.fill(0);
     attributes.fill(0);
     text.fill(0);
 }
 
-// What every refusal goes through. A build that is refused clears the tables; a fault of an exchange's call leaves them as they are.
+// What every refusal goes through: a build that is refused clears the tables.
 pub fn refuse(
     nodes: &mut [u32],
     attributes: &mut [u32],
     text: &mut [u8],
     refusal: Refusal,
-    clears: bool,
 ) -> Result<Counts, Refusal>
     ensures { (chars : List ℕ) → result_of chars nodes.new attributes.new text.new (built_of result)
-        ≡ answered chars (left_by clears nodes.old attributes.old text.old) (refused (number_of refusal)) }
+        ≡ answered chars (cleared_as nodes.old attributes.old text.old) (refused (number_of refusal)) }
 {
-    if clears {
-        clear(nodes, attributes, text);
-    }
+    clear(nodes, attributes, text);
     Err(refusal)
 }
 

@@ -1,10 +1,9 @@
 // build: check, the tables cleared, the root, the nodes, the first element's test, the repairs.
 ghost use Rattle.std.specs.Prelude.{◌≡◌, ◌≤◌, length};
-ghost use Rattle.model.specs.Check.{check};
-ghost use Rattle.model.specs.Drawing.{events};
 ghost use Rattle.model.specs.Tables.{then};
 ghost use Rattle.model.specs.Parse.{plain};
 ghost use Rattle.model.specs.Build.{parsed, tested, with_repairs, answered, build};
+ghost use Rattle.script.specs.Step.{Checked, document};
 ghost use Rattle.memo.specs.Table.{Memo};
 ghost use Rattle.tree.specs.Lent.{tree_of};
 ghost use Rattle.build.specs.Results.{built_of, result_of, root_alone, cleared_as, Tended, Rooted};
@@ -18,48 +17,47 @@ use refusal::Refusal;
 use repair::whole::repair;
 use script::check::check;
 use script::cursor::Cursor;
+use script::drawing::Drawing;
 use tree::Counts;
 use tree::room::node_room;
 use tree::write::put_root;
 
 // What is still to do when all nodes are built: the first element's test, and the repairs.
 fn finish(
-    script: &[u8],
-    characters: &[u8],
+    drawing: &Drawing,
     nodes: &mut [u32],
     attributes: &mut [u32],
     text: &mut [u8],
     counts: Counts,
 ) -> Result<Counts, Refusal>
-    requires { Tended script.now characters.now (tree_of nodes.old attributes.old text.old counts) }
-    ensures { result_of characters.now nodes.new attributes.new text.new (built_of result)
-        ≡ answered characters.now (cleared_as nodes.old attributes.old text.old)
-        (with_repairs characters.now (events script.now characters.now)
+    requires { Tended drawing.now (tree_of nodes.old attributes.old text.old counts) }
+    ensures { result_of drawing.now.characters.now nodes.new attributes.new text.new (built_of result)
+        ≡ answered drawing.now.characters.now (cleared_as nodes.old attributes.old text.old)
+        (with_repairs drawing.now.characters.now (document drawing.now)
         (tested (tree_of nodes.old attributes.old text.old counts))) }
 {
     if !first_is_svg(nodes) {
-        return refuse(nodes, attributes, text, Refusal::NotAnSvg, true);
+        return refuse(nodes, attributes, text, Refusal::NotAnSvg);
     }
-    repair(script, characters, nodes, attributes, counts);
+    repair(drawing, nodes, attributes, counts);
     Ok(counts)
 }
 
 // What is still to do behind the root, by the table of ids. The recursion begins before the first command, with the root alone taken; what
 // stands before the first element is passed over.
 fn fill_by(
-    script: &[u8],
-    characters: &[u8],
+    drawing: &Drawing,
     slots: &[u16],
     nodes: &mut [u32],
     attributes: &mut [u32],
     text: &mut [u8],
 ) -> Result<Counts, Refusal>
-    requires rooted { Rooted script.now characters.now (tree_of nodes.old attributes.old text.old root_alone) }
-    requires memo { Memo script.now characters.now slots.now }
-    ensures { result_of characters.now nodes.new attributes.new text.new (built_of result)
-        ≡ answered characters.now (cleared_as nodes.old attributes.old text.old)
-        (with_repairs characters.now (events script.now characters.now)
-        (then (parsed (plain characters.now) (events script.now characters.now)
+    requires rooted { Rooted drawing.now (tree_of nodes.old attributes.old text.old root_alone) }
+    requires memo { Memo drawing.now slots.now }
+    ensures { result_of drawing.now.characters.now nodes.new attributes.new text.new (built_of result)
+        ≡ answered drawing.now.characters.now (cleared_as nodes.old attributes.old text.old)
+        (with_repairs drawing.now.characters.now (document drawing.now)
+        (then (parsed (plain drawing.now.characters.now) (document drawing.now)
         (tree_of nodes.old attributes.old text.old root_alone)) tested)) }
 {
     let mut state = State {
@@ -73,72 +71,69 @@ fn fill_by(
             text: 0,
         },
     };
-    pass_unbuilt(&mut state, script, characters, 1025);
+    pass_unbuilt(&mut state, drawing, 1025);
     let built = parse_xml_node_children(
-        &mut state, 1025, 0, script, characters, nodes, attributes, text, slots,
+        &mut state, 1025, 0, drawing, nodes, attributes, text, slots,
     );
     match built {
-        Ok(()) => finish(script, characters, nodes, attributes, text, state.counts),
-        Err(refusal) => refuse(nodes, attributes, text, refusal, true),
+        Ok(()) => finish(drawing, nodes, attributes, text, state.counts),
+        Err(refusal) => refuse(nodes, attributes, text, refusal),
     }
 }
 
 // What is still to do behind the root, with a table of ids of N words: it tells nothing where they are few.
 fn fill_with<const N: usize>(
-    script: &[u8],
-    characters: &[u8],
+    drawing: &Drawing,
     nodes: &mut [u32],
     attributes: &mut [u32],
     text: &mut [u8],
 ) -> Result<Counts, Refusal>
     requires size { N ≤ 32768 }
-    requires rooted { Rooted script.now characters.now (tree_of nodes.old attributes.old text.old root_alone) }
-    ensures { result_of characters.now nodes.new attributes.new text.new (built_of result)
-        ≡ answered characters.now (cleared_as nodes.old attributes.old text.old)
-        (with_repairs characters.now (events script.now characters.now)
-        (then (parsed (plain characters.now) (events script.now characters.now)
+    requires rooted { Rooted drawing.now (tree_of nodes.old attributes.old text.old root_alone) }
+    ensures { result_of drawing.now.characters.now nodes.new attributes.new text.new (built_of result)
+        ≡ answered drawing.now.characters.now (cleared_as nodes.old attributes.old text.old)
+        (with_repairs drawing.now.characters.now (document drawing.now)
+        (then (parsed (plain drawing.now.characters.now) (document drawing.now)
         (tree_of nodes.old attributes.old text.old root_alone)) tested)) }
 {
     let mut slots: [u16; N] = [0; N];
-    memo::fill::fill(script, characters, &mut slots);
-    fill_by(script, characters, &slots, nodes, attributes, text)
+    memo::fill::fill(drawing, &mut slots);
+    fill_by(drawing, &slots, nodes, attributes, text)
 }
 
 // What is still to do behind the root: no link is followed by an id, or few, or any number.
 fn fill(
-    script: &[u8],
-    characters: &[u8],
+    drawing: &Drawing,
     nodes: &mut [u32],
     attributes: &mut [u32],
     text: &mut [u8],
 ) -> Result<Counts, Refusal>
-    requires { Rooted script.now characters.now (tree_of nodes.old attributes.old text.old root_alone) }
-    ensures { result_of characters.now nodes.new attributes.new text.new (built_of result)
-        ≡ answered characters.now (cleared_as nodes.old attributes.old text.old)
-        (with_repairs characters.now (events script.now characters.now)
-        (then (parsed (plain characters.now) (events script.now characters.now)
+    requires { Rooted drawing.now (tree_of nodes.old attributes.old text.old root_alone) }
+    ensures { result_of drawing.now.characters.now nodes.new attributes.new text.new (built_of result)
+        ≡ answered drawing.now.characters.now (cleared_as nodes.old attributes.old text.old)
+        (with_repairs drawing.now.characters.now (document drawing.now)
+        (then (parsed (plain drawing.now.characters.now) (document drawing.now)
         (tree_of nodes.old attributes.old text.old root_alone)) tested)) }
 {
-    if !may_link(script) {
-        return fill_with::<1>(script, characters, nodes, attributes, text);
+    if !may_link(drawing.script) {
+        return fill_with::<1>(drawing, nodes, attributes, text);
     }
-    if script.len() < 16384 {
-        return fill_with::<2048>(script, characters, nodes, attributes, text);
+    if drawing.script.len() < 16384 {
+        return fill_with::<2048>(drawing, nodes, attributes, text);
     }
-    fill_with::<32768>(script, characters, nodes, attributes, text)
+    fill_with::<32768>(drawing, nodes, attributes, text)
 }
 
 // The build of a drawing that check takes.
 pub fn build_checked(
-    script: &[u8],
-    characters: &[u8],
+    drawing: &Drawing,
     nodes: &mut [u32],
     attributes: &mut [u32],
     text: &mut [u8],
 ) -> Result<Counts, Refusal>
-    requires { check script.now characters.now ≡ 0 }
-    ensures { result_of characters.now nodes.new attributes.new text.new (built_of result)
-        ≡ build script.now characters.now (length nodes.old) (length attributes.old)
+    requires { Checked drawing.now }
+    ensures { result_of drawing.now.characters.now nodes.new attributes.new text.new (built_of result)
+        ≡ build drawing.now.script.now drawing.now.characters.now (length nodes.old) (length attributes.old)
         (length text.old) }
 {
     clear(nodes, attributes, text);
@@ -146,23 +141,22 @@ pub fn build_checked(
         return Err(Refusal::NodesFull);
     }
     put_root(nodes);
-    fill(script, characters, nodes, attributes, text)
+    fill(drawing, nodes, attributes, text)
 }
 
 // A drawing in the three tables. Every refusal clears them.
 pub fn build(
-    script: &[u8],
-    characters: &[u8],
+    drawing: &Drawing,
     nodes: &mut [u32],
     attributes: &mut [u32],
     text: &mut [u8],
 ) -> Result<Counts, Refusal>
-    ensures { result_of characters.now nodes.new attributes.new text.new (built_of result)
-        ≡ build script.now characters.now (length nodes.old) (length attributes.old)
+    ensures { result_of drawing.now.characters.now nodes.new attributes.new text.new (built_of result)
+        ≡ build drawing.now.script.now drawing.now.characters.now (length nodes.old) (length attributes.old)
         (length text.old) }
 {
-    match check(script, characters) {
-        Ok(()) => build_checked(script, characters, nodes, attributes, text),
-        Err(refusal) => refuse(nodes, attributes, text, refusal, true),
+    match check(drawing) {
+        Ok(()) => build_checked(drawing, nodes, attributes, text),
+        Err(refusal) => refuse(nodes, attributes, text, refusal),
     }
 }

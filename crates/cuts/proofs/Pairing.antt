@@ -3,6 +3,9 @@ use mathlib.Core.Path.{◌≡◌, refl, sym, ap, ◌∙◌, subst}
 use mathlib.Core.Bool.{Bool, true, false, true≢false}
 use mathlib.Core.List.{List, [], ◌∷◌}
 use mathlib.Core.Option.{Option, none, some}
+use Rattle.ids.specs.declared.heads.Heads.{Heads}
+use Rattle.script.specs.Step.{document}
+use Rattle.script.specs.declared.drawing.Drawing.{Drawing}
 use Rattle.std.proofs.Common as common
 use Rattle.std.proofs.Common.{Some, None}
 use Prim.Native.Nat.{ℕ, zero, suc, ◌+◌, ◌-◌, ◌<◌, ◌≤◌}
@@ -13,7 +16,7 @@ use lib.Dec.{eqb, leb}
 use lib.ListN.{length}
 use Rattle.model.specs.Base.{pick, given, Pair}
 use Rattle.model.specs.AId
-use Rattle.model.specs.Drawing.{Part, Value, events, reading_of, readings_of}
+use Rattle.model.specs.Drawing.{Part, Value, reading_of, readings_of}
 use Rattle.model.specs.Tables.{Tree, attribute_id, attribute_of, has_id_bytes, last_with_id, element_by_id}
 use Rattle.model.specs.Repair.{up_from, descendants, readings_of_attribute, link_of, node_attribute}
 use Rattle.model.specs.Repair.{Cut, cut_name, cut_at, apply_cut, applied}
@@ -63,46 +66,46 @@ mark-low chars values k t m = go (link_of chars values (pass_kind k) t (cut_name
         at _ (last-most chars t v.bytes t.node_count) (eqb (last_with_id chars t v.bytes t.node_count) 0)
         (eqb (length v.bytes) 0)
 
-module _ (script chars ns es : List ℕ) (c : Counts) (aim : Aim) (w : Aimed chars (seen_of ns es c) aim) (m : ℕ) where
+module _ (drawing : Drawing) (ns es : List ℕ) (c : Counts) (aim : Aim) (w : Aimed drawing.characters.now (seen_of ns es c) aim) (m : ℕ) where
   abbrev values : List Value
-  values = values_of script chars
+  values = values_of drawing
 
   abbrev t : Tree
   t = seen_of ns es c
 
   -- Where its link leads, by its mark.
-  pub target-nowhere : (n : ℕ) → n ≡ mark_of chars values (pass_number aim.pass) t m → n < 2 → target_of chars values
+  pub target-nowhere : (n : ℕ) → n ≡ mark_of drawing.characters.now values (pass_number aim.pass) t m → n < 2 → target_of drawing.characters.now values
       (pass_number aim.pass) t m ≡ 0
-  target-nowhere n e l = mark-target chars values (pass_number aim.pass) w.first w.last t m ∙ rw (← e, lt-leb 2 n l) refl
+  target-nowhere n e l = mark-target drawing.characters.now values (pass_number aim.pass) w.first w.last t m ∙ rw (← e, lt-leb 2 n l) refl
 
-  pub target-on : (n : ℕ) → n ≡ mark_of chars values (pass_number aim.pass) t m → 2 ≤ n → n - 2 + 1 ≡ target_of chars values
+  pub target-on : (n : ℕ) → n ≡ mark_of drawing.characters.now values (pass_number aim.pass) t m → 2 ≤ n → n - 2 + 1 ≡ target_of drawing.characters.now values
       (pass_number aim.pass) t m
   target-on n e l =
       let z : n - 2 + 1 ≡ n - 1 = omega arith in
-      z ∙ sym (mark-target chars values (pass_number aim.pass) w.first w.last t m ∙ rw (← e, le-leb 2 n l) refl)
+      z ∙ sym (mark-target drawing.characters.now values (pass_number aim.pass) w.first w.last t m ∙ rw (← e, le-leb 2 n l) refl)
 
   -- It leads to a node of the tree.
-  pub target-inside : (n : ℕ) → n ≡ mark_of chars values (pass_number aim.pass) t m → 2 ≤ n → n - 2 < c.nodes
-  target-inside n e l = omega (arith, mark-low chars values (pass_number aim.pass) t m, e)
+  pub target-inside : (n : ℕ) → n ≡ mark_of drawing.characters.now values (pass_number aim.pass) t m → 2 ≤ n → n - 2 < c.nodes
+  target-inside n e l = omega (arith, mark-low drawing.characters.now values (pass_number aim.pass) t m, e)
 
   -- What the pair leaves.
-  pub pair-back : leads_to chars values (pass_number aim.pass) t aim.element m ≡ true
-      → cut_back chars values (pass_number aim.pass) aim.element t m
-      ≡ cut_nodes chars values (pass_number aim.pass) t (nodes_at chars values (pass_number aim.pass) t aim.element m)
+  pub pair-back : leads_to drawing.characters.now values (pass_number aim.pass) t aim.element m ≡ true
+      → cut_back drawing.characters.now values (pass_number aim.pass) aim.element t m
+      ≡ cut_nodes drawing.characters.now values (pass_number aim.pass) t (nodes_at drawing.characters.now values (pass_number aim.pass) t aim.element m)
   unfolding nodes_at cuts_along applied
   pair-back e = rw e refl
 
-  pub pair-nowhere : leads_to chars values (pass_number aim.pass) t aim.element m ≡ false → target_of chars values
+  pub pair-nowhere : leads_to drawing.characters.now values (pass_number aim.pass) t aim.element m ≡ false → target_of drawing.characters.now values
       (pass_number aim.pass) t m ≡ 0
-      → t ≡ cut_nodes chars values (pass_number aim.pass) t (nodes_at chars values (pass_number aim.pass) t aim.element m)
+      → t ≡ cut_nodes drawing.characters.now values (pass_number aim.pass) t (nodes_at drawing.characters.now values (pass_number aim.pass) t aim.element m)
   unfolding nodes_at cuts_along applied
   pair-nowhere e z = rw (e, z) refl
 
-  pub pair-below : leads_to chars values (pass_number aim.pass) t aim.element m ≡ false → (n : ℕ) → n + 1 ≡ target_of chars values
+  pub pair-below : leads_to drawing.characters.now values (pass_number aim.pass) t aim.element m ≡ false → (n : ℕ) → n + 1 ≡ target_of drawing.characters.now values
       (pass_number aim.pass) t m
-      → cut_nodes chars values (pass_number aim.pass) t (passing (leads_to chars values (pass_number aim.pass) t aim.element)
+      → cut_nodes drawing.characters.now values (pass_number aim.pass) t (passing (leads_to drawing.characters.now values (pass_number aim.pass) t aim.element)
       (descendants t n))
-      ≡ cut_nodes chars values (pass_number aim.pass) t (nodes_at chars values (pass_number aim.pass) t aim.element m)
+      ≡ cut_nodes drawing.characters.now values (pass_number aim.pass) t (nodes_at drawing.characters.now values (pass_number aim.pass) t aim.element m)
   unfolding nodes_at
   pair-below e n q = let z : n + 1 - 1 ≡ n = omega arith in rw (e, ← q, ne_eqb (n + 1) 0 (λ o. omega arith), z) refl
 
@@ -248,23 +251,23 @@ known-aim chars vs t aim ws w q = record { pass = refl; aimed = w; quiet = q }
 
 -- In the middle of the nodes from `first` up to the node `end`: j is next, the words tell ranges of nodes that do not lead back, and
 -- what is still to do leaves what all of it leaves.
-pub record Pairs (script chars : List ℕ) (marks : Marks) (heads ns : List ℕ) (c : Counts) (aim : Aim) (first end : ℕ)
+pub record Pairs (drawing : Drawing) (marks : Marks) (heads : Heads) (ns : List ℕ) (c : Counts) (aim : Aim) (first end : ℕ)
     (es₀ es ws : List ℕ) (j : ℕ) : Type 0 where
-  pub cuttable : Cuttable script chars marks heads ns es c (pass_number aim.pass)
-  pub aimed : Aimed chars (seen_of ns es c) aim
+  pub cuttable : Cuttable drawing marks heads ns es c (pass_number aim.pass)
+  pub aimed : Aimed drawing.characters.now (seen_of ns es c) aim
   pub inside : end ≤ c.nodes
   pub long : length es ≡ length es₀
-  pub quiet : Quiet chars (values_of script chars) (pass_number aim.pass) (seen_of ns es c) aim.element ws
-  pub same : cut_pairs chars (values_of script chars) (pass_number aim.pass) (seen_of ns es c) (with_each aim.element (up_from j
+  pub quiet : Quiet drawing.characters.now (values_of drawing) (pass_number aim.pass) (seen_of ns es c) aim.element ws
+  pub same : cut_pairs drawing.characters.now (values_of drawing) (pass_number aim.pass) (seen_of ns es c) (with_each aim.element (up_from j
       (end - j)) [])
-      ≡ cut_pairs chars (values_of script chars) (pass_number aim.pass) (seen_of ns es₀ c) (with_each aim.element (up_from first
+      ≡ cut_pairs drawing.characters.now (values_of drawing) (pass_number aim.pass) (seen_of ns es₀ c) (with_each aim.element (up_from first
       (end - first)) [])
 
-pub pairs_start : (script chars : List ℕ) (marks : Marks) (heads ns : List ℕ) (c : Counts) (aim : Aim) (first end : ℕ) (es ws : List ℕ)
-    → Cuttable script chars marks heads ns es c (pass_number aim.pass) → Aimed chars (seen_of ns es c) aim → end ≤ c.nodes
-    → Quiet chars (values_of script chars) (pass_number aim.pass) (seen_of ns es c) aim.element ws
-    → Pairs script chars marks heads ns c aim first end es es ws first
-pairs_start script chars marks heads ns c aim first end es ws g a h z = record {
+pub pairs_start : (drawing : Drawing) (marks : Marks) (heads : Heads) (ns : List ℕ) (c : Counts) (aim : Aim) (first end : ℕ) (es ws : List ℕ)
+    → Cuttable drawing marks heads ns es c (pass_number aim.pass) → Aimed drawing.characters.now (seen_of ns es c) aim → end ≤ c.nodes
+    → Quiet drawing.characters.now (values_of drawing) (pass_number aim.pass) (seen_of ns es c) aim.element ws
+    → Pairs drawing marks heads ns c aim first end es es ws first
+pairs_start drawing marks heads ns c aim first end es ws g a h z = record {
   cuttable = g;
   aimed = a;
   inside = h;
@@ -273,102 +276,106 @@ pairs_start script chars marks heads ns c aim first end es ws g a h z = record {
   same = refl;
 }
 
-module _ (script chars : List ℕ) (marks : Marks) (heads ns : List ℕ) (c : Counts) (aim : Aim) (first end : ℕ) (es₀ es ws : List ℕ) (j : ℕ)
-    (q : Pairs script chars marks heads ns c aim first end es₀ es ws j) where
+module _ (drawing : Drawing) (marks : Marks) (heads : Heads) (ns : List ℕ) (c : Counts) (aim : Aim) (first end : ℕ) (es₀ es ws : List ℕ) (j : ℕ)
+    (q : Pairs drawing marks heads ns c aim first end es₀ es ws j) where
   pub pairs-turn : j < end → (es' ws' : List ℕ)
-      → seen_of ns es' c ≡ cut_nodes chars (values_of script chars) (pass_number aim.pass) (seen_of ns es c)
-      (nodes_at chars (values_of script chars) (pass_number aim.pass) (seen_of ns es c) aim.element j)
-      → Quiet chars (values_of script chars) (pass_number aim.pass) (seen_of ns es' c) aim.element ws'
-      → Pairs script chars marks heads ns c aim first end es₀ es' ws' (j + 1)
+      → seen_of ns es' c ≡ cut_nodes drawing.characters.now (values_of drawing) (pass_number aim.pass) (seen_of ns es c)
+      (nodes_at drawing.characters.now (values_of drawing) (pass_number aim.pass) (seen_of ns es c) aim.element j)
+      → Quiet drawing.characters.now (values_of drawing) (pass_number aim.pass) (seen_of ns es' c) aim.element ws'
+      → Pairs drawing marks heads ns c aim first end es₀ es' ws' (j + 1)
   pairs-turn l es' ws' e still =
       let t : Tree = seen_of ns es c in
-      let vs : List Value = values_of script chars in
-      let bare = values-bare (length chars) (events script chars) (all-inside script chars q.cuttable.mendable.drawn.checked) in
+      let vs : List Value = values_of drawing in
+      let bare = values-bare (length drawing.characters.now) (document drawing) (all-inside drawing.script.now drawing.characters.now q.cuttable.mendable.drawn.checked) in
       let other = no-id (pass_number aim.pass) in
-      let ms : List ℕ = nodes_at chars vs (pass_number aim.pass) t aim.element j in
-      let cs : List Cut = cuts_along chars vs (pass_number aim.pass) t ms in
+      let ms : List ℕ = nodes_at drawing.characters.now vs (pass_number aim.pass) t aim.element j in
+      let cs : List Cut = cuts_along drawing.characters.now vs (pass_number aim.pass) t ms in
       record {
-        cuttable = cuttable-on script chars marks heads ns es c cs es' e (pass_number aim.pass) q.aimed.first q.aimed.last q.cuttable;
-        aimed = subst (λ (u : Tree). Aimed chars u aim) (sym e)
-            (nodes-aimed (length chars) chars vs bare (pass_number aim.pass) other aim ms t q.cuttable.mendable.tidy q.aimed);
+        cuttable = cuttable-on drawing marks heads ns es c cs es' e (pass_number aim.pass) q.aimed.first q.aimed.last q.cuttable;
+        aimed = subst (λ (u : Tree). Aimed drawing.characters.now u aim) (sym e)
+            (nodes-aimed (length drawing.characters.now) drawing.characters.now vs bare (pass_number aim.pass) other aim ms t q.cuttable.mendable.tidy q.aimed);
         inside = q.inside;
-        long = long-on script chars marks heads ns es c cs es' e ∙ q.long;
+        long = long-on drawing marks heads ns es c cs es' e ∙ q.long;
         quiet = still;
         same =
-            ap (λ (u : Tree). cut_pairs chars vs (pass_number aim.pass) u (with_each aim.element (up_from (j + 1) (end - (j + 1))) [])) e
-            ∙ sym (pair-first chars vs (pass_number aim.pass) aim.element t j (up_from (j + 1) (end - (j + 1))) [])
-            ∙ ap (λ (xs : List ℕ). cut_pairs chars vs (pass_number aim.pass) t (with_each aim.element xs [])) (sym (up_step j end l))
+            ap (λ (u : Tree). cut_pairs drawing.characters.now vs (pass_number aim.pass) u (with_each aim.element (up_from (j + 1) (end - (j + 1))) [])) e
+            ∙ sym (pair-first drawing.characters.now vs (pass_number aim.pass) aim.element t j (up_from (j + 1) (end - (j + 1))) [])
+            ∙ ap (λ (xs : List ℕ). cut_pairs drawing.characters.now vs (pass_number aim.pass) t (with_each aim.element xs [])) (sym (up_step j end l))
             ∙ q.same;
       }
 
   pub pairs-done : end ≤ j
       → seen_of ns es c
-      ≡ cut_pairs chars (values_of script chars) (pass_number aim.pass) (seen_of ns es₀ c) (with_each aim.element (up_from first
+      ≡ cut_pairs drawing.characters.now (values_of drawing) (pass_number aim.pass) (seen_of ns es₀ c) (with_each aim.element (up_from first
       (end - first)) [])
   unfolding with_each going_on applied
   pairs-done l =
-      sym (ap (λ (xs : List ℕ). cut_pairs chars (values_of script chars) (pass_number aim.pass) (seen_of ns es c)
+      sym (ap (λ (xs : List ℕ). cut_pairs drawing.characters.now (values_of drawing) (pass_number aim.pass) (seen_of ns es c)
       (with_each aim.element xs []))
       (up_none j end l))
       ∙ q.same
 
 -- THE ELEMENT
 
-module _ (script chars ns es : List ℕ) (c : Counts) (k i end first n : ℕ) (d : Range ns c.nodes i end) (e : n ≡ cut_name k)
+module _ (drawing : Drawing) (ns es : List ℕ) (c : Counts) (k i end first n : ℕ) (d : Range ns c.nodes i end) (e : n ≡ cut_name k)
     (low : i ≤ first) (high : first ≤ end)
     (h : (m : ℕ) → i ≤ m → m < first → attribute_id (read_of ns es) m n ≡ 0) where
   abbrev own : Tree
   own = seen_of ns es c
 
   -- The nodes before the first with a link leave everything as it is.
-  from_first : cut_pairs chars (values_of script chars) k own (with_each i (up_from first (end - first)) [])
-      ≡ cut_pairs chars (values_of script chars) k own (with_each i (descendants own i) [])
+  from_first : cut_pairs drawing.characters.now (values_of drawing) k own (with_each i (up_from first (end - first)) [])
+      ≡ cut_pairs drawing.characters.now (values_of drawing) k own (with_each i (descendants own i) [])
   from_first =
       let z : first ≡ i + (first - i) = omega arith in
-      ap (λ (x : ℕ). cut_pairs chars (values_of script chars) k own (with_each i (up_from x (end - x)) [])) z
-      ∙ skipped chars (values_of script chars) k i own (first - i) i end (omega arith)
+      ap (λ (x : ℕ). cut_pairs drawing.characters.now (values_of drawing) k own (with_each i (up_from x (end - x)) [])) z
+      ∙ skipped drawing.characters.now (values_of drawing) k i own (first - i) i end (omega arith)
       (λ m x y. sym (id_same own m (cut_name k)) ∙ sym (ap (attribute_id (read_of ns es) m) e) ∙ h m x (omega arith))
-      ∙ ap (λ (xs : List ℕ). cut_pairs chars (values_of script chars) k own (with_each i xs []))
+      ∙ ap (λ (xs : List ℕ). cut_pairs drawing.characters.now (values_of drawing) k own (with_each i xs []))
       (sym (range_same own i end d))
 
   -- None has a link.
-  pub element-bare : first ≡ end → own ≡ cut_pairs chars (values_of script chars) k own (with_each i (descendants own i) [])
+  pub element-bare : first ≡ end → own ≡ cut_pairs drawing.characters.now (values_of drawing) k own (with_each i (descendants own i) [])
   unfolding with_each going_on applied
   element-bare z =
-      sym (ap (λ (xs : List ℕ). cut_pairs chars (values_of script chars) k own (with_each i xs [])) (up_none first end (omega arith)))
+      sym (ap (λ (xs : List ℕ). cut_pairs drawing.characters.now (values_of drawing) k own (with_each i xs [])) (up_none first end (omega arith)))
       ∙ from_first
 
   -- No link leads to it.
-  pub element-unled : 1 ≤ k → k ≤ 5 → key_of chars k own i ≡ 0
-      → own ≡ cut_pairs chars (values_of script chars) k own (with_each i (descendants own i) [])
+  pub element-unled : 1 ≤ k → k ≤ 5 → key_of drawing.characters.now k own i ≡ 0
+      → own ≡ cut_pairs drawing.characters.now (values_of drawing) k own (with_each i (descendants own i) [])
   element-unled f l z =
-      all_quiet chars (values_of script chars) k i own (unled-nodes chars (values_of script chars) k f l own i z) (descendants own i)
+      all_quiet drawing.characters.now (values_of drawing) k i own (unled-nodes drawing.characters.now (values_of drawing) k f l own i z) (descendants own i)
 
-  pub element-pairs : (u : Tree) → u ≡ cut_pairs chars (values_of script chars) k own (with_each i (up_from first (end - first)) [])
-      → u ≡ cut_pairs chars (values_of script chars) k own (with_each i (descendants own i) [])
+  pub element-pairs : (u : Tree) → u ≡ cut_pairs drawing.characters.now (values_of drawing) k own (with_each i (up_from first (end - first)) [])
+      → u ≡ cut_pairs drawing.characters.now (values_of drawing) k own (with_each i (descendants own i) [])
   element-pairs u q = q ∙ from_first
 
 -- WHAT A TARGET AND A PAIR LEAVE
 
-module _ (script chars : List ℕ) (marks : Marks) (heads ns es : List ℕ) (c : Counts) (aim : Aim)
-    (g : Cuttable script chars marks heads ns es c (pass_number aim.pass))
-    (ws : List ℕ) (q : Quiet chars (values_of script chars) (pass_number aim.pass) (seen_of ns es c) aim.element ws) where
+module _ (drawing : Drawing) (marks : Marks) (heads : Heads) (ns es : List ℕ) (c : Counts) (aim : Aim)
+    (g : Cuttable drawing marks heads ns es c (pass_number aim.pass))
+    (ws : List ℕ) (q : Quiet drawing.characters.now (values_of drawing) (pass_number aim.pass) (seen_of ns es c) aim.element ws) where
   -- A node that is covered: nothing is cut.
   pub covered-kept : (w : ℕ) → w < c.nodes → Covered ws w
-      → seen_of ns es c ≡ cut_nodes chars (values_of script chars) (pass_number aim.pass) (seen_of ns es c)
-      (passing (leads_to chars (values_of script chars) (pass_number aim.pass) (seen_of ns es c) aim.element) (descendants
+      → seen_of ns es c ≡ cut_nodes drawing.characters.now (values_of drawing) (pass_number aim.pass) (seen_of ns es c)
+      (passing (leads_to drawing.characters.now (values_of drawing) (pass_number aim.pass) (seen_of ns es c) aim.element) (descendants
       (seen_of ns es c) w))
   unfolding cuts_along applied
   covered-kept w l h =
-      let e = covered_none chars (values_of script chars) (pass_number aim.pass) (seen_of ns es c) aim.element ws q w l h in
+      let e = covered_none drawing.characters.now (values_of drawing) (pass_number aim.pass) (seen_of ns es c) aim.element ws q w l h in
       rw e refl
 
   -- What is remembered is still behind cuts.
-  pub quiet-on : (ms es' : List ℕ) → seen_of ns es' c ≡ cut_nodes chars (values_of script chars) (pass_number aim.pass) (seen_of ns es c) ms
-      → Quiet chars (values_of script chars) (pass_number aim.pass) (seen_of ns es' c) aim.element ws
+  pub quiet-on : (ms es' : List ℕ) → seen_of ns es' c ≡ cut_nodes drawing.characters.now (values_of drawing) (pass_number aim.pass) (seen_of ns es c) ms
+      → Quiet drawing.characters.now (values_of drawing) (pass_number aim.pass) (seen_of ns es' c) aim.element ws
   quiet-on ms es' e =
-      let bare = values-bare (length chars) (events script chars) (all-inside script chars g.mendable.drawn.checked) in
-      subst (λ (u : Tree). Quiet chars (values_of script chars) (pass_number aim.pass) u aim.element ws) (sym e)
-      (nodes-quiet (length chars) chars (values_of script chars) bare (pass_number aim.pass) aim.element (no-id
+      let bare = values-bare (length drawing.characters.now) (document drawing) (all-inside drawing.script.now drawing.characters.now g.mendable.drawn.checked) in
+      subst (λ (u : Tree). Quiet drawing.characters.now (values_of drawing) (pass_number aim.pass) u aim.element ws) (sym e)
+      (nodes-quiet (length drawing.characters.now) drawing.characters.now (values_of drawing) bare (pass_number aim.pass) aim.element (no-id
       (pass_number aim.pass)) ms (seen_of ns es c)
       g.mendable.tidy ws q)
+
+-- Nothing is known before an element was aimed at.
+pub known-none : (chars : List ℕ) (values : List Value) (k : ℕ) (t : Tree) (ws : List ℕ) → Known chars values k t None ws
+known-none chars vs k t ws = tt

@@ -8,17 +8,18 @@ use native.Mathlib.Omega.{arith}
 use native.Mathlib.Decide.{dec_lt}
 use borrow.Author.Tests.{lt-leb}
 use lib.Dec.{eqb, leb}
-use lib.ListN.{get_or}
+use lib.ListN.{get_or, set}
 use Rattle.model.specs.Base.{pick}
 use Rattle.model.specs.AId
 use Rattle.model.specs.Drawing.{Value, readings_of}
 use Rattle.model.specs.Tables.{Tree, word, parent_of, attribute_id, set_none}
 use Rattle.model.specs.Repair.{up_from, below_from, descendants, cut_name, cut_at, apply_cut, applied}
 use Rattle.model.specs.Theorems.Kept.{Tidy}
+use Rattle.model.proofs.Theorems.Agree.{set_cases}
 use Rattle.model.specs.Theorems.GoingOn.{passing, leads_to, cuts_along}
 use Rattle.std.proofs.Common.{Option, Some, None, IfSome}
 use Rattle.cuts.specs.Seen.{cut_back, cut_nodes, Range, told_first, told_end, Ranges, Silent, Quiet}
-use Rattle.cuts.specs.Seen.{Covered, Remembered, Told, Hushed}
+use Rattle.cuts.specs.Seen.{Covered, Remembered, Told, Hushed, Spread}
 use Rattle.cuts.proofs.Turning.{cut-tidy, cut-leads}
 
 -- WHAT IS SILENT GIVES NOTHING
@@ -158,3 +159,26 @@ module _ (size : ℕ) (chars : List ℕ) (values : List Value) (bare : readings_
   nodes-quiet [] t g ws q = q
   nodes-quiet (m ∷ ms) t g ws q =
       nodes-quiet ms (apply_cut t (cut_at t k m)) (cut-tidy size chars values bare k other t g m) ws (cut-quiet t g ws q m)
+
+-- A word tells another range, and those behind it last parts of that.
+pub hushed-spread : (ws : List ℕ) (b w end : ℕ) → b ≡ w / 256 → end < 2097152 → (ws' : List ℕ)
+    → Spread (set ws b (w % 256 * 2097152 + end)) (b + 1) end ws' → Hushed ws w end ws'
+hushed-spread ws b w end d l ws' h = record { words = λ x. go x (set_cases ws b (w % 256 * 2097152 + end) x) (h.words x) }
+  where
+    us : List ℕ
+    us = set ws b (w % 256 * 2097152 + end)
+
+    go : (x : ℕ) → (get_or us x 0 ≡ get_or ws x 0) ⊎ ((x ≡ b) × (get_or us x 0 ≡ w % 256 * 2097152 + end))
+        → (get_or ws' x 0 ≡ get_or us x 0) ⊎ ((b + 1 ≤ x) × (get_or ws' x 0 ≡ 536870912 + end))
+        → (get_or ws' x 0 ≡ get_or ws x 0) ⊎ Told ws' w end x
+    go x (inl e) (inl f) = inl (f ∙ e)
+    go x (inr e) (inl f) = inr (record {
+      low = omega (arith, e.0, e.1, f, d);
+      last = omega (arith, e.1, f);
+      own = λ o. omega (arith, e.0, e.1, f, d);
+    })
+    go x e (inr f) = inr (record {
+      low = omega (arith, f.0, f.1, d);
+      last = omega (arith, f.1);
+      own = λ o. absurd (omega (arith, f.1));
+    })

@@ -21,6 +21,7 @@ use Rattle.model.proofs.Theorems.Cuts as cuts
 use Rattle.model.proofs.Theorems.Cuts.{by-id-kept, element-id-kept}
 use Rattle.model.specs.Theorems.GoingOn.{passing, Without, leads_to, cuts_along}
 use Rattle.model.proofs.Theorems.GoingOn.{cut-is, leads-without}
+use Rattle.script.specs.declared.drawing.Drawing.{Drawing}
 use Rattle.tree.specs.declared.Counts.{Counts}
 use Rattle.tree.specs.Lent.{read_of, entries_of}
 use Rattle.tree.proofs.Alike.{id_same}
@@ -129,22 +130,22 @@ cut-seen ns es c k m es' e =
     go false = refl
 
 -- One node: what is told of its link, and what is left behind it.
-module _ (script chars ns es : List ℕ) (c : Counts) (aim : Aim) (w : Aimed chars (seen_of ns es c) aim) (m : ℕ) where
+module _ (drawing : Drawing) (ns es : List ℕ) (c : Counts) (aim : Aim) (w : Aimed drawing.characters.now (seen_of ns es c) aim) (m : ℕ) where
   abbrev values : List Value
-  values = values_of script chars
+  values = values_of drawing
 
   -- Whether it leads back is what its mark says.
-  pub back-told : (n : ℕ) → n ≡ mark_of chars values (pass_number aim.pass) (seen_of ns es c) m
-      → leads_to chars values (pass_number aim.pass) (seen_of ns es c) aim.element m ≡ eqb n aim.key
-  back-told n e = leads-marked chars values (seen_of ns es c) aim w m ∙ ap (λ (x : ℕ). eqb x aim.key) (sym e)
+  pub back-told : (n : ℕ) → n ≡ mark_of drawing.characters.now values (pass_number aim.pass) (seen_of ns es c) m
+      → leads_to drawing.characters.now values (pass_number aim.pass) (seen_of ns es c) aim.element m ≡ eqb n aim.key
+  back-told n e = leads-marked drawing.characters.now values (seen_of ns es c) aim w m ∙ ap (λ (x : ℕ). eqb x aim.key) (sym e)
 
-  pub back_cut : leads_to chars values (pass_number aim.pass) (seen_of ns es c) aim.element m ≡ true
+  pub back_cut : leads_to drawing.characters.now values (pass_number aim.pass) (seen_of ns es c) aim.element m ≡ true
       → (es' : List ℕ) → es' ≡ (apply_cut (read_of ns es) (cut_at (read_of ns es) (pass_number aim.pass) m)).attributes
-      → seen_of ns es' c ≡ cut_back chars values (pass_number aim.pass) aim.element (seen_of ns es c) m
+      → seen_of ns es' c ≡ cut_back drawing.characters.now values (pass_number aim.pass) aim.element (seen_of ns es c) m
   back_cut e es' q = cut-seen ns es c (pass_number aim.pass) m es' q ∙ rw e refl
 
-  pub back-kept : leads_to chars values (pass_number aim.pass) (seen_of ns es c) aim.element m ≡ false
-      → seen_of ns es c ≡ cut_back chars values (pass_number aim.pass) aim.element (seen_of ns es c) m
+  pub back-kept : leads_to drawing.characters.now values (pass_number aim.pass) (seen_of ns es c) aim.element m ≡ false
+      → seen_of ns es c ≡ cut_back drawing.characters.now values (pass_number aim.pass) aim.element (seen_of ns es c) m
   back-kept e = rw e refl
 
 module _ (chars : List ℕ) (values : List Value) (k : ℕ) where

@@ -11,7 +11,7 @@ use lib.ListN.{length}
 use lib.Seq.{length-sets}
 use Rattle.model.specs.Base.{pick}
 use Rattle.model.specs.AId
-use Rattle.model.specs.Drawing.{events, readings_of}
+use Rattle.model.specs.Drawing.{readings_of}
 use Rattle.model.specs.Tables.{Tree, entry_word, entry_at, value_at_entry, attribute_id, set_none}
 use Rattle.model.specs.Repair.{element_id, Cut, cut_name, cut_entry, cut_at, apply_cut, applied}
 use Rattle.model.specs.Theorems.Kept.{Tidy}
@@ -21,8 +21,10 @@ use Rattle.model.proofs.Theorems.Cuts.{element-id-kept}
 use Rattle.model.proofs.Theorems.Whole.{cuts-tidy}
 use Rattle.model.proofs.Theorems.Inside.{all-inside}
 use Rattle.model.proofs.Theorems.Images.{values-bare}
+use Rattle.ids.specs.declared.heads.Heads.{Heads}
+use Rattle.script.specs.declared.drawing.Drawing.{Drawing}
 use Rattle.script.specs.declared.cursor.Cursor.{Cursor}
-use Rattle.script.specs.Step.{Fit}
+use Rattle.script.specs.Step.{Fit, document}
 use Rattle.tree.specs.declared.Counts.{Counts}
 use Rattle.tree.specs.Lent.{read_of, entries_of}
 use Rattle.tree.proofs.Alike.{id_same}
@@ -117,15 +119,15 @@ unfolding element_id entry_at
 id-seen chars t i = ap (λ (j : ℕ). pick (eqb j 0) (λ u. []) (λ u. value_at_entry chars t j)) (id_same t i AId.Id)
 
 -- What is asked still holds behind cuts, and the table is as long as it was.
-module _ (script chars : List ℕ) (marks : Marks) (heads ns es : List ℕ) (c : Counts) (cs : List Cut) (es' : List ℕ)
+module _ (drawing : Drawing) (marks : Marks) (heads : Heads) (ns es : List ℕ) (c : Counts) (cs : List Cut) (es' : List ℕ)
     (e : seen_of ns es' c ≡ applied (seen_of ns es c) cs) where
-  indexed-on : Tidy (length chars) (seen_of ns es c) → Indexed chars (read_of ns es) heads c.nodes
-      → Indexed chars (read_of ns es') heads c.nodes
+  indexed-on : Tidy (length drawing.characters.now) (seen_of ns es c) → Indexed drawing.characters.now (read_of ns es) heads c.nodes
+      → Indexed drawing.characters.now (read_of ns es') heads c.nodes
   indexed-on g k = record {
-    chained = λ z. chained_same chars (read_of ns es) (read_of ns es')
+    chained = λ z. chained_same drawing.characters.now (read_of ns es) (read_of ns es')
         (λ i. id_same u i AId.Id ∙ kept.ids i ∙ sym (id_same t i AId.Id))
-        (λ i. id-seen chars u i ∙ kept.values i ∙ sym (id-seen chars t i))
-        heads c.nodes (λ m l y. kept.words (attribute_id (read_of ns es) m AId.Id - 1)) (k.chained z);
+        (λ i. id-seen drawing.characters.now u i ∙ kept.values i ∙ sym (id-seen drawing.characters.now t i))
+        heads.last c.nodes (λ m l y. kept.words (attribute_id (read_of ns es) m AId.Id - 1)) (k.chained z);
   }
     where
       t : Tree
@@ -134,25 +136,25 @@ module _ (script chars : List ℕ) (marks : Marks) (heads ns es : List ℕ) (c :
       u : Tree
       u = seen_of ns es' c
 
-      kept : KeptIds chars t u
-      kept = subst (KeptIds chars t) (sym e) (ids-applied (length chars) chars cs t g)
+      kept : KeptIds drawing.characters.now t u
+      kept = subst (KeptIds drawing.characters.now t) (sym e) (ids-applied (length drawing.characters.now) drawing.characters.now cs t g)
 
-  pub mend-on : (hint : Cursor) → Mendable script chars marks heads ns es c hint → (n : Cursor) → Fit script n
-      → Mendable script chars marks heads ns es' c n
+  pub mend-on : (hint : Cursor) → Mendable drawing marks heads ns es c hint → (n : Cursor) → Fit drawing n
+      → Mendable drawing marks heads ns es' c n
   mend-on hint g n f = record {
     drawn = record { checked = g.drawn.checked; marked = g.drawn.marked; fit = f };
-    tidy = subst (Tidy (length chars)) (sym e) (cuts-tidy (length chars) (seen_of ns es c) cs g.tidy);
+    tidy = subst (Tidy (length drawing.characters.now)) (sym e) (cuts-tidy (length drawing.characters.now) (seen_of ns es c) cs g.tidy);
     indexed = indexed-on g.tidy g.indexed;
   }
 
   pub long-on : length es' ≡ length es
   long-on = ap (λ (u : Tree). length u.attributes) e ∙ applied-long cs (seen_of ns es c)
 
-  pub cuttable-on : (k : ℕ) → 1 ≤ k → k ≤ 5 → Cuttable script chars marks heads ns es c k → Cuttable script chars marks heads ns es' c k
+  pub cuttable-on : (k : ℕ) → 1 ≤ k → k ≤ 5 → Cuttable drawing marks heads ns es c k → Cuttable drawing marks heads ns es' c k
   cuttable-on k f l g = record {
     mendable = mend-on _ g.mendable _ g.mendable.drawn.fit;
-    targeted = λ z. subst (Targeted chars (values_of script chars) k) (sym e)
-        (targeted-applied (length chars) chars (values_of script chars)
-        (values-bare (length chars) (events script chars) (all-inside script chars g.mendable.drawn.checked)) k f l (seen_of ns es c)
+    targeted = λ z. subst (Targeted drawing.characters.now (values_of drawing) k) (sym e)
+        (targeted-applied (length drawing.characters.now) drawing.characters.now (values_of drawing)
+        (values-bare (length drawing.characters.now) (document drawing) (all-inside drawing.script.now drawing.characters.now g.mendable.drawn.checked)) k f l (seen_of ns es c)
         g.mendable.tidy (g.targeted z) cs);
   }

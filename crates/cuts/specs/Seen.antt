@@ -8,6 +8,8 @@ use Rattle.model.specs.Tables.{Tree, word, attribute_id, element_by_id}
 use Rattle.model.specs.Repair.{descendants, element_id, cut_at, apply_cut, applied}
 use Rattle.model.specs.Theorems.Kept.{Tidy}
 use Rattle.model.specs.Theorems.GoingOn.{leads_to, cuts_along, going_on}
+use Rattle.ids.specs.declared.heads.Heads.{Heads}
+use Rattle.script.specs.declared.drawing.Drawing.{Drawing}
 use Rattle.script.specs.declared.cursor.Cursor.{Cursor}
 use Rattle.script.specs.Step.{at_start}
 use Rattle.tree.specs.declared.Counts.{Counts}
@@ -21,15 +23,15 @@ use Rattle.cuts.specs.declared.Aim.{Aim}
 
 -- What the repairs ask: a drawing that check takes, marks of its script, a cursor in it, tables that are tidy beside its characters, and
 -- heads of the chains of their ids.
-pub record Mendable (script chars : List ℕ) (marks : Marks) (heads ns es : List ℕ) (c : Counts) (hint : Cursor) : Type 0 where
-  pub drawn : Drawn script chars marks hint
-  pub tidy : Tidy (length chars) (seen_of ns es c)
-  pub indexed : Indexed chars (read_of ns es) heads c.nodes
+pub record Mendable (drawing : Drawing) (marks : Marks) (heads : Heads) (ns es : List ℕ) (c : Counts) (hint : Cursor) : Type 0 where
+  pub drawn : Drawn drawing marks hint
+  pub tidy : Tidy (length drawing.characters.now) (seen_of ns es c)
+  pub indexed : Indexed drawing.characters.now (read_of ns es) heads c.nodes
 
 -- What pass k asks, one of the passes 1 to 5: that, and marks of its links in the tables, if the word behind the heads says so.
-pub record Cuttable (script chars : List ℕ) (marks : Marks) (heads ns es : List ℕ) (c : Counts) (k : ℕ) : Type 0 where
-  pub mendable : Mendable script chars marks heads ns es c at_start
-  pub targeted : (get_or heads 2048 0 ≡ 0 → ⊥) → Targeted chars (values_of script chars) k (seen_of ns es c)
+pub record Cuttable (drawing : Drawing) (marks : Marks) (heads : Heads) (ns es : List ℕ) (c : Counts) (k : ℕ) : Type 0 where
+  pub mendable : Mendable drawing marks heads ns es c at_start
+  pub targeted : (heads.is_whole ≡ true) → Targeted drawing.characters.now (values_of drawing) k (seen_of ns es c)
 
 -- LINKS BELOW AN ELEMENT
 

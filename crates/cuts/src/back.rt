@@ -11,31 +11,32 @@ use crate::Aim;
 use crate::below::behind_target;
 use crate::cut::cut;
 use crate::quiet::behind_quiet;
+use ids::heads::Heads;
 use places::marks::Marks;
+use script::drawing::Drawing;
 use targets::mark::mark_of;
 use tree::Counts;
 
 // Node m, cut where its link leads back.
 fn cut_back(
-    script: &[u8],
-    characters: &[u8],
+    drawing: &Drawing,
     marks: &Marks,
-    heads: &[u32; 2049],
+    heads: &Heads,
     nodes: &[u32],
     attributes: &mut [u32],
     counts: Counts,
     aim: Aim,
     m: u32,
 )
-    requires cuttable { Cuttable script.now characters.now marks.now heads.now nodes.now attributes.old counts (pass_number aim.pass) }
-    requires aimed { Aimed characters.now (seen_of nodes.now attributes.old counts) aim }
+    requires cuttable { Cuttable drawing.now marks.now heads.now nodes.now attributes.old counts (pass_number aim.pass) }
+    requires aimed { Aimed drawing.now.characters.now (seen_of nodes.now attributes.old counts) aim }
     requires m_lt_nodes { m < counts.nodes }
     ensures { seen_of nodes.now attributes.new counts
-        ≡ cut_back characters.now (values_of script.now characters.now) (pass_number aim.pass) aim.element
+        ≡ cut_back drawing.now.characters.now (values_of drawing.now) (pass_number aim.pass) aim.element
         (seen_of nodes.now attributes.old counts) m }
 {
     let mark = mark_of(
-        script, characters, marks, heads, nodes, attributes, counts, aim.pass, m,
+        drawing, marks, heads, nodes, attributes, counts, aim.pass, m,
     );
     if mark == aim.key {
         cut(nodes, attributes, aim.pass, m);
@@ -44,10 +45,9 @@ fn cut_back(
 
 // Node m, cut where its link leads back, or passed over with the nodes below it, if it is remembered. Answers the node to go on at.
 fn cut_next(
-    script: &[u8],
-    characters: &[u8],
+    drawing: &Drawing,
     marks: &Marks,
-    heads: &[u32; 2049],
+    heads: &Heads,
     quiet: &[u32; 4096],
     nodes: &[u32],
     attributes: &mut [u32],
@@ -56,21 +56,19 @@ fn cut_next(
     m: u32,
     end: u32,
 ) -> u32
-    requires cuttable { Cuttable script.now characters.now marks.now heads.now nodes.now attributes.old counts (pass_number aim.pass) }
-    requires aimed { Aimed characters.now (seen_of nodes.now attributes.old counts) aim }
-    requires quiet { Quiet characters.now (values_of script.now characters.now) (pass_number aim.pass)
+    requires cuttable { Cuttable drawing.now marks.now heads.now nodes.now attributes.old counts (pass_number aim.pass) }
+    requires aimed { Aimed drawing.now.characters.now (seen_of nodes.now attributes.old counts) aim }
+    requires quiet { Quiet drawing.now.characters.now (values_of drawing.now) (pass_number aim.pass)
         (seen_of nodes.now attributes.old counts) aim.element quiet.now }
     requires m_lt_end { (m < end) × (end ≤ counts.nodes) }
     ensures tables { seen_of nodes.now attributes.new counts
-        ≡ cut_back characters.now (values_of script.now characters.now) (pass_number aim.pass) aim.element
+        ≡ cut_back drawing.now.characters.now (values_of drawing.now) (pass_number aim.pass) aim.element
         (seen_of nodes.now attributes.old counts) m }
-    ensures onward { Onward characters.now (values_of script.now characters.now) (pass_number aim.pass)
+    ensures onward { Onward drawing.now.characters.now (values_of drawing.now) (pass_number aim.pass)
         (seen_of nodes.now attributes.old counts) aim.element m end result }
 {
     let Some(n) = behind_quiet(quiet, m) else {
-        cut_back(
-            script, characters, marks, heads, nodes, attributes, counts, aim, m,
-        );
+        cut_back(drawing, marks, heads, nodes, attributes, counts, aim, m);
         return m + 1;
     };
     n.min(end)
@@ -78,10 +76,9 @@ fn cut_next(
 
 // Node w and the nodes below it, one after another. The search goes on behind a cut and does not start over. Answers the node behind them.
 pub fn cut_below(
-    script: &[u8],
-    characters: &[u8],
+    drawing: &Drawing,
     marks: &Marks,
-    heads: &[u32; 2049],
+    heads: &Heads,
     quiet: &[u32; 4096],
     nodes: &[u32],
     attributes: &mut [u32],
@@ -89,26 +86,26 @@ pub fn cut_below(
     aim: Aim,
     w: u32,
 ) -> u32
-    requires cuttable { Cuttable script.now characters.now marks.now heads.now nodes.now attributes.old counts (pass_number aim.pass) }
-    requires aimed { Aimed characters.now (seen_of nodes.now attributes.old counts) aim }
-    requires quiet { Quiet characters.now (values_of script.now characters.now) (pass_number aim.pass)
+    requires cuttable { Cuttable drawing.now marks.now heads.now nodes.now attributes.old counts (pass_number aim.pass) }
+    requires aimed { Aimed drawing.now.characters.now (seen_of nodes.now attributes.old counts) aim }
+    requires quiet { Quiet drawing.now.characters.now (values_of drawing.now) (pass_number aim.pass)
         (seen_of nodes.now attributes.old counts) aim.element quiet.now }
     requires w_lt_nodes { w < counts.nodes }
     ensures tables { seen_of nodes.now attributes.new counts
-        ≡ cut_nodes characters.now (values_of script.now characters.now) (pass_number aim.pass)
+        ≡ cut_nodes drawing.now.characters.now (values_of drawing.now) (pass_number aim.pass)
         (seen_of nodes.now attributes.old counts)
-        (passing (leads_to characters.now (values_of script.now characters.now) (pass_number aim.pass)
+        (passing (leads_to drawing.now.characters.now (values_of drawing.now) (pass_number aim.pass)
         (seen_of nodes.now attributes.old counts) aim.element)
         (descendants (seen_of nodes.now attributes.old counts) w)) }
     ensures range { Range nodes.now counts.nodes w result }
-    ensures silent { Silent characters.now (values_of script.now characters.now) (pass_number aim.pass)
+    ensures silent { Silent drawing.now.characters.now (values_of drawing.now) (pass_number aim.pass)
         (seen_of nodes.now attributes.new counts) aim.element w result }
 {
     let end = behind_target(quiet, nodes, counts.nodes, w);
     let mut m = w;
     while m < end {
         m = cut_next(
-            script, characters, marks, heads, quiet, nodes, attributes, counts, aim, m, end,
+            drawing, marks, heads, quiet, nodes, attributes, counts, aim, m, end,
         );
     }
     end

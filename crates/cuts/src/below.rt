@@ -44,8 +44,7 @@ pub fn first_with(nodes: &[u32], attributes: &[u32], name: u32, i: u32, end: u32
     requires i_le_end { i ≤ end }
     requires by_index { (m : ℕ) → m < end → Readable (read_of nodes.now attributes.now) m }
     ensures within { IfSome result (λ m. (i ≤ m) × (m < end)) }
-    ensures none { (m : ℕ) → i ≤ m → m < unwrap_or result end
-        → attribute_id (read_of nodes.now attributes.now) m name ≡ 0 }
+    ensures none { (m : ℕ) → i ≤ m → m < unwrap_or result end → attribute_id (read_of nodes.now attributes.now) m name ≡ 0 }
     ensures some { IfSome result (λ m. attribute_id (read_of nodes.now attributes.now) m name ≡ 0 → ⊥) }
 {
     for m in i..end {

@@ -7,6 +7,7 @@ ghost use Rattle.targets.specs.Pass.{pass_number};
 ghost use Rattle.targets.specs.Targets.{seen_of};
 ghost use Rattle.cuts.specs.Seen.{key_of};
 
+use ids::heads::Heads;
 use leads::last::last_of;
 use names::aid;
 use targets::name::Pass;
@@ -25,7 +26,7 @@ pub fn key_of(
     nodes: &[u32],
     attributes: &[u32],
     characters: &[u8],
-    heads: &[u32; 2049],
+    heads: &Heads,
     counts: Counts,
     pass: Pass,
     i: u32,

@@ -13,17 +13,18 @@ use crate::below::{behind_below, first_with};
 use crate::cut::cut;
 use crate::key::key_of;
 use crate::quiet::{forget, hush, is_quiet};
+use ids::heads::Heads;
 use places::marks::Marks;
+use script::drawing::Drawing;
 use targets::mark::mark_of;
 use targets::name::{Pass, cut_name};
 use tree::Counts;
 
 // What leads back at or below node w; nothing, where w is known to be quiet.
 fn cut_target(
-    script: &[u8],
-    characters: &[u8],
+    drawing: &Drawing,
     marks: &Marks,
-    heads: &[u32; 2049],
+    heads: &Heads,
     quiet: &mut [u32; 4096],
     nodes: &[u32],
     attributes: &mut [u32],
@@ -31,35 +32,34 @@ fn cut_target(
     aim: Aim,
     w: u32,
 )
-    requires cuttable { Cuttable script.now characters.now marks.now heads.now nodes.now attributes.old counts (pass_number aim.pass) }
-    requires aimed { Aimed characters.now (seen_of nodes.now attributes.old counts) aim }
-    requires quiet_2 { Quiet characters.now (values_of script.now characters.now) (pass_number aim.pass)
+    requires cuttable { Cuttable drawing.now marks.now heads.now nodes.now attributes.old counts (pass_number aim.pass) }
+    requires aimed { Aimed drawing.now.characters.now (seen_of nodes.now attributes.old counts) aim }
+    requires quiet_2 { Quiet drawing.now.characters.now (values_of drawing.now) (pass_number aim.pass)
         (seen_of nodes.now attributes.old counts) aim.element quiet.old }
     requires w_lt_nodes { w < counts.nodes }
     ensures tables { seen_of nodes.now attributes.new counts
-        ≡ cut_nodes characters.now (values_of script.now characters.now) (pass_number aim.pass)
+        ≡ cut_nodes drawing.now.characters.now (values_of drawing.now) (pass_number aim.pass)
         (seen_of nodes.now attributes.old counts)
-        (passing (leads_to characters.now (values_of script.now characters.now) (pass_number aim.pass)
+        (passing (leads_to drawing.now.characters.now (values_of drawing.now) (pass_number aim.pass)
         (seen_of nodes.now attributes.old counts) aim.element)
         (descendants (seen_of nodes.now attributes.old counts) w)) }
-    ensures quiet { Quiet characters.now (values_of script.now characters.now) (pass_number aim.pass)
+    ensures quiet { Quiet drawing.now.characters.now (values_of drawing.now) (pass_number aim.pass)
         (seen_of nodes.now attributes.new counts) aim.element quiet.new }
 {
     if is_quiet(quiet, w) {
         return;
     }
     let end = cut_below(
-        script, characters, marks, heads, quiet, nodes, attributes, counts, aim, w,
+        drawing, marks, heads, quiet, nodes, attributes, counts, aim, w,
     );
     hush(quiet, w, end);
 }
 
 // Node j below the element that is aimed at: it is cut if its link leads back; else what leads back below the node that it leads to.
 fn cut_pair(
-    script: &[u8],
-    characters: &[u8],
+    drawing: &Drawing,
     marks: &Marks,
-    heads: &[u32; 2049],
+    heads: &Heads,
     quiet: &mut [u32; 4096],
     nodes: &[u32],
     attributes: &mut [u32],
@@ -67,21 +67,21 @@ fn cut_pair(
     aim: Aim,
     j: u32,
 )
-    requires cuttable { Cuttable script.now characters.now marks.now heads.now nodes.now attributes.old counts (pass_number aim.pass) }
-    requires aimed { Aimed characters.now (seen_of nodes.now attributes.old counts) aim }
-    requires quiet_2 { Quiet characters.now (values_of script.now characters.now) (pass_number aim.pass)
+    requires cuttable { Cuttable drawing.now marks.now heads.now nodes.now attributes.old counts (pass_number aim.pass) }
+    requires aimed { Aimed drawing.now.characters.now (seen_of nodes.now attributes.old counts) aim }
+    requires quiet_2 { Quiet drawing.now.characters.now (values_of drawing.now) (pass_number aim.pass)
         (seen_of nodes.now attributes.old counts) aim.element quiet.old }
     requires j_lt_nodes { j < counts.nodes }
     ensures tables { seen_of nodes.now attributes.new counts
-        ≡ cut_nodes characters.now (values_of script.now characters.now) (pass_number aim.pass)
+        ≡ cut_nodes drawing.now.characters.now (values_of drawing.now) (pass_number aim.pass)
         (seen_of nodes.now attributes.old counts)
-        (nodes_at characters.now (values_of script.now characters.now) (pass_number aim.pass)
+        (nodes_at drawing.now.characters.now (values_of drawing.now) (pass_number aim.pass)
         (seen_of nodes.now attributes.old counts) aim.element j) }
-    ensures quiet { Quiet characters.now (values_of script.now characters.now) (pass_number aim.pass)
+    ensures quiet { Quiet drawing.now.characters.now (values_of drawing.now) (pass_number aim.pass)
         (seen_of nodes.now attributes.new counts) aim.element quiet.new }
 {
     let mark = mark_of(
-        script, characters, marks, heads, nodes, attributes, counts, aim.pass, j,
+        drawing, marks, heads, nodes, attributes, counts, aim.pass, j,
     );
     if mark == aim.key {
         cut(nodes, attributes, aim.pass, j);
@@ -92,7 +92,7 @@ fn cut_pair(
     }
     let w = (mark - 2) as u32;
     cut_target(
-        script, characters, marks, heads, quiet, nodes, attributes, counts, aim, w,
+        drawing, marks, heads, quiet, nodes, attributes, counts, aim, w,
     );
 }
 
@@ -110,10 +110,9 @@ fn settle(quiet: &mut [u32; 4096], count: u32, known: Option<Aim>, aim: Aim)
 
 // The element that is aimed at with each node from first up to end. What is known was found for the element that was aimed at before.
 fn cut_pairs(
-    script: &[u8],
-    characters: &[u8],
+    drawing: &Drawing,
     marks: &Marks,
-    heads: &[u32; 2049],
+    heads: &Heads,
     quiet: &mut [u32; 4096],
     nodes: &[u32],
     attributes: &mut [u32],
@@ -123,22 +122,22 @@ fn cut_pairs(
     first: u32,
     end: u32,
 )
-    requires cuttable { Cuttable script.now characters.now marks.now heads.now nodes.now attributes.old counts (pass_number aim.pass) }
-    requires aimed { Aimed characters.now (seen_of nodes.now attributes.old counts) aim }
+    requires cuttable { Cuttable drawing.now marks.now heads.now nodes.now attributes.old counts (pass_number aim.pass) }
+    requires aimed { Aimed drawing.now.characters.now (seen_of nodes.now attributes.old counts) aim }
     requires end_le_nodes { end ≤ counts.nodes }
-    requires known_2 { Known characters.now (values_of script.now characters.now) (pass_number aim.pass)
+    requires known_2 { Known drawing.now.characters.now (values_of drawing.now) (pass_number aim.pass)
         (seen_of nodes.now attributes.old counts) known quiet.old }
     ensures tables { seen_of nodes.now attributes.new counts
-        ≡ cut_pairs characters.now (values_of script.now characters.now) (pass_number aim.pass)
+        ≡ cut_pairs drawing.now.characters.now (values_of drawing.now) (pass_number aim.pass)
         (seen_of nodes.now attributes.old counts)
         (with_each aim.element (up_from first (end - first)) []) }
-    ensures known { Known characters.now (values_of script.now characters.now) (pass_number aim.pass)
+    ensures known { Known drawing.now.characters.now (values_of drawing.now) (pass_number aim.pass)
         (seen_of nodes.now attributes.new counts) (Some aim) quiet.new }
 {
     settle(quiet, counts.nodes, known, aim);
     for j in first..end {
         cut_pair(
-            script, characters, marks, heads, quiet, nodes, attributes, counts, aim, j,
+            drawing, marks, heads, quiet, nodes, attributes, counts, aim, j,
         );
     }
 }
@@ -146,10 +145,9 @@ fn cut_pairs(
 // Element i with itself and each node below it. Where none of them has a link, or no link can lead to the element, there is nothing to cut.
 // Answers the element for which the words hold then.
 pub fn cut_element(
-    script: &[u8],
-    characters: &[u8],
+    drawing: &Drawing,
     marks: &Marks,
-    heads: &[u32; 2049],
+    heads: &Heads,
     quiet: &mut [u32; 4096],
     nodes: &[u32],
     attributes: &mut [u32],
@@ -158,17 +156,17 @@ pub fn cut_element(
     known: Option<Aim>,
     i: u32,
 ) -> Option<Aim>
-    requires cuttable { Cuttable script.now characters.now marks.now heads.now nodes.now attributes.old counts (pass_number pass) }
+    requires cuttable { Cuttable drawing.now marks.now heads.now nodes.now attributes.old counts (pass_number pass) }
     requires pass_bound { pass_number pass ≤ 5 }
     requires i_lt_nodes { i < counts.nodes }
-    requires known_2 { Known characters.now (values_of script.now characters.now) (pass_number pass)
+    requires known_2 { Known drawing.now.characters.now (values_of drawing.now) (pass_number pass)
         (seen_of nodes.now attributes.old counts) known
         quiet.old }
     ensures tables { seen_of nodes.now attributes.new counts
-        ≡ cut_pairs characters.now (values_of script.now characters.now) (pass_number pass)
+        ≡ cut_pairs drawing.now.characters.now (values_of drawing.now) (pass_number pass)
         (seen_of nodes.now attributes.old counts)
         (with_each i (descendants (seen_of nodes.now attributes.old counts) i) []) }
-    ensures known { Known characters.now (values_of script.now characters.now) (pass_number pass)
+    ensures known { Known drawing.now.characters.now (values_of drawing.now) (pass_number pass)
         (seen_of nodes.now attributes.new counts) result quiet.new }
 {
     let name = cut_name(pass);
@@ -176,7 +174,15 @@ pub fn cut_element(
     let Some(first) = first_with(nodes, attributes, name, i, end) else {
         return known;
     };
-    let Some(key) = key_of(nodes, attributes, characters, heads, counts, pass, i) else {
+    let Some(key) = key_of(
+        nodes,
+        attributes,
+        drawing.characters,
+        heads,
+        counts,
+        pass,
+        i,
+    ) else {
         return known;
     };
     let aim = Aim {
@@ -185,7 +191,7 @@ pub fn cut_element(
         key,
     };
     cut_pairs(
-        script, characters, marks, heads, quiet, nodes, attributes, counts, known, aim, first, end,
+        drawing, marks, heads, quiet, nodes, attributes, counts, known, aim, first, end,
     );
     Some(aim)
 }

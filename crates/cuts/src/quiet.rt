@@ -16,9 +16,7 @@ fn blocks(count: u32) -> usize
 pub fn forget(quiet: &mut [u32; 4096], count: u32)
     ensures { (b : ℕ) → 256 * b < count → b < 4096 → get_or quiet.new b 0 ≡ 0 }
 {
-    for b in 0..blocks(count) {
-        quiet[b] = 0;
-    }
+    quiet[..blocks(count)].fill(0);
 }
 
 // Is it known that nothing at or below node w leads back?

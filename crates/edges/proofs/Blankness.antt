@@ -87,3 +87,6 @@ pub blank-turn : (s : List ℕ) (n : ℕ) (front behind : List ℕ) (c : ℕ) (w
     → behind ≡ drop n s → c ≡ code_point (length front) front → w ≡ is_within_any c white_spaces
     → is_blank s ≡ pick w (λ u. is_blank behind) (λ u. false)
 blank-turn s n front behind c w h e f g i j = blank-step s n h e ∙ rw (j, i, f, g) refl
+
+-- One character after another.
+pub ruleset characters = (taken-is, taken-fits, blank-turn, blank_none)

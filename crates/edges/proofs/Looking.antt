@@ -1,17 +1,16 @@
 -- The edges of a text, and what is left of it when a byte is given up. Assumes nothing.
 use Prim.Native.Nat.{ℕ, ◌+◌, ◌-◌, ◌≤◌, ◌<◌, min, max}
-use mathlib.Core.Path.{◌≡◌, refl, sym, ap, ◌∙◌}
+use mathlib.Core.Path.{◌≡◌, refl, sym}
 use mathlib.Core.Bool.{true}
 use mathlib.Core.List.{List, [], ◌∷◌}
 use native.Mathlib.Omega.{arith}
 use borrow.Author.Tests.{eq-eqb, ne_eqb}
 use lib.Dec.{eqb}
-use lib.ListN.{length, take, drop}
+use lib.ListN.{length}
 use lib.Seq.{slice, length-slice}
 use Rattle.model.specs.Tables.{Tree, word, from_of, to_of, text_of, set_text}
 use Rattle.model.specs.Text.{begins_with_space, ends_with_space, is_empty, cut_text}
 use Rattle.tree.specs.Lent.{texts_of}
-use Rattle.tree.proofs.Entries.{part_slice}
 use Rattle.edges.specs.Pairs.{Ranged, Filled, size_of}
 
 -- LOOKING
@@ -38,21 +37,6 @@ empty-size f t l h = go (slice f t l) (length-slice f t l h)
     go : (s : List ℕ) → length s ≡ t - f → eqb (t - f) 0 ≡ is_empty s
     go [] e = eq-eqb (t - f) 0 (sym e)
     go (x ∷ s) e = ne_eqb (t - f) 0 (λ z. omega arith)
-
--- The same of node i, whose bounds were read.
-module _ (ns bs : List ℕ) (i : ℕ) (r : Ranged (texts_of ns bs) i) (f t : ℕ) (from : f ≡ word ns i 6) (to : t ≡ word ns i 7) where
-  abbrev own : List ℕ
-  own = text_of (texts_of ns bs) i
-
-  within : t ≤ length bs
-  within = omega (arith, r.within)
-
-  bounds : slice f t bs ≡ own
-  unfolding text_of
-  bounds = rw (from, to) refl
-
-  pub text-part : take (t - f) (drop f bs) ≡ own
-  text-part = part_slice f (t - f) bs ∙ ap (λ k. slice f k bs) (let z : f + (t - f) ≡ t = omega (arith, r.ordered.order) in z) ∙ bounds
 
 -- What looking tells of the bounds.
 module _ (t : Tree) (i : ℕ) (r : Ranged t i) where
@@ -82,3 +66,6 @@ cut-is ns bs ms cs i f g x y e h l m p q =
     let a : min (word ns i 6 + x) (word ns i 7) ≡ f + x = omega arith in
     let b : max (f + x) (word ns i 7 - y) ≡ g - y = omega arith in
     rw (a, b, p, q) refl
+
+-- What cutting leaves.
+pub ruleset cuts = (cut-is)

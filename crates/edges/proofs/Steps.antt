@@ -160,3 +160,6 @@ module _ (t : Tree) (p : Pair) (c : Edges) (h : Both p t) where
       (and (and p.last c.c2) (and (eqb (size_of t.nodes p.node2) 0) (ends_with_space (text_of t p.node1)))) p.node1 0 1 t
   unfolding after_last
   last-is = rw (empty-is t p.node2 h.1) refl
+
+-- The steps at the outer edges, by what looking tells.
+pub ruleset edge_steps = (ends-filled, outer-is, last-is)

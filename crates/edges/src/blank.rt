@@ -39,6 +39,7 @@ fn is_white_space(c: u32) -> bool
 }
 
 // Is a text of White_Space alone? It is read up to the first character that is none. A byte that begins no sequence is a character.
+#[tactic(auto, using(crate::proofs::Blankness::characters))]
 pub fn is_blank(s: &[u8]) -> bool
     ensures { result ≡ is_blank s.now }
 {

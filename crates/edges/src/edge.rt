@@ -20,6 +20,7 @@ pub fn size_of(nodes: &[u32], i: u32) -> u32
 }
 
 // The text of node i.
+#[tactic(auto, unfolding(model::specs::Tables::text_of))]
 fn text_of<'a>(nodes: &[u32], text: &'a [u8], i: u32) -> &'a [u8]
     requires { Ranged (texts_of nodes.now text.now) i }
     ensures { result.now ≡ text_of (texts_of nodes.now text.now) i }
@@ -54,7 +55,8 @@ pub fn is_blank_text(nodes: &[u32], text: &[u8], i: u32) -> bool
 }
 
 // The text gives up so many bytes at its beginning and so many at its end.
-fn cut_text(nodes: &mut [u32], text: &mut [u8], i: u32, first: u32, last: u32)
+#[tactic(auto, using(crate::proofs::Looking::cuts))]
+pub(crate) fn cut_text(nodes: &mut [u32], text: &mut [u8], i: u32, first: u32, last: u32)
     requires ranged { Ranged (texts_of nodes.old text.old) i }
     requires some { first + last ≤ size_of nodes.old i }
     ensures { texts_of nodes.new text.new ≡ cut_text i first last (texts_of nodes.old text.old) }

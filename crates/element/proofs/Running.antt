@@ -20,10 +20,11 @@ use Rattle.model.specs.Element.{marker, insert_attribute, reset_to, insert_part,
 use Rattle.model.proofs.Theorems.Runs.{add_same, write_same}
 use Rattle.model.specs.Theorems.Sim.{Every}
 use Rattle.model.specs.Theorems.Inside.{LiesValue}
+use Rattle.script.specs.declared.drawing.Drawing.{Drawing}
 use Rattle.script.specs.declared.cursor.Cursor.{Cursor}
 use Rattle.script.specs.Step.{Fit}
 use Rattle.walk.specs.declared.value.ValueAt.{ValueAt}
-use Rattle.walk.specs.Values.{attributes_in, declarations_in, SameNodes, SameRest, value_of, Attributed, Declared}
+use Rattle.walk.specs.Values.{attributes_in, declarations_in, SameNodes, SameRest, value_of, Attributed}
 use Rattle.tree.specs.Lent.{read_of}
 use Rattle.entries.specs.declared.Place.{Place}
 use Rattle.entries.specs.declared.Value as E
@@ -75,27 +76,27 @@ module _ (t : Things) (size : ℕ) (f : List ℕ → List Entry → t.Thing → 
 
 -- THE ATTRIBUTES, THE DECLARATIONS
 
-abbrev pub all_attributes : List ℕ → List ℕ → Things
-all_attributes script chars = record {
+abbrev pub all_attributes : Drawing → Things
+all_attributes drawing = record {
   Thing = Attribute;
-  inside = attributes_in script chars;
+  inside = attributes_in drawing;
   valued = λ a. a.value;
-  Same = SameRest script chars;
+  Same = SameRest drawing;
 }
 
-abbrev pub all_declarations : List ℕ → List ℕ → Things
-all_declarations script chars = record {
+abbrev pub all_declarations : Drawing → Things
+all_declarations drawing = record {
   Thing = Declaration;
-  inside = declarations_in script chars;
+  inside = declarations_in drawing;
   valued = λ d. d.value;
-  Same = SameNodes script chars;
+  Same = SameNodes drawing;
 }
 
-pub nodes-none : (script chars : List ℕ) (c : Cursor) → Fit script c → SameNodes script chars c c
-nodes-none script chars c f = record { fit = f; later = omega arith; events = refl }
+pub nodes-none : (drawing : Drawing) (c : Cursor) → Fit drawing c → SameNodes drawing c c
+nodes-none drawing c f = record { fit = f; later = omega arith; events = refl }
 
-pub rest-none : (script chars : List ℕ) (c : Cursor) → Fit script c → SameRest script chars c c
-rest-none script chars c f = record { nodes = nodes-none script chars c f; declarations = refl }
+pub rest-none : (drawing : Drawing) (c : Cursor) → Fit drawing c → SameRest drawing c c
+rest-none drawing c f = record { nodes = nodes-none drawing c f; declarations = refl }
 
 more-grows : (es : List Entry) (o : Option Entry) → length es ≤ length (with_more es o)
 more-grows es none = omega arith
@@ -160,19 +161,16 @@ module _ (ns ats : List ℕ) (place : Place) (above : Above ns place) where
         above.range place.tag d es;
   }
 
--- Both can be stored.
-module _ (script chars : List ℕ) (small : length chars ≤ most_bytes) (c : Cursor) (v : ValueAt) where
-  pub held-declared : Declared script chars c v → LiesValue (length chars) (value_of script chars v) → Held script chars v
-  held-declared d l = record { own = d.own; behind = d.nodes.fit; lies = l; small = small }
-
-  pub held-attributed : Attributed script chars c v → LiesValue (length chars) (value_of script chars v) → Held script chars v
+-- It can be stored.
+module _ (drawing : Drawing) (small : length drawing.characters.now ≤ most_bytes) (c : Cursor) (v : ValueAt) where
+  pub held-attributed : Attributed drawing c v → LiesValue (length drawing.characters.now) (value_of drawing v) → Held drawing v
   held-attributed d l = record { own = d.own; behind = d.rest.nodes.fit; lies = l; small = small }
 
 -- What is read in an attribute's value does not matter to its entry.
-pub added-whole : (script chars ns m : List ℕ) (place : Place) (ignored : Bool) (n name space : ℕ) (v : ValueAt) (value : E.Value) →
+pub added-whole : (drawing : Drawing) (ns m : List ℕ) (place : Place) (ignored : Bool) (n name space : ℕ) (v : ValueAt) (value : E.Value) →
     value ≡ value_from v → (r : Result ℕ Refusal) (l : List ℕ) →
-    Leaves m place (added_in ns place ignored m (so_far m place n) (attribute_of chars name space value)) r l →
+    Leaves m place (added_in ns place ignored m (so_far m place n) (attribute_of drawing.characters.now name space value)) r l →
     Leaves m place (added_in ns place ignored m (so_far m place n)
-    (record { name = name; namespace = space; value = value_of script chars v })) r l
+    (record { name = name; namespace = space; value = value_of drawing v })) r l
 unfolding add_attribute is_taken value_at
-added-whole script chars ns m place ignored n name space v value e r l h = rw e at h
+added-whole drawing ns m place ignored n name space v value e r l h = rw e at h

@@ -17,6 +17,7 @@ use Rattle.model.specs.Tables.{Tree, Entry, Out, refused, done, ELEMENT, word, a
 use Rattle.model.specs.Element.{add_attribute, write_declaration, entries_of, most_nodes, parse_svg_element}
 use Rattle.model.specs.Theorems.Runs.{table_of, entries_from, with_run}
 use Rattle.model.proofs.Theorems.Runs.{add_same, write_same}
+use Rattle.script.specs.declared.drawing.Drawing.{Drawing}
 use Rattle.script.specs.declared.cursor.Cursor.{Cursor}
 use Rattle.walk.specs.declared.node.Opened.{Opened}
 use Rattle.walk.specs.Nodes.{element_of}
@@ -25,38 +26,34 @@ use Rattle.tree.specs.declared.Counts.{Counts}
 use Rattle.tree.specs.Lent.{tree_of, read_of, nodes_read}
 use Rattle.entries.specs.declared.Place.{Place}
 use Rattle.element.specs.declared.Run.{Run}
-use Rattle.entries.specs.Space.{Space, Leaves, so_far, Above}
+use Rattle.entries.specs.Space.{Leaves, so_far, Above}
 use Rattle.element.specs.Font.{declared_in}
-use Rattle.element.specs.Runs.{InDeclarations, added_in, entries_in, stored_of, RunNodes, Ready}
+use Rattle.element.specs.Runs.{added_in, entries_in, stored_of, RunNodes, Ready}
 use Rattle.walk.proofs.Finding.{nodes-on}
 use Rattle.entries.proofs.Storing.{On}
 use Rattle.entries.proofs.Inserting.{on-told}
 use Rattle.entries.proofs.Steps.{run_on, run-full}
 use Rattle.element.proofs.Running.{writes-steady}
 
--- Before the first entry.
-pub space-none : (ats : List ℕ) (place : Place) → place.first ≤ place.room → 5 * place.room ≤ length ats → Space ats place place.first
-space-none ats place low room = record { low = omega arith; high = low; room = room }
-
 none_yet : (ats : List ℕ) (place : Place) → so_far ats place place.first ≡ []
 unfolding entries_from
 none_yet ats place = let z : place.first - place.first ≡ 0 = omega arith in rw z refl
 
-module _ (script chars ns ats : List ℕ) (place : Place) (ignored : Bool) (from : Cursor) (room : 5 * place.room ≤ length ats)
+module _ (drawing : Drawing) (ns ats : List ℕ) (place : Place) (ignored : Bool) (from : Cursor) (room : 5 * place.room ≤ length ats)
     (above : Above ns place) (r : Result Run Refusal) (m : List ℕ)
-    (step : Leaves ats place (folded (added_in ns place ignored ats) (so_far ats place place.first) (attributes_in script chars from))
+    (step : Leaves ats place (folded (added_in ns place ignored ats) (so_far ats place place.first) (attributes_in drawing from))
     (stored_of r) m) where
   -- The entries of the attributes.
   abbrev pub added : List Entry
-  added = folded (added_in ns place ignored ats) [] (attributes_in script chars from)
+  added = folded (added_in ns place ignored ats) [] (attributes_in drawing from)
 
   step-none : Leaves ats place added (stored_of r) m
   step-none = rw (none_yet ats place) at step
 
   pub entries-full : (p q : Refusal) (o : Result Run Refusal) → r ≡ Err p → o ≡ Err q → q ≡ p →
-      Leaves ats place (entries_in script chars ns place ignored ats from) (stored_of o) m
+      Leaves ats place (entries_in drawing ns place ignored ats from) (stored_of o) m
   entries-full p q o e d i =
-      run-full (declared_in ns place) ats place (writes-steady ns ats place above) added (declarations_in script chars from) room (stored_of
+      run-full (declared_in ns place) ats place (writes-steady ns ats place above) added (declarations_in drawing from) room (stored_of
       r) m
       step-none p q (stored_of o) (ap stored_of e) (ap stored_of d) i
 
@@ -64,25 +61,20 @@ module _ (script chars ns ats : List ℕ) (place : Place) (ignored : Bool) (from
     pub entries-on : On ats place added x.next m
     entries-on = on-told ats place room added (stored_of r) m step-none x.next (ap stored_of e)
 
-    pub entries-behind : declarations_in script chars x.behind ≡ declarations_in script chars from →
+    pub entries-behind : declarations_in drawing x.behind ≡ declarations_in drawing from →
         (o : Result ℕ Refusal) (l : List ℕ) →
-        Leaves m place (folded (declared_in ns place m) (so_far m place x.next) (declarations_in script chars x.behind)) o l →
-        Leaves ats place (entries_in script chars ns place ignored ats from) o l
+        Leaves m place (folded (declared_in ns place m) (so_far m place x.next) (declarations_in drawing x.behind)) o l →
+        Leaves ats place (entries_in drawing ns place ignored ats from) o l
     entries-behind same o l h =
-        run_on (declared_in ns place) ats place (writes-steady ns ats place above) added (declarations_in script chars from) x.next m
+        run_on (declared_in ns place) ats place (writes-steady ns ats place above) added (declarations_in drawing from) x.next m
         entries-on o l
         (rw same at h)
 
--- The same declarations behind the attributes.
-pub declarations-behind : (script chars : List ℕ) (from c : Cursor) → SameRest script chars from c → InDeclarations script chars from →
-    InDeclarations script chars c
-declarations-behind script chars from c s h = record { fit = s.nodes.fit; lie = rw s.declarations h.lie; small = h.small }
-
 -- What is behind the declarations is behind the attributes.
-pub run-nodes : (script chars : List ℕ) (from c : Cursor) (r : Result Run Refusal) → SameRest script chars from c →
-    RunNodes script chars c r → RunNodes script chars from r
-run-nodes script chars from c (Ok x) s h = nodes-on script chars from c x.behind s.nodes h
-run-nodes script chars from c (Err r) s h = tt
+pub run-nodes : (drawing : Drawing) (from c : Cursor) (r : Result Run Refusal) → SameRest drawing from c →
+    RunNodes drawing c r → RunNodes drawing from r
+run-nodes drawing from c (Ok x) s h = nodes-on drawing from c x.behind s.nodes h
+run-nodes drawing from c (Err r) s h = tt
 
 -- THE NODE
 
@@ -112,13 +104,13 @@ module _ (ns ats : List ℕ) (c : Counts) (p tag : ℕ) (ready : Ready ns ats c 
     range = ready.range;
   }
 
-  module _ (script chars bs : List ℕ) (ignored : Bool) (e : Opened) where
+  module _ (drawing : Drawing) (bs : List ℕ) (ignored : Bool) (e : Opened) where
     abbrev pub t : Tree
     t = tree_of ns ats bs c
 
     -- The entries of the element, as the code reads them.
     abbrev pub es : List Entry
-    es = entries_in script chars ns at ignored ats e.inside
+    es = entries_in drawing ns at ignored ats e.inside
 
     adds-alike : (xs : List Attribute) (l : List Entry) → folded (add_attribute t p tag ignored) l xs ≡ folded (added_in ns at ignored ats)
         l xs
@@ -138,13 +130,13 @@ module _ (ns ats : List ℕ) (c : Counts) (p tag : ℕ) (ready : Ready ns ats c 
         (write_same (read_of ns ats) ats bs c.nodes c.attributes c.text p c.attributes (λ q b. refl) ready.falls
         ready.range tag d l)
 
-    pub entries-alike : entries_of t p tag ignored (element_of script chars e) ≡ es
+    pub entries-alike : entries_of t p tag ignored (element_of drawing e) ≡ es
     unfolding entries_of
     entries-alike =
-        writes-alike (declarations_in script chars e.inside)
-        (folded (add_attribute t p tag ignored) [] (attributes_in script chars e.inside))
-        ∙ ap (λ (l : List Entry). folded (declared_in ns at ats) l (declarations_in script chars e.inside))
-        (adds-alike (attributes_in script chars e.inside) [])
+        writes-alike (declarations_in drawing e.inside)
+        (folded (add_attribute t p tag ignored) [] (attributes_in drawing e.inside))
+        ∙ ap (λ (l : List Entry). folded (declared_in ns at ats) l (declarations_in drawing e.inside))
+        (adds-alike (attributes_in drawing e.inside) [])
 
     -- What the element comes to, from its entries.
     abbrev pub comes : Bool → Bool → Bool → Out Tree
@@ -152,13 +144,13 @@ module _ (ns ats : List ℕ) (c : Counts) (p tag : ℕ) (ready : Ready ns ats c 
         pick fits (λ u. pick few (λ v. pick free (λ w. done (add_element tag es p t)) (λ w. refused 22)) (λ v. refused 20))
         (λ u. refused 23)
 
-    whole : parse_svg_element (element_of script chars e) tag ignored p t
+    whole : parse_svg_element (element_of drawing e) tag ignored p t
         ≡ comes (leb (c.attributes + length es) room) (leb c.nodes most_nodes) (ltb c.nodes (node_room (nodes_read ns)))
     unfolding parse_svg_element attribute_room node_room
     whole = rw (entries-alike, is) refl
 
     module _ (r : Result Run Refusal) (m : List ℕ) (step : Leaves ats at es (stored_of r) m) where
-      pub no_room : (d : Refusal) → r ≡ Err d → refused (number_of d) ≡ parse_svg_element (element_of script chars e) tag ignored p t
+      pub no_room : (d : Refusal) → r ≡ Err d → refused (number_of d) ≡ parse_svg_element (element_of drawing e) tag ignored p t
       no_room d q =
           let h = full-answer (leb (c.attributes + length es) room) (c.attributes + length es) d (sym (ap stored_of q) ∙ step.answer) in
           ap (λ (x : Refusal). refused (number_of x)) h.1 ∙ sym (whole ∙ rw h.0 refl)
@@ -167,17 +159,17 @@ module _ (ns ats : List ℕ) (c : Counts) (p tag : ℕ) (ready : Ready ns ats c 
         room-told : (leb (c.attributes + length es) room ≡ true) × (x.next ≡ c.attributes + length es)
         room-told = next-answer (leb (c.attributes + length es) room) x.next (c.attributes + length es) (sym (ap stored_of q) ∙ step.answer)
 
-        pub too_many : 1000000 < c.nodes → refused 20 ≡ parse_svg_element (element_of script chars e) tag ignored p t
+        pub too_many : 1000000 < c.nodes → refused 20 ≡ parse_svg_element (element_of drawing e) tag ignored p t
         too_many h = sym (whole ∙ rw (room-told.0, lt-leb c.nodes most_nodes h) refl)
 
         pub no_record : c.nodes ≤ 1000000 → node_room (nodes_read ns) ≤ c.nodes →
-            refused 22 ≡ parse_svg_element (element_of script chars e) tag ignored p t
+            refused 22 ≡ parse_svg_element (element_of drawing e) tag ignored p t
         no_record h f = sym (whole ∙ rw (room-told.0, le-leb c.nodes most_nodes h, le-ltb c.nodes (node_room (nodes_read ns)) f) refl)
 
         pub appended-here : c.nodes ≤ 1000000 → c.nodes < node_room (nodes_read ns) → (l : List ℕ) →
             l ≡ appended ELEMENT tag c.attributes x.next ns p c.nodes →
             done (tree_of l m bs (record { nodes = c.nodes + 1; attributes = x.next; text = c.text }))
-            ≡ parse_svg_element (element_of script chars e) tag ignored p t
+            ≡ parse_svg_element (element_of drawing e) tag ignored p t
         unfolding add_element with_run
         appended-here h f l a =
             let fits = leb-true (c.attributes + length es) room room-told.0 in

@@ -7,6 +7,7 @@ use Rattle.model.specs.Tables.{Tree, Entry, Out, refused, done, ELEMENT, word, m
 use Rattle.model.specs.Element.{add_attribute}
 use Rattle.model.specs.Theorems.Sim.{Every}
 use Rattle.model.specs.Theorems.Inside.{LiesValue}
+use Rattle.script.specs.declared.drawing.Drawing.{Drawing}
 use Rattle.script.specs.declared.cursor.Cursor.{Cursor}
 use Rattle.script.specs.Step.{Fit}
 use Rattle.walk.specs.Values.{attributes_in, declarations_in, SameNodes, SameRest}
@@ -20,26 +21,25 @@ use Rattle.element.specs.declared.Run.{Run}
 use Rattle.element.specs.declared.Parsed.{Parsed}
 
 -- A cursor inside an element whose attributes lie, with their readings, within the characters, which are at most 1,048,576.
-pub record InAttributes (script chars : List ℕ) (c : Cursor) : Type 0 where
-  pub fit : Fit script c
-  pub lie : Every (λ (a : Attribute). LiesValue (length chars) a.value) (attributes_in script chars c)
-  pub small : length chars ≤ most_bytes
+pub record InAttributes (drawing : Drawing) (c : Cursor) : Type 0 where
+  pub fit : Fit drawing c
+  pub lie : Every (λ (a : Attribute). LiesValue (length drawing.characters.now) a.value) (attributes_in drawing c)
+  pub small : length drawing.characters.now ≤ most_bytes
 
 -- The same for its declarations.
-pub record InDeclarations (script chars : List ℕ) (c : Cursor) : Type 0 where
-  pub fit : Fit script c
-  pub lie : Every (λ (d : Declaration). LiesValue (length chars) d.value) (declarations_in script chars c)
-  pub small : length chars ≤ most_bytes
+pub record InDeclarations (drawing : Drawing) (c : Cursor) : Type 0 where
+  pub fit : Fit drawing c
+  pub lie : Every (λ (d : Declaration). LiesValue (length drawing.characters.now) d.value) (declarations_in drawing c)
+  pub small : length drawing.characters.now ≤ most_bytes
 
 -- What an attribute makes of the element's entries.
 abbrev pub added_in : List ℕ → Place → Bool → List ℕ → List Entry → Attribute → List Entry
 added_in ns place ignored ats = add_attribute (read_of ns ats) place.parent place.tag ignored
 
 -- The entries of the element in which the cursor stands: those of its attributes, then those of its declarations.
-abbrev pub entries_in : List ℕ → List ℕ → List ℕ → Place → Bool → List ℕ → Cursor → List Entry
-entries_in script chars ns place ignored ats c =
-    folded (declared_in ns place ats) (folded (added_in ns place ignored ats) [] (attributes_in script chars c)) (declarations_in script
-    chars c)
+abbrev pub entries_in : Drawing → List ℕ → Place → Bool → List ℕ → Cursor → List Entry
+entries_in drawing ns place ignored ats c =
+    folded (declared_in ns place ats) (folded (added_in ns place ignored ats) [] (attributes_in drawing c)) (declarations_in drawing c)
 
 -- Where a run left the entries.
 abbrev pub stored_of : Result Run Refusal → Result ℕ Refusal
@@ -47,14 +47,14 @@ stored_of (Ok x) = Ok x.next
 stored_of (Err r) = Err r
 
 -- The cursor behind the attributes: the same declarations and nodes.
-abbrev pub RunRest : List ℕ → List ℕ → Cursor → Result Run Refusal → Type 0
-RunRest script chars from (Ok x) = SameRest script chars from x.behind
-RunRest script chars from (Err r) = Unit {0}
+abbrev pub RunRest : Drawing → Cursor → Result Run Refusal → Type 0
+RunRest drawing from (Ok x) = SameRest drawing from x.behind
+RunRest drawing from (Err r) = Unit {0}
 
 -- The cursor behind the declarations: the same nodes.
-abbrev pub RunNodes : List ℕ → List ℕ → Cursor → Result Run Refusal → Type 0
-RunNodes script chars from (Ok x) = SameNodes script chars from x.behind
-RunNodes script chars from (Err r) = Unit {0}
+abbrev pub RunNodes : Drawing → Cursor → Result Run Refusal → Type 0
+RunNodes drawing from (Ok x) = SameNodes drawing from x.behind
+RunNodes drawing from (Err r) = Unit {0}
 
 -- THE ELEMENT
 
@@ -75,6 +75,6 @@ parsed_of ns ats bs (Err r) = refused (number_of r)
 parsed_of ns ats bs (Ok p) = done (tree_of ns ats bs p.counts)
 
 -- The cursor behind it: where its children begin.
-abbrev pub ParsedFit : List ℕ → List ℕ → Cursor → Result Parsed Refusal → Type 0
-ParsedFit script chars from (Ok p) = SameNodes script chars from p.behind
-ParsedFit script chars from (Err r) = Unit {0}
+abbrev pub ParsedFit : Drawing → Cursor → Result Parsed Refusal → Type 0
+ParsedFit drawing from (Ok p) = SameNodes drawing from p.behind
+ParsedFit drawing from (Err r) = Unit {0}

@@ -9,13 +9,13 @@ use entries::Place;
 use entries::attribute::add_attribute;
 use refusal::Refusal;
 use script::cursor::Cursor;
+use script::drawing::Drawing;
 use walk::value::next_attribute;
 
 // The attributes of an element, from inside it, one after another.
 // `write_declarations` walks in the same way; a function for both would need a trait with laws for what is stored, and be longer.
 pub fn add_attributes(
-    script: &[u8],
-    characters: &[u8],
+    drawing: &Drawing,
     nodes: &[u32],
     attributes: &mut [u32],
     place: Place,
@@ -25,21 +25,21 @@ pub fn add_attributes(
 ) -> Result<Run, Refusal>
     requires space { Space attributes.old place next }
     requires above { Above nodes.now place }
-    requires in_attributes { InAttributes script.now characters.now from }
+    requires in_attributes { InAttributes drawing.now from }
     ensures stored { Leaves attributes.old place
         (folded (added_in nodes.now place ignored attributes.old) (so_far attributes.old place next)
-        (attributes_in script.now characters.now from)) (stored_of result) attributes.new }
-    ensures behind { RunRest script.now characters.now from result }
+        (attributes_in drawing.now from)) (stored_of result) attributes.new }
+    ensures behind { RunRest drawing.now from result }
 {
     let mut c = from;
     let mut n = next;
     loop {
-        match next_attribute(script, characters, c) {
+        match next_attribute(drawing, c) {
             Ok(x) => {
                 n = add_attribute(
                     nodes,
                     attributes,
-                    characters,
+                    drawing.characters,
                     place,
                     n,
                     ignored,

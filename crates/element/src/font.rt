@@ -14,6 +14,7 @@ use entries::insert::insert_attribute;
 use entries::{Place, Value};
 use names::aid;
 use refusal::Refusal;
+use script::drawing::Drawing;
 use tree::Entry;
 use walk::value::{ValueAt, reading_of};
 
@@ -70,17 +71,16 @@ fn reset_font(
 }
 
 // Has the declaration a reading of that kind?
-fn is_read(script: &[u8], characters: &[u8], v: ValueAt, kind: u8) -> bool
-    requires { Held script.now characters.now v }
-    ensures { result ≡ is_read (read_of [] []) 0 0 (declaration_of script.now characters.now 0 0 v) kind }
+fn is_read(drawing: &Drawing, v: ValueAt, kind: u8) -> bool
+    requires { Held drawing.now v }
+    ensures { result ≡ is_read (read_of [] []) 0 0 (declaration_of drawing.now 0 0 v) kind }
 {
-    reading_of(script, characters, v.behind, v.own.chars, kind).is_some()
+    reading_of(drawing, v.behind, v.own.chars, kind).is_some()
 }
 
 // A part under that name and the declaration's command, where there is a reading of its kind.
 fn insert_part(
-    script: &[u8],
-    characters: &[u8],
+    drawing: &Drawing,
     nodes: &[u32],
     attributes: &mut [u32],
     place: Place,
@@ -92,12 +92,12 @@ fn insert_part(
 ) -> Result<u32, Refusal>
     requires space { Space attributes.old place next }
     requires above { Above nodes.now place }
-    requires held { Held script.now characters.now v }
+    requires held { Held drawing.now v }
     ensures { Leaves attributes.old place
-        (parts_of script.now characters.now nodes.now place important v attributes.old
+        (parts_of drawing.now nodes.now place important v attributes.old
         (so_far attributes.old place next) (kind gives name)) result attributes.new }
 {
-    let Some(part) = reading_of(script, characters, v.behind, v.own.chars, kind) else {
+    let Some(part) = reading_of(drawing, v.behind, v.own.chars, kind) else {
         return Ok(next);
     };
     let value = Value {
@@ -106,14 +106,20 @@ fn insert_part(
         command: value_of(v).command,
     };
     insert_attribute(
-        nodes, attributes, characters, place, next, name, important, value,
+        nodes,
+        attributes,
+        drawing.characters,
+        place,
+        next,
+        name,
+        important,
+        value,
     )
 }
 
 // All parts, one after another.
 fn insert_parts(
-    script: &[u8],
-    characters: &[u8],
+    drawing: &Drawing,
     nodes: &[u32],
     attributes: &mut [u32],
     place: Place,
@@ -123,15 +129,15 @@ fn insert_parts(
 ) -> Result<u32, Refusal>
     requires space { Space attributes.old place next }
     requires above { Above nodes.now place }
-    requires held { Held script.now characters.now v }
+    requires held { Held drawing.now v }
     ensures { Leaves attributes.old place
-        (folded (parts_of script.now characters.now nodes.now place important v attributes.old)
+        (folded (parts_of drawing.now nodes.now place important v attributes.old)
         (so_far attributes.old place next) font_parts) result attributes.new }
 {
     let mut n = next;
     for (kind, name) in PARTS {
         n = insert_part(
-            script, characters, nodes, attributes, place, n, important, v, kind, name,
+            drawing, nodes, attributes, place, n, important, v, kind, name,
         )?;
     }
     Ok(n)
@@ -139,8 +145,7 @@ fn insert_parts(
 
 // `write_declaration` of a font: nothing without a size and a family; else what it resets, then its parts.
 pub fn insert_font(
-    script: &[u8],
-    characters: &[u8],
+    drawing: &Drawing,
     nodes: &[u32],
     attributes: &mut [u32],
     place: Place,
@@ -150,16 +155,14 @@ pub fn insert_font(
 ) -> Result<u32, Refusal>
     requires space { Space attributes.old place next }
     requires above { Above nodes.now place }
-    requires held { Held script.now characters.now v }
+    requires held { Held drawing.now v }
     ensures { Leaves attributes.old place
-        (font_in script.now characters.now nodes.now place important v attributes.old
+        (font_in drawing.now nodes.now place important v attributes.old
         (so_far attributes.old place next)) result attributes.new }
 {
-    if !is_read(script, characters, v, 9) || !is_read(script, characters, v, 10) {
+    if !is_read(drawing, v, 9) || !is_read(drawing, v, 10) {
         return Ok(next);
     }
     let n = reset_font(attributes, place, next, important)?;
-    insert_parts(
-        script, characters, nodes, attributes, place, n, important, v,
-    )
+    insert_parts(drawing, nodes, attributes, place, n, important, v)
 }

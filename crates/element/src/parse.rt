@@ -12,6 +12,7 @@ use crate::{Parsed, Run};
 use entries::Place;
 use refusal::Refusal;
 use script::cursor::Cursor;
+use script::drawing::Drawing;
 use tree::room::{attribute_room, node_room};
 use tree::write::append;
 use tree::{Counts, Kind, NewNode};
@@ -19,8 +20,7 @@ use walk::node::Opened;
 
 // The entries of an element, from inside it: those of its attributes, then those of its declarations.
 fn store_entries(
-    script: &[u8],
-    characters: &[u8],
+    drawing: &Drawing,
     nodes: &[u32],
     attributes: &mut [u32],
     place: Place,
@@ -29,15 +29,14 @@ fn store_entries(
 ) -> Result<Run, Refusal>
     requires first_le_room { (place.first ≤ place.room) × (5 * place.room ≤ length attributes.old) }
     requires above { Above nodes.now place }
-    requires in_attributes { InAttributes script.now characters.now from × InDeclarations script.now characters.now from }
+    requires in_attributes { InAttributes drawing.now from × InDeclarations drawing.now from }
     ensures stored { Leaves attributes.old place
-        (entries_in script.now characters.now nodes.now place ignored attributes.old from)
+        (entries_in drawing.now nodes.now place ignored attributes.old from)
         (stored_of result) attributes.new }
-    ensures behind { RunNodes script.now characters.now from result }
+    ensures behind { RunNodes drawing.now from result }
 {
     let run = add_attributes(
-        script,
-        characters,
+        drawing,
         nodes,
         attributes,
         place,
@@ -45,9 +44,7 @@ fn store_entries(
         ignored,
         from,
     )?;
-    write_declarations(
-        script, characters, nodes, attributes, place, run.next, run.behind,
-    )
+    write_declarations(drawing, nodes, attributes, place, run.next, run.behind)
 }
 
 // The nodes that may be present before an element is appended.
@@ -56,8 +53,7 @@ const MOST_NODES: u32 = 1000000;
 // `parse_svg_element`: the element below `parent`, under the name `tag`. Refusals: no entry left, too many nodes, no record left, in this
 // order. What a refusal leaves lies behind the counts, in the attribute table alone.
 pub fn parse_svg_element(
-    script: &[u8],
-    characters: &[u8],
+    drawing: &Drawing,
     nodes: &mut [u32],
     attributes: &mut [u32],
     counts: Counts,
@@ -67,11 +63,11 @@ pub fn parse_svg_element(
     e: Opened,
 ) -> Result<Parsed, Refusal>
     requires ready { Ready nodes.old attributes.old counts parent }
-    requires in_attributes { InAttributes script.now characters.now e.inside × InDeclarations script.now characters.now e.inside }
+    requires in_attributes { InAttributes drawing.now e.inside × InDeclarations drawing.now e.inside }
     ensures outcome { (bs : List ℕ) → parsed_of nodes.new attributes.new bs result
-        ≡ parse_svg_element (element_of script.now characters.now e) tag ignored parent
+        ≡ parse_svg_element (element_of drawing.now e) tag ignored parent
         (tree_of nodes.old attributes.old bs counts) }
-    ensures behind { ParsedFit script.now characters.now e.inside result }
+    ensures behind { ParsedFit drawing.now e.inside result }
 {
     let place = Place {
         parent,
@@ -79,9 +75,7 @@ pub fn parse_svg_element(
         first: counts.attributes,
         room: attribute_room(attributes),
     };
-    let stored = store_entries(
-        script, characters, nodes, attributes, place, ignored, e.inside,
-    );
+    let stored = store_entries(drawing, nodes, attributes, place, ignored, e.inside);
     let run = stored?;
     if counts.nodes > MOST_NODES {
         return Err(Refusal::ElementsLimitReached);

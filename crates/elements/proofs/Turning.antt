@@ -1,25 +1,20 @@
 -- A turn of the loop over the elements. Assumes nothing.
 use Prim.Native.Nat.{ℕ, ◌+◌, ◌*◌, ◌≤◌, ◌<◌}
 use mathlib.Core.Path.{◌≡◌, refl, sym, ap, ◌∙◌, subst}
-use mathlib.Core.Bool.{Bool, true, false, not}
+use mathlib.Core.Bool.{Bool, true}
 use mathlib.Core.List.{List, ◌∷◌}
 use native.Mathlib.Omega.{arith}
-use borrow.Author.Tests.{ltb-false}
-use lib.Dec.{eqb, leb, ltb}
 use lib.ListN.{length, replicate, length-replicate}
-use Rattle.model.specs.Base.{pick, and, or}
-use Rattle.model.specs.EId
 use Rattle.model.specs.Drawing as model
 use Rattle.model.specs.Drawing.{Event, Source, begin, close, commands, events}
 use Rattle.model.specs.Names.{is_element}
-use Rattle.model.specs.Tables.{Tree, Out, done, word, set_word, rooted, cleared, add_element}
+use Rattle.model.specs.Tables.{Tree, done, word, set_word, rooted, cleared, add_element}
 use Rattle.model.specs.Element.{parse_svg_element}
-use Rattle.model.specs.Check as C
-use Rattle.model.specs.Check.{check, check_from, most_bytes}
 use Rattle.model.proofs.Theorems.Inside.{all-inside}
 use Rattle.model.proofs.Theorems.Kept.{tidy-root}
+use Rattle.script.specs.declared.drawing.Drawing.{Drawing}
 use Rattle.script.specs.declared.cursor.Cursor.{Cursor}
-use Rattle.script.specs.Step.{Fit, at_start, commands_at}
+use Rattle.script.specs.Step.{Fit, at_start, commands_at, Checked}
 use Rattle.script.proofs.Commands.{placed_first}
 use Rattle.walk.specs.declared.node.Opened.{Opened}
 use Rattle.walk.specs.Nodes.{element_of, leave, Further}
@@ -27,10 +22,10 @@ use Rattle.walk.specs.Values.{events_at, SameNodes}
 use Rattle.tree.specs.declared.Counts.{Counts}
 use Rattle.tree.specs.Lent.{tree_of}
 use Rattle.element.specs.declared.Parsed.{Parsed}
-use Rattle.element.specs.Runs.{InAttributes, InDeclarations, Ready, parsed_of, ParsedFit}
+use Rattle.element.specs.Runs.{InAttributes, InDeclarations, Ready}
 use Rattle.element.proofs.Keeping.{kept-ready, element-grown}
 use Rattle.elements.specs.declared.State.{State}
-use Rattle.std.specs.Prelude.{Option, Some, None, Result, Ok, Err}
+use Rattle.std.specs.Prelude.{Option, Some, Result, Ok}
 use Rattle.refusal.specs.declared.Refusal.{Refusal}
 use Rattle.build.specs.Results.{nothing}
 use Rattle.build.proofs.Building.{both_small}
@@ -40,13 +35,13 @@ use Rattle.label.proofs.Growing.{made-element}
 use Rattle.label.proofs.Walking.{lies-leave}
 use Rattle.elements.specs.Turns.{Going, Opening, TurnFit}
 
-module _ (script chars ns ats bs : List ℕ) (s : State) (g : Going script chars ns ats bs s) where
+module _ (drawing : Drawing) (ns ats bs : List ℕ) (s : State) (g : Going drawing ns ats bs s) where
   abbrev t : Tree
   t = tree_of ns ats bs s.counts
 
   -- Another place of the drawing, another node.
-  pub elsewhere : (c : Cursor) (p : ℕ) → Fit script c → Lies chars (events_at script chars c) → p < s.counts.nodes →
-      Going script chars ns ats bs (record { c = c; parent = p; counts = s.counts })
+  pub elsewhere : (c : Cursor) (p : ℕ) → Fit drawing c → Lies drawing.characters.now (events_at drawing c) → p < s.counts.nodes →
+      Going drawing ns ats bs (record { c = c; parent = p; counts = s.counts })
   elsewhere c p f l b = record { fit = f; all = g.all; lies = l; small = g.small; tidy = g.tidy; few = g.few; below = b }
 
   -- The way up.
@@ -54,38 +49,38 @@ module _ (script chars ns ats bs : List ℕ) (s : State) (g : Going script chars
   above-there = (omega (arith, g.below, g.tidy.kept.fits.nodes), (g.tidy.kept.nodes s.parent g.below).falls)
 
   -- Behind a text, a comment or a close.
-  pub further-on : (c : Cursor) (p : ℕ) → Further script s.c c → Lies chars (events_at script chars c) → p ≤ s.parent →
-      Going script chars ns ats bs (record { c = c; parent = p; counts = s.counts }) × (s.c.at < c.at)
+  pub further-on : (c : Cursor) (p : ℕ) → Further drawing s.c c → Lies drawing.characters.now (events_at drawing c) → p ≤ s.parent →
+      Going drawing ns ats bs (record { c = c; parent = p; counts = s.counts }) × (s.c.at < c.at)
   further-on c p f l b = (elsewhere c p f.fit l (omega (arith, g.below)), f.further)
 
-  module _ (e : Opened) (o : Opening script chars s e) where
+  module _ (e : Opened) (o : Opening drawing s e) where
     pub ready : Ready ns ats s.counts s.parent
     ready =
-        kept-ready (length chars) ns ats bs s.counts g.tidy.kept (g.few.0, g.few.1) s.parent g.below
+        kept-ready (length drawing.characters.now) ns ats bs s.counts g.tidy.kept (g.few.0, g.few.1) s.parent g.below
 
-    pub inside : InAttributes script chars e.inside × InDeclarations script chars e.inside
+    pub inside : InAttributes drawing e.inside × InDeclarations drawing e.inside
     inside = (
       record { fit = o.further.fit; lie = o.element.0; small = g.small },
       record { fit = o.further.fit; lie = o.element.1; small = g.small },
     )
 
-    pub passed : (c : Cursor) → events_at script chars c ≡ leave 0 (events_at script chars e.inside) → Fit script c →
+    pub passed : (c : Cursor) → events_at drawing c ≡ leave 0 (events_at drawing e.inside) → Fit drawing c →
         e.inside.at ≤ c.at →
-        Going script chars ns ats bs (record { c = c; parent = s.parent; counts = s.counts }) × (s.c.at < c.at)
+        Going drawing ns ats bs (record { c = c; parent = s.parent; counts = s.counts }) × (s.c.at < c.at)
     passed c q f l = (
-      elsewhere c s.parent f (rw q (lies-leave chars 0 (events_at script chars e.inside) o.lies)) g.below,
+      elsewhere c s.parent f (rw q (lies-leave drawing.characters.now 0 (events_at drawing e.inside) o.lies)) g.below,
       omega (arith, o.further.further),
     )
 
     pub grown : (ignored : Bool) (code : ℕ) → is_element code ≡ true → (c : Counts) (behind : Cursor) →
-        SameNodes script chars e.inside behind →
-        (ms as' : List ℕ) → done (tree_of ms as' bs c) ≡ parse_svg_element (element_of script chars e) code ignored s.parent t →
-        Going script chars ms as' bs (record { c = behind; parent = s.counts.nodes; counts = c }) × (s.c.at < behind.at)
+        SameNodes drawing e.inside behind →
+        (ms as' : List ℕ) → done (tree_of ms as' bs c) ≡ parse_svg_element (element_of drawing e) code ignored s.parent t →
+        Going drawing ms as' bs (record { c = behind; parent = s.counts.nodes; counts = c }) × (s.c.at < behind.at)
     unfolding add_element
     grown ignored code is c behind same ms as' q =
-        let h = element-grown (length chars) t g.tidy code is s.parent g.below ignored (element_of script chars e) o.element
+        let h = element-grown (length drawing.characters.now) t g.tidy code is s.parent g.below ignored (element_of drawing e) o.element
         (tree_of ms as' bs c) q in
-        let m = made-element t s.parent code ignored (element_of script chars e) (tree_of ms as' bs c) q in
+        let m = made-element t s.parent code ignored (element_of drawing e) (tree_of ms as' bs c) q in
         let texts : c.text ≡ s.counts.text = ap (λ (v : Tree). v.text_count) m.0 in (
           record {
             fit = same.fit;
@@ -100,7 +95,7 @@ module _ (script chars ns ats bs : List ℕ) (s : State) (g : Going script chars
         )
 
     -- A text element can be built here.
-    pub beginning : Beginning script chars t s.parent e
+    pub beginning : Beginning drawing t s.parent e
     beginning = record {
       inside = record {
         fit = o.further.fit;
@@ -116,14 +111,14 @@ module _ (script chars ns ats bs : List ℕ) (s : State) (g : Going script chars
 
     -- Behind a text element.
     pub labelled : (r : Result Parsed Refusal) (x : Parsed) → r ≡ Ok x → (ms as' bs' : List ℕ) →
-        ClosedFit script chars e.inside s.counts.nodes ms as' bs' r →
-        Going script chars ms as' bs' (record { c = x.behind; parent = s.parent; counts = x.counts }) × (s.c.at < x.behind.at)
+        ClosedFit drawing e.inside s.counts.nodes ms as' bs' r →
+        Going drawing ms as' bs' (record { c = x.behind; parent = s.parent; counts = x.counts }) × (s.c.at < x.behind.at)
     labelled r x q ms as' bs' h =
-        let k : Closed script chars e.inside s.counts.nodes (tree_of ms as' bs' x.counts) x.behind = rw q at h in (
+        let k : Closed drawing e.inside s.counts.nodes (tree_of ms as' bs' x.counts) x.behind = rw q at h in (
           record {
             fit = k.fit;
             all = g.all;
-            lies = rw k.behind (lies-leave chars 0 (events_at script chars e.inside) o.lies);
+            lies = rw k.behind (lies-leave drawing.characters.now 0 (events_at drawing e.inside) o.lies);
             small = g.small;
             tidy = k.tidy;
             few = k.few;
@@ -132,51 +127,51 @@ module _ (script chars ns ats bs : List ℕ) (s : State) (g : Going script chars
           omega (arith, o.further.further, k.later),
         )
 
-module _ (script chars : List ℕ) (s : State) where
-  pub opening : (e : Opened) → begin (element_of script chars e) ∷ events_at script chars e.inside ≡ events_at script chars s.c →
-      Further script s.c e.inside → Lies chars (events_at script chars s.c) → Opening script chars s e
-  opening e q f l = let h : Lies chars (begin (element_of script chars e) ∷ events_at script chars e.inside) = subst (Lies chars) (sym
+module _ (drawing : Drawing) (s : State) where
+  pub opening : (e : Opened) → begin (element_of drawing e) ∷ events_at drawing e.inside ≡ events_at drawing s.c →
+      Further drawing s.c e.inside → Lies drawing.characters.now (events_at drawing s.c) → Opening drawing s e
+  opening e q f l = let h : Lies drawing.characters.now (begin (element_of drawing e) ∷ events_at drawing e.inside) = subst (Lies drawing.characters.now) (sym
       q) l in
       record { further = f; element = h.0; lies = h.1 }
 
-  module _ (c : Cursor) (l : Lies chars (events_at script chars s.c)) where
-    pub behind-text : (a : Source) → model.Event.text a ∷ events_at script chars c ≡ events_at script chars s.c →
-        Lies chars (events_at script chars c)
+  module _ (c : Cursor) (l : Lies drawing.characters.now (events_at drawing s.c)) where
+    pub behind-text : (a : Source) → model.Event.text a ∷ events_at drawing c ≡ events_at drawing s.c →
+        Lies drawing.characters.now (events_at drawing c)
     behind-text a q =
-        let h : Lies chars (model.Event.text a ∷ events_at script chars c) = subst (Lies chars) (sym q) l in h.1
+        let h : Lies drawing.characters.now (model.Event.text a ∷ events_at drawing c) = subst (Lies drawing.characters.now) (sym q) l in h.1
 
-    pub behind-other : model.Event.other ∷ events_at script chars c ≡ events_at script chars s.c → Lies chars (events_at script chars c)
-    behind-other q = let h : Lies chars (model.Event.other ∷ events_at script chars c) = subst (Lies chars) (sym q) l in h
+    pub behind-other : model.Event.other ∷ events_at drawing c ≡ events_at drawing s.c → Lies drawing.characters.now (events_at drawing c)
+    behind-other q = let h : Lies drawing.characters.now (model.Event.other ∷ events_at drawing c) = subst (Lies drawing.characters.now) (sym q) l in h
 
-    pub behind-close : close ∷ events_at script chars c ≡ events_at script chars s.c → Lies chars (events_at script chars c)
-    behind-close q = let h : Lies chars (close ∷ events_at script chars c) = subst (Lies chars) (sym q) l in h
+    pub behind-close : close ∷ events_at drawing c ≡ events_at drawing s.c → Lies drawing.characters.now (events_at drawing c)
+    behind-close q = let h : Lies drawing.characters.now (close ∷ events_at drawing c) = subst (Lies drawing.characters.now) (sym q) l in h
 
-first-lies : (script chars : List ℕ) → check script chars ≡ 0 → Lies chars (events_at script chars at_start)
+first-lies : (drawing : Drawing) → Checked drawing → Lies drawing.characters.now (events_at drawing at_start)
 unfolding events commands_at
-first-lies script chars h = all-inside script chars h
+first-lies drawing h = all-inside drawing.script.now drawing.characters.now h
 
 -- The first state.
-pub starting : (script chars : List ℕ) (n m b : ℕ) → check script chars ≡ 0 → (mid ats bs : List ℕ) →
+pub starting : (drawing : Drawing) (n m b : ℕ) → Checked drawing → (mid ats bs : List ℕ) →
     tree_of mid ats bs nothing ≡ cleared n m b → 8 ≤ length mid → (c : Cursor) → c ≡ at_start → (ns : List ℕ) → ns ≡ set_word mid 0 0 1 →
-    Going script chars ns ats bs (record { c = c; parent = 0; counts = record { nodes = 1; attributes = 0; text = 0 } })
+    Going drawing ns ats bs (record { c = c; parent = 0; counts = record { nodes = 1; attributes = 0; text = 0 } })
 unfolding rooted cleared
-starting script chars n m b h mid ats bs k l c e ns p =
+starting drawing n m b h mid ats bs k l c e ns p =
     let z : mid ≡ replicate n 0 = ap (λ (t : Tree). t.nodes) k in
     let q : ats ≡ replicate m 0 = ap (λ (t : Tree). t.attributes) k in
     let r : bs ≡ replicate b 0 = ap (λ (t : Tree). t.text) k in
     let long : length mid ≡ n = ap length z ∙ length-replicate n 0 in
     rw (e, p, q, r, z) (record {
-      fit = placed_first script at_start refl (both_small script chars h).0;
-      all = all-inside script chars h;
-      lies = first-lies script chars h;
-      small = (both_small script chars h).1;
-      tidy = tidy-root (length chars) n m b (omega arith);
+      fit = placed_first drawing at_start refl (both_small drawing h).0;
+      all = all-inside drawing.script.now drawing.characters.now h;
+      lies = first-lies drawing h;
+      small = (both_small drawing h).1;
+      tidy = tidy-root (length drawing.characters.now) n m b (omega arith);
       few = (omega arith, omega arith, omega arith);
       below = omega arith;
     })
 
-pub turn-told : (script chars ns ats bs : List ℕ) (s : State) (r : Result (Option State) Refusal) (x : Option State) (n : State) →
-    r ≡ Ok x → x ≡ Some n → TurnFit script chars ns ats bs s r → Going script chars ns ats bs n × (s.c.at < n.c.at)
-turn-told script chars ns ats bs s r x n e f h =
-    let k : TurnFit script chars ns ats bs s (Ok x) = subst (TurnFit script chars ns ats bs s) e h in
-    subst (λ (y : Option State). TurnFit script chars ns ats bs s (Ok y)) f k
+pub turn-told : (drawing : Drawing) (ns ats bs : List ℕ) (s : State) (r : Result (Option State) Refusal) (x : Option State) (n : State) →
+    r ≡ Ok x → x ≡ Some n → TurnFit drawing ns ats bs s r → Going drawing ns ats bs n × (s.c.at < n.c.at)
+turn-told drawing ns ats bs s r x n e f h =
+    let k : TurnFit drawing ns ats bs s (Ok x) = subst (TurnFit drawing ns ats bs s) e h in
+    subst (λ (y : Option State). TurnFit drawing ns ats bs s (Ok y)) f k

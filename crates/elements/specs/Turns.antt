@@ -1,4 +1,5 @@
 -- What the loop over the elements keeps true.
+use Rattle.script.specs.declared.drawing.Drawing.{Drawing}
 use Rattle.std.specs.Prelude.{ℕ, ◌<◌, List, length, Option, Some, None, Result, Ok, Err}
 use Rattle.model.specs.Theorems.Inside.{LiesElement}
 use Rattle.walk.specs.declared.node.Opened.{Opened}
@@ -11,17 +12,17 @@ use Rattle.elements.specs.declared.State.{State}
 use Rattle.refusal.specs.declared.Refusal.{Refusal}
 
 -- The nodes from the place of the state on can be built below its node.
-abbrev pub Going : List ℕ → List ℕ → List ℕ → List ℕ → List ℕ → State → Type 0
-Going script chars ns ats bs s = Underway script chars (tree_of ns ats bs s.counts) s.parent s.c
+abbrev pub Going : Drawing → List ℕ → List ℕ → List ℕ → State → Type 0
+Going drawing ns ats bs s = Underway drawing (tree_of ns ats bs s.counts) s.parent s.c
 
 -- An element that opens behind the place of the state.
-pub record Opening (script chars : List ℕ) (s : State) (e : Opened) : Type 0 where
-  pub further : Further script s.c e.inside
-  pub element : LiesElement (length chars) (element_of script chars e)
-  pub lies : Lies chars (events_at script chars e.inside)
+pub record Opening (drawing : Drawing) (s : State) (e : Opened) : Type 0 where
+  pub further : Further drawing s.c e.inside
+  pub element : LiesElement (length drawing.characters.now) (element_of drawing e)
+  pub lies : Lies drawing.characters.now (events_at drawing e.inside)
 
 -- The place behind a turn.
-abbrev pub TurnFit : List ℕ → List ℕ → List ℕ → List ℕ → List ℕ → State → Result (Option State) Refusal → Type 0
-TurnFit script chars ns ats bs s (Ok (Some n)) = Going script chars ns ats bs n × (s.c.at < n.c.at)
-TurnFit script chars ns ats bs s (Ok None) = Unit {0}
-TurnFit script chars ns ats bs s (Err r) = Unit {0}
+abbrev pub TurnFit : Drawing → List ℕ → List ℕ → List ℕ → State → Result (Option State) Refusal → Type 0
+TurnFit drawing ns ats bs s (Ok (Some n)) = Going drawing ns ats bs n × (s.c.at < n.c.at)
+TurnFit drawing ns ats bs s (Ok None) = Unit {0}
+TurnFit drawing ns ats bs s (Err r) = Unit {0}

@@ -17,9 +17,10 @@ use memo::fill::fill;
 use names::eid;
 use parse::name::{is_parsed, tag_of};
 use pieces::content::code_of;
-use refusal::Refusal;
+use refusal::{Refusal, answer_number};
 use script::check::check;
 use script::cursor::Cursor;
+use script::drawing::Drawing;
 use tree::word::node_link;
 use tree::write::put_root;
 use tree::{Counts, word};
@@ -44,8 +45,7 @@ fn above(nodes: &[u32], parent: u32) -> u32
 
 // A text element whole; what stands behind it comes next.
 fn begin_text(
-    script: &[u8],
-    characters: &[u8],
+    drawing: &Drawing,
     slots: &[u16],
     nodes: &mut [u32],
     attributes: &mut [u32],
@@ -54,14 +54,13 @@ fn begin_text(
     s: State,
     e: Opened,
 ) -> Result<Option<State>, Refusal>
-    requires going { Going script.now characters.now nodes.old attributes.old text.old s }
-    requires opening { Opening script.now characters.now s e }
-    requires memo { Memo script.now characters.now slots.now }
-    ensures { TurnFit script.now characters.now nodes.new attributes.new
-        text.new s result }
+    requires going { Going drawing.now nodes.old attributes.old text.old s }
+    requires opening { Opening drawing.now s e }
+    requires memo { Memo drawing.now slots.now }
+    ensures { TurnFit drawing.now nodes.new attributes.new text.new s result }
 {
     let parsed = parse_svg_text_element(
-        script, characters, slots, nodes, attributes, text, s.counts, s.parent, ignored, e,
+        drawing, slots, nodes, attributes, text, s.counts, s.parent, ignored, e,
     )?;
     Ok(Some(State {
         c: parsed.behind,
@@ -72,8 +71,7 @@ fn begin_text(
 
 // An element: its node, and its inside comes next; one that becomes no node is passed over.
 fn begin(
-    script: &[u8],
-    characters: &[u8],
+    drawing: &Drawing,
     slots: &[u16],
     nodes: &mut [u32],
     attributes: &mut [u32],
@@ -82,25 +80,21 @@ fn begin(
     s: State,
     e: Opened,
 ) -> Result<Option<State>, Refusal>
-    requires going { Going script.now characters.now nodes.old attributes.old text.old s }
-    requires opening { Opening script.now characters.now s e }
-    requires memo { Memo script.now characters.now slots.now }
-    ensures { TurnFit script.now characters.now nodes.new attributes.new
-        text.new s result }
+    requires going { Going drawing.now nodes.old attributes.old text.old s }
+    requires opening { Opening drawing.now s e }
+    requires memo { Memo drawing.now slots.now }
+    ensures { TurnFit drawing.now nodes.new attributes.new text.new s result }
 {
     if !is_parsed(e.name, e.space) {
-        let behind = past_element(script, characters, e.inside);
+        let behind = past_element(drawing, e.inside);
         return Ok(Some(State { c: behind, ..s }));
     }
     let code = code_of(e.name);
     if code == eid::TEXT {
-        return begin_text(
-            script, characters, slots, nodes, attributes, text, ignored, s, e,
-        );
+        return begin_text(drawing, slots, nodes, attributes, text, ignored, s, e);
     }
     let parsed = parse_svg_element(
-        script,
-        characters,
+        drawing,
         nodes,
         attributes,
         s.counts,
@@ -118,8 +112,7 @@ fn begin(
 
 // What stands at the place of the state.
 fn advance(
-    script: &[u8],
-    characters: &[u8],
+    drawing: &Drawing,
     slots: &[u16],
     nodes: &mut [u32],
     attributes: &mut [u32],
@@ -127,15 +120,12 @@ fn advance(
     ignored: bool,
     s: State,
 ) -> Result<Option<State>, Refusal>
-    requires going { Going script.now characters.now nodes.old attributes.old text.old s }
-    requires memo { Memo script.now characters.now slots.now }
-    ensures { TurnFit script.now characters.now nodes.new attributes.new
-        text.new s result }
+    requires going { Going drawing.now nodes.old attributes.old text.old s }
+    requires memo { Memo drawing.now slots.now }
+    ensures { TurnFit drawing.now nodes.new attributes.new text.new s result }
 {
-    match next_item(script, characters, s.c) {
-        Item::Begin(e) => begin(
-            script, characters, slots, nodes, attributes, text, ignored, s, e,
-        ),
+    match next_item(drawing, s.c) {
+        Item::Begin(e) => begin(drawing, slots, nodes, attributes, text, ignored, s, e),
         Item::Text(_, _, n) => Ok(Some(State { c: n, ..s })),
         Item::Other(n) => Ok(Some(State { c: n, ..s })),
         Item::Close(n) => {
@@ -148,8 +138,7 @@ fn advance(
 
 // The elements from a state on, by the table of ids.
 fn run_by(
-    script: &[u8],
-    characters: &[u8],
+    drawing: &Drawing,
     slots: &[u16],
     nodes: &mut [u32],
     attributes: &mut [u32],
@@ -157,13 +146,11 @@ fn run_by(
     ignored: bool,
     first: State,
 ) -> Result<Counts, Refusal>
-    requires going { Going script.now characters.now nodes.old attributes.old text.old first }
-    requires memo { Memo script.now characters.now slots.now }
+    requires going { Going drawing.now nodes.old attributes.old text.old first }
+    requires memo { Memo drawing.now slots.now }
 {
     let mut s = first;
-    while let Some(n) = advance(
-        script, characters, slots, nodes, attributes, text, ignored, s,
-    )? {
+    while let Some(n) = advance(drawing, slots, nodes, attributes, text, ignored, s)? {
         s = n;
     }
     Ok(s.counts)
@@ -171,33 +158,29 @@ fn run_by(
 
 // The elements from a state on.
 fn run(
-    script: &[u8],
-    characters: &[u8],
+    drawing: &Drawing,
     nodes: &mut [u32],
     attributes: &mut [u32],
     text: &mut [u8],
     ignored: bool,
     first: State,
 ) -> Result<Counts, Refusal>
-    requires { Going script.now characters.now nodes.old attributes.old text.old first }
+    requires { Going drawing.now nodes.old attributes.old text.old first }
 {
     let mut slots: [u16; 32768] = [0; 32768];
-    fill(script, characters, &mut slots);
-    run_by(
-        script, characters, &slots, nodes, attributes, text, ignored, first,
-    )
+    fill(drawing, &mut slots);
+    run_by(drawing, &slots, nodes, attributes, text, ignored, first)
 }
 
 // All of them, from cleared tables on.
 fn build_elements(
-    script: &[u8],
-    characters: &[u8],
+    drawing: &Drawing,
     nodes: &mut [u32],
     attributes: &mut [u32],
     text: &mut [u8],
     ignored: bool,
 ) -> Result<Counts, Refusal> {
-    check(script, characters)?;
+    check(drawing)?;
     clear(nodes, attributes, text);
     if nodes.len() < 8 {
         return Err(Refusal::NodesFull);
@@ -212,7 +195,7 @@ fn build_elements(
             text: 0,
         },
     };
-    run(script, characters, nodes, attributes, text, ignored, first)
+    run(drawing, nodes, attributes, text, ignored, first)
 }
 
 // All elements and text elements of a drawing; their ids are ignored or not.
@@ -225,7 +208,14 @@ pub extern "C" fn elements_build(
     text: &mut [u8],
     ignored: bool,
 ) -> Built {
-    build_elements(script, characters, nodes, attributes, text, ignored).into()
+    build_elements(
+        &Drawing { script, characters },
+        nodes,
+        attributes,
+        text,
+        ignored,
+    )
+    .into()
 }
 
 // Check alone, for what it takes of the time.
@@ -233,8 +223,5 @@ pub extern "C" fn elements_build(
 pub extern "C" fn elements_check(script: &[u8], characters: &[u8]) -> u32
     ensures { result ≡ check script.now characters.now }
 {
-    match check(script, characters) {
-        Ok(()) => 0,
-        Err(refusal) => refusal.into(),
-    }
+    answer_number(check(&Drawing { script, characters }))
 }

@@ -1,11 +1,10 @@
 -- One attribute: the laws behind what is stored for it. Assumes nothing.
 use Prim.Native.Nat.{ℕ, suc, ◌+◌, ◌-◌, ◌*◌}
 use mathlib.Core.Path.{◌≡◌, refl, sym, ap, ◌∙◌}
-use mathlib.Core.List.{List, [], ◌∷◌, ◌++◌}
+use mathlib.Core.List.{List, [], ◌∷◌}
 use mathlib.Core.Option.{Option}
 use Rattle.std.proofs.Common as std
 use Rattle.std.proofs.Common.{Some, None, Result, Ok}
-use Rattle.refusal.specs.declared.Refusal.{Refusal}
 use native.Mathlib.Omega.{arith}
 use borrow.Author.Tests.{eq-eqb, ne_eqb}
 use lib.ListN.{get_or, set}
@@ -15,7 +14,6 @@ use Rattle.model.specs.Drawing.{part_at}
 use Rattle.model.specs.Tables.{Entry, entry_at, find_entry}
 use Rattle.model.specs.Theorems.Runs.{table_of}
 use Rattle.model.specs.Element.{with_value, overwrite_href, with_more}
-use Rattle.tree.specs.Lent.{entry_of}
 use Rattle.tree.specs.declared.Entry as T
 use Rattle.entries.specs.declared.Place.{Place}
 use Rattle.entries.specs.declared.Value.{Value}
@@ -49,10 +47,5 @@ module _ (ats : List ℕ) (place : Place) (next : ℕ) (s : Space ats place next
     href-skipped z = rw (ne_eqb space 0 z) (same_entries ats place next s)
 
   module _ (r : std.Option T.Entry) (o : Option Entry) (told : resolved_of r ≡ o) where
-    pub more-some : (e : T.Entry) → r ≡ Some e → (x : Result ℕ Refusal) (m : List ℕ) →
-        Leaves ats place (so_far ats place next ++ (entry_of e ∷ [])) x m →
-        Leaves ats place (with_more (so_far ats place next) o) x m
-    more-some e h x m l = rw (← told, h) l
-
     pub more-none : r ≡ None → Leaves ats place (with_more (so_far ats place next) o) (Ok next) ats
     more-none h = rw (← told, h) (same_entries ats place next s)

@@ -13,25 +13,13 @@ use Rattle.model.specs.Drawing.{part_at}
 use Rattle.model.specs.Tables.{Entry}
 use Rattle.model.specs.Element.{append_attribute, has_entry, on_first, standing, insert_entry}
 use Rattle.model.proofs.Theorems.Runs.{run-outside, append-same}
-use Rattle.tree.specs.Lent.{read_of, entry_of, Climbable}
+use Rattle.tree.specs.Lent.{read_of}
 use Rattle.tree.specs.declared.Entry as T
 use Rattle.entries.specs.declared.Place.{Place}
 use Rattle.entries.specs.declared.Value.{Value}
 use Rattle.refusal.specs.declared.Refusal.{Refusal}
-use Rattle.entries.specs.Space.{Space, Leaves, so_far, resolved_of, Above, becomes}
-use Rattle.entries.proofs.Storing.{first_count, same_entries, On, went_on, full-leaves}
-
--- The way up from the parent can be read.
-pub climbs : (ns ats : List ℕ) (place : Place) (next : ℕ) → Above ns place → Space ats place next →
-    Climbable (read_of ns ats) place.parent
-climbs ns ats place next a s = record {
-  small = a.small;
-  placed = λ k l. record { inside = omega (arith, a.inside); falls = a.falls k l };
-  readable = λ k l. record {
-    inside = omega (arith, a.inside);
-    range = λ e. omega (arith, (a.range k l e).1, s.low, s.high, s.room);
-  };
-}
+use Rattle.entries.specs.Space.{Space, Leaves, so_far, resolved_of, Above, becomes, inserted}
+use Rattle.entries.proofs.Storing.{first_count, same_entries, On, went_on, then-leaves, full-leaves}
 
 -- No step takes an entry away.
 pub inserts-more : (a : ℕ) (es : List Entry) (o : Option Entry) → length es ≤ length (insert_entry a es o)
@@ -61,13 +49,17 @@ module _ (ns ats chars : List ℕ) (place : Place) (above : Above ns place) wher
   becomes-same new n m o a i v =
       ap (λ f. f place.tag a i (part_at chars v.start v.size) v.command) (append-on new n m o)
 
+  -- The next value is inserted into the entries that the step before left.
+  pub then-inserted : (room : 5 * place.room ≤ length ats) (new : List Entry) (n : ℕ) (m : List ℕ) → On ats place new n m →
+      (a i : ℕ) (v : Value) (r : Result ℕ Refusal) (l : List ℕ) →
+      Leaves m place (inserted ns m chars place i v (so_far m place n) a) r l → Leaves ats place (inserted ns ats chars place i v new a) r l
+  then-inserted room new n m o a i v r l h =
+      then-leaves ats place room new n m o (inserted ns ats chars place i v new a) (inserts-more a new (becomes ns ats chars place a i v))
+      r l
+      (rw (← o.entries, ← becomes-same new n m o a i v) h)
+
 module _ (ats : List ℕ) (place : Place) (next : ℕ) (s : Space ats place next) (a : ℕ) (r : std.Option T.Entry) (o : Option Entry)
     (told : resolved_of r ≡ o) where
-  pub insert-some : (e : T.Entry) → r ≡ Some e → (x : Result ℕ Refusal) (m : List ℕ) →
-      Leaves ats place (insert_entry a (so_far ats place next) (some (entry_of e))) x m →
-      Leaves ats place (insert_entry a (so_far ats place next) o) x m
-  insert-some e h x m l = rw (← told, h) l
-
   pub insert-none : r ≡ None → Leaves ats place (insert_entry a (so_far ats place next) o) (Ok next) ats
   unfolding insert_entry
   insert-none h = rw (← told, h) (same_entries ats place next s)

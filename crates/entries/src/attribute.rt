@@ -85,6 +85,7 @@ fn append_more(
 }
 
 // One attribute. Where an href is kept already, an unprefixed one overwrites its value, and an XLink one is skipped.
+#[tactic(auto, using(crate::proofs::Storing::is_none), unfolding(model::specs::Drawing::part_at, model::specs::Element::add_attribute))]
 pub fn add_attribute(
     nodes: &[u32],
     attributes: &mut [u32],

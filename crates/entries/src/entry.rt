@@ -16,8 +16,7 @@ use tree::{Entry, word};
 // One entry more.
 pub fn add_entry(attributes: &mut [u32], place: Place, next: u32, e: Entry) -> Result<u32, Refusal>
     requires { Space attributes.old place next }
-    ensures { Leaves attributes.old place (so_far attributes.old place next ++ (entry_of e ∷ [])) result
-        attributes.new }
+    ensures { Leaves attributes.old place (so_far attributes.old place next ++ (entry_of e ∷ [])) result attributes.new }
 {
     if place.room <= next {
         return Err(Refusal::AttributesFull);
@@ -35,8 +34,7 @@ pub fn insert_entry(
     e: Entry,
 ) -> Result<u32, Refusal>
     requires { Space attributes.old place next }
-    ensures { Leaves attributes.old place
-        (insert_entry name (so_far attributes.old place next) (some (entry_of e))) result attributes.new }
+    ensures { Leaves attributes.old place (insert_entry name (so_far attributes.old place next) (some (entry_of e))) result attributes.new }
 {
     let Some(j) = find_entry(attributes, name, place.first, next) else {
         return add_entry(attributes, place, next, e);

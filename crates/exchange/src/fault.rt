@@ -8,12 +8,12 @@ ghost use Rattle.exchange.specs.Changes.{TargetFit};
 use places::seek::find_text;
 use refusal::Refusal;
 use script::check::check;
+use script::drawing::Drawing;
 use utf8::is_utf8;
 
 // The fault of an exchange of a text of that length, inside style or not, for these bytes.
 fn text_fault(len: u32, in_style: bool, new: &[u8]) -> Result<(), Refusal>
-    ensures { answer_of result ≡ first_of (31 if in_style ∷ 32 if not (eqb (length new.now) len)
-        ∷ 33 if not (is_utf8 new.now) ∷ []) }
+    ensures { answer_of result ≡ first_of (31 if in_style ∷ 32 if not (eqb (length new.now) len) ∷ 33 if not (is_utf8 new.now) ∷ []) }
 {
     if in_style {
         return Err(Refusal::InStyle);
@@ -28,18 +28,11 @@ fn text_fault(len: u32, in_style: bool, new: &[u8]) -> Result<(), Refusal>
 }
 
 // Where the text begins that is to become these bytes. The faults in their order: check's, no such text, and the text's.
-pub fn target_of(
-    script: &[u8],
-    characters: &[u8],
-    number: u32,
-    new: &[u8],
-) -> Result<usize, Refusal>
-    ensures { TargetFit script.now characters.now number new.now result }
+pub fn target_of(drawing: &Drawing, number: u32, new: &[u8]) -> Result<usize, Refusal>
+    ensures { TargetFit drawing.now.script.now drawing.now.characters.now number new.now result }
 {
-    check(script, characters)?;
-    let Some(found) = find_text(script, characters, number as usize) else {
-        return Err(Refusal::NoSuchText);
-    };
+    check(drawing)?;
+    let found = find_text(drawing, number as usize).ok_or(Refusal::NoSuchText)?;
     text_fault(found.len, found.in_style, new)?;
     Ok(found.own.chars)
 }

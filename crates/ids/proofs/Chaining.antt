@@ -7,7 +7,7 @@ use native.Mathlib.Omega.{arith}
 use native.Mathlib.Decide.{ℕ_discrete}
 use borrow.Author.Tests.{eq-eqb, ne_eqb}
 use lib.Dec.{eqb}
-use lib.ListN.{length, get_or, set, replicate, length-set}
+use lib.ListN.{length, get_or, set, replicate, length-set, length-replicate}
 use lib.Seq.{slice, get_or-set_same, get_or-set_other}
 use Rattle.model.specs.Base.{pick}
 use Rattle.model.specs.AId
@@ -16,9 +16,11 @@ use Rattle.model.specs.Repair.{element_id}
 use Rattle.model.specs.Theorems.Kept.{Tidy}
 use Rattle.model.proofs.Theorems.Kept.{attribute-any}
 use Rattle.model.proofs.Theorems.Cuts.{one-owner}
+use Rattle.model.proofs.Theorems.Unused.{replicate-zero}
 use Rattle.tree.specs.declared.Counts.{Counts}
 use Rattle.tree.specs.Lent.{tree_of, read_of}
 use Rattle.tree.proofs.Alike.{id_same}
+use Rattle.ids.specs.declared.heads.Heads.{Heads}
 use Rattle.ids.specs.Chains.{bucket_from, bucket_of, is_in, last_in, Chained, Indexed, next_set, Turned, Like}
 use Rattle.tree.proofs.Entries.{one-less}
 use Rattle.ids.proofs.Values.{read-part, id-entry}
@@ -101,18 +103,16 @@ pub record Linking (chars ns es₀ : List ℕ) (c : Counts) (es hs : List ℕ) (
   pub high : i ≤ c.nodes
   pub like : Like c.attributes es₀ es
   pub chained : Chained chars (read_of ns es) hs i
-  pub long : length hs ≡ 2049
-  pub off : get_or hs 2048 0 ≡ 0
+  pub long : length hs ≡ 2048
 
 pub linking-first : (chars ns es : List ℕ) (c : Counts) (hs : List ℕ) → Like c.attributes es es
-    → (length hs ≡ 2049) × ((b : ℕ) → get_or hs b 0 ≡ 0) → Linking chars ns es c es hs 0
+    → hs ≡ replicate 2048 0 → Linking chars ns es c es hs 0
 unfolding last_in
 linking-first chars ns es c hs w h = record {
   high = omega arith;
   like = w;
-  chained = record { heads = λ b l. h.1 b; next = λ m l. absurd (omega arith) };
-  long = h.0;
-  off = h.1 2048;
+  chained = record { heads = λ b l. rw h (replicate-zero 2048 b); next = λ m l. absurd (omega arith) };
+  long = rw h (length-replicate {A = ℕ} 2048 0);
 }
 
 last_more : (chars : List ℕ) (t : Tree) (b n : ℕ)
@@ -155,7 +155,6 @@ module _ (size : ℕ) (chars ns es₀ : List ℕ) (c : Counts) (g : Tidy size (t
               next = λ m l y. w.chained.next m (before m l y) y;
             };
             long = w.long;
-            off = w.off;
           }))
         where
           out : (a : ℕ) → is_in chars t a i ≡ false
@@ -175,7 +174,6 @@ module _ (size : ℕ) (chars ns es₀ : List ℕ) (c : Counts) (g : Tidy size (t
             like = like-next c.attributes es₀ es w.like e x inside g.kept.fits.entries;
             chained = record { heads = heads; next = next };
             long = length-set hs b (i + 1) ∙ w.long;
-            off = get_or-set_other hs b 2048 (i + 1) 0 (λ d. omega (arith, small)) ∙ w.off;
           }))
         where
           e : ℕ
@@ -252,20 +250,18 @@ module _ (size : ℕ) (chars ns es₀ : List ℕ) (c : Counts) (g : Tidy size (t
               ∙ sym (last-in-same chars t u ids values (bucket_of (element_id chars t m)) m)
               ∙ ap (λ (s : List ℕ). last_in chars u (bucket_of s) m) (sym (values m))
 
--- A node that is not chained ends it, and the heads say so.
+-- A node that is not chained ends it.
 pub linking-stop : (chars ns es₀ : List ℕ) (c : Counts) (es hs : List ℕ) (i : ℕ) → Linking chars ns es₀ c es hs i → (es' hs' : List ℕ)
-    (a : Bool) → Turned chars ns es hs i es' hs' a → a ≡ false → Like c.attributes es₀ es' × Indexed chars (read_of ns es') hs' c.nodes
-linking-stop chars ns es₀ c es hs i w es' hs' a r f = (
-  subst (Like c.attributes es₀) (sym (r.stop f).0) w.like,
-  record { chained = λ z. absurd (z (ap (λ (l : List ℕ). get_or l 2048 0) (r.stop f).1 ∙ w.off)) },
-)
+    (a : Bool) → Turned chars ns es hs i es' hs' a → a ≡ false → Like c.attributes es₀ es'
+linking-stop chars ns es₀ c es hs i w es' hs' a r f = subst (Like c.attributes es₀) (sym (r.stop f).0) w.like
+
+-- Heads that are not whole.
+pub indexed-not : (chars : List ℕ) (t : Tree) (heads : Heads) (n : ℕ) → heads.is_whole ≡ false → Indexed chars t heads n
+indexed-not chars t heads n e = record { chained = λ z. absurd (false≢true (sym e ∙ z)) }
 
 -- All nodes are chained.
-pub linking-done : (chars ns es₀ : List ℕ) (c : Counts) (es hs : List ℕ) (i : ℕ) → Linking chars ns es₀ c es hs i → c.nodes ≤ i
-    → Indexed chars (read_of ns es) (set hs 2048 1) c.nodes
-linking-done chars ns es₀ c es hs i w l =
+pub linking-done : (chars ns es₀ : List ℕ) (c : Counts) (es : List ℕ) (heads : Heads) (i : ℕ) → Linking chars ns es₀ c es heads.last i
+    → c.nodes ≤ i → Indexed chars (read_of ns es) heads c.nodes
+linking-done chars ns es₀ c es heads i w l =
     let e : i ≡ c.nodes = omega (arith, w.high) in
-    let k : Chained chars (read_of ns es) hs c.nodes = subst (Chained chars (read_of ns es) hs) e w.chained in
-    record {
-      chained = λ z. record { heads = λ b h. get_or-set_other hs 2048 b 1 0 (λ y. omega arith) ∙ k.heads b h; next = k.next };
-    }
+    record { chained = λ z. subst (Chained chars (read_of ns es) heads.last) e w.chained }

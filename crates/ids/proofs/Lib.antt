@@ -1,3 +1,4 @@
+pub mod Below
 pub mod Chaining
 pub mod Hunting
 pub mod Likeness

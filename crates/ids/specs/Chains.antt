@@ -21,12 +21,14 @@ use Rattle.std.specs.Prelude.{
   length,
   get_or,
   set,
+  replicate,
 }
 use Rattle.model.specs.Base.{pick}
 use Rattle.model.specs.AId
 use Rattle.model.specs.Tables.{Tree, entry_word, attribute_id}
 use Rattle.model.specs.Repair.{element_id}
 use Rattle.tree.specs.Lent.{read_of}
+use Rattle.ids.specs.declared.heads.Heads.{Heads}
 
 -- BUCKETS
 
@@ -56,9 +58,13 @@ pub record Chained (chars : List ℕ) (t : Tree) (hs : List ℕ) (n : ℕ) : Typ
   pub next : (m : ℕ) → m < n → (attribute_id t m AId.Id ≡ 0 → ⊥)
       → entry_word t (attribute_id t m AId.Id - 1) 1 / 2 ≡ last_in chars t (bucket_of (element_id chars t m)) m
 
--- It is so, if the word behind the heads says so.
-pub record Indexed (chars : List ℕ) (t : Tree) (hs : List ℕ) (n : ℕ) : Type 0 where
-  pub chained : (get_or hs 2048 0 ≡ 0 → ⊥) → Chained chars t hs n
+-- No node stands in a chain.
+abbrev pub no_heads : Heads
+no_heads = record { last = replicate 2048 0; is_whole = false }
+
+-- The heads of the first n nodes, if they are whole.
+pub record Indexed (chars : List ℕ) (t : Tree) (heads : Heads) (n : ℕ) : Type 0 where
+  pub chained : heads.is_whole ≡ true → Chained chars t heads.last n
 
 -- The table with the node whose index plus 1 is n behind the importance of entry j.
 abbrev pub next_set : List ℕ → ℕ → ℕ → List ℕ

@@ -2,9 +2,10 @@
 ghost use Rattle.std.specs.Prelude.{◌≡◌, ℕ, ◌+◌, ◌*◌, ◌<◌, length, get_or, replicate};
 ghost use Rattle.model.specs.Theorems.Kept.{Tidy};
 ghost use Rattle.tree.specs.Lent.{tree_of, read_of, ReadableIn};
-ghost use Rattle.ids.specs.Chains.{next_set, Turned, Like, Indexed};
+ghost use Rattle.ids.specs.Chains.{next_set, Turned, Like, no_heads, Indexed};
 
 use crate::bucket::bucket;
+use crate::heads::Heads;
 use names::aid;
 use tree::read::attribute_id;
 use tree::word::entry_word;
@@ -26,13 +27,12 @@ fn chain_one(
     nodes: &[u32],
     attributes: &mut [u32],
     characters: &[u8],
-    heads: &mut [u32; 2049],
+    heads: &mut [u32; 2048],
     i: u32,
 ) -> bool
     requires readable_in { ReadableIn (length characters.now) (read_of nodes.now attributes.old) i }
     requires i_bound { i < 4294967295 }
-    ensures { Turned characters.now nodes.now attributes.old heads.old i
-        attributes.new heads.new result }
+    ensures { Turned characters.now nodes.now attributes.old heads.old i attributes.new heads.new result }
 {
     let Some(j) = attribute_id(nodes, attributes, i, aid::ID) else {
         return true;
@@ -52,24 +52,23 @@ fn chain_one(
     true
 }
 
-// All nodes. The last of the heads is 1 where every id stands in its chain; else it stays 0.
+// All nodes. Where one cannot be chained, the heads stay as not whole.
 pub fn chain(
     nodes: &[u32],
     attributes: &mut [u32],
     characters: &[u8],
-    heads: &mut [u32; 2049],
+    heads: &mut Heads,
     counts: Counts,
 )
     requires tidy { Tidy (length characters.now) (tree_of nodes.now attributes.old (replicate counts.text 0) counts) }
-    requires heads_len { (length heads.old ≡ 2049) × ((b : ℕ) → get_or heads.old b 0 ≡ 0) }
+    requires heads_none { heads.old ≡ no_heads }
     ensures like { Like counts.attributes attributes.old attributes.new }
-    ensures indexed { Indexed characters.now (read_of nodes.now attributes.new) heads.new
-        counts.nodes }
+    ensures indexed { Indexed characters.now (read_of nodes.now attributes.new) heads.new counts.nodes }
 {
     for i in 0..counts.nodes {
-        if !chain_one(nodes, attributes, characters, heads, i) {
+        if !chain_one(nodes, attributes, characters, &mut heads.last, i) {
             return;
         }
     }
-    heads[2048] = 1;
+    heads.is_whole = true;
 }

@@ -5,6 +5,7 @@ ghost use Rattle.tree.specs.Lent.{plus_one, read_of, ReadableIn};
 ghost use Rattle.ids.specs.Chains.{bucket_of, Chained, Indexed};
 
 use crate::bucket::bucket;
+use crate::heads::Heads;
 use names::aid;
 use tree::read::{attribute_id, has_value, last_with_id};
 use tree::word;
@@ -15,17 +16,16 @@ fn find_chained(
     nodes: &[u32],
     attributes: &[u32],
     characters: &[u8],
-    heads: &[u32; 2049],
+    heads: &Heads,
     id: &[u8],
     count: u32,
 ) -> Option<u32>
     requires by_index { (k : ℕ) → k < count → ReadableIn (length characters.now) (read_of nodes.now attributes.now) k }
-    requires chained { Chained characters.now (read_of nodes.now attributes.now) heads.now count }
-    ensures found { plus_one result
-        ≡ last_with_id characters.now (read_of nodes.now attributes.now) id.now count }
+    requires chained { Chained characters.now (read_of nodes.now attributes.now) heads.now.last count }
+    ensures found { plus_one result ≡ last_with_id characters.now (read_of nodes.now attributes.now) id.now count }
     ensures within { IfSome result (λ k. k < count) }
 {
-    let mut last = heads[bucket(id)].checked_sub(1);
+    let mut last = heads.last[bucket(id)].checked_sub(1);
     while let Some(n) = last {
         let j = attribute_id(nodes, attributes, n, aid::ID).unwrap();
         if has_value(attributes, characters, j, id) {
@@ -41,17 +41,16 @@ pub fn find_id(
     nodes: &[u32],
     attributes: &[u32],
     characters: &[u8],
-    heads: &[u32; 2049],
+    heads: &Heads,
     id: &[u8],
     count: u32,
 ) -> Option<u32>
     requires by_index { (k : ℕ) → k < count → ReadableIn (length characters.now) (read_of nodes.now attributes.now) k }
     requires indexed { Indexed characters.now (read_of nodes.now attributes.now) heads.now count }
-    ensures found { plus_one result
-        ≡ last_with_id characters.now (read_of nodes.now attributes.now) id.now count }
+    ensures found { plus_one result ≡ last_with_id characters.now (read_of nodes.now attributes.now) id.now count }
     ensures within { IfSome result (λ k. k < count) }
 {
-    if heads[2048] == 0 {
+    if !heads.is_whole {
         return last_with_id(nodes, attributes, characters, id, count);
     }
     find_chained(nodes, attributes, characters, heads, id, count)

@@ -5,4 +5,5 @@
 pub mod bucket;
 pub mod chain;
 pub mod find;
+pub mod heads;
 pub mod plain;

@@ -10,12 +10,7 @@ pub fn is_plain(attributes: &[u32], count: u32) -> bool
     requires { 5 * count ≤ length attributes.now }
     ensures { result ≡ true → (j : ℕ) → j < count → get_or attributes.now (5 * j + 1) 0 ≤ 1 }
 {
-    for j in 0..count {
-        if entry_word(attributes, j, word::IMPORTANT) > 1 {
-            return false;
-        }
-    }
-    true
+    (0..count).all(|j| entry_word(attributes, j, word::IMPORTANT) <= 1)
 }
 
 // The first `count` entries have their importance alone.

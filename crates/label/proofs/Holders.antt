@@ -7,7 +7,7 @@ use native.Mathlib.Omega.{arith}
 use lib.Dec.{eqb, leb, ltb}
 use lib.ListN.{length}
 use Rattle.model.specs.Base.{pick}
-use Rattle.model.specs.Drawing.{Element, Source, events, quoted}
+use Rattle.model.specs.Drawing.{Element, Source, quoted}
 use Rattle.model.specs.Tables.{Tree, Out, refused, done, most, parent_of, node_room, text_room, add_text}
 use Rattle.model.specs.Text.{XmlSpace, space_of, trim_text, total_size, joined, append_text}
 use Rattle.model.specs.Theorems.Sim.{Every}
@@ -15,6 +15,8 @@ use Rattle.model.proofs.Theorems.Sim.{texts-quoted}
 use Rattle.model.specs.Theorems.Inside.{LiesElement, LiesText}
 use Rattle.model.specs.Theorems.Kept.{with_attributes}
 use Rattle.model.proofs.Theorems.Kept.{last_within}
+use Rattle.script.specs.Step.{document}
+use Rattle.script.specs.declared.drawing.Drawing.{Drawing}
 use Rattle.walk.specs.declared.node.Opened.{Opened}
 use Rattle.walk.specs.Nodes.{Standing}
 use Rattle.std.specs.Prelude.{Option, Some, None, Result, Ok, Err}
@@ -98,26 +100,26 @@ module _ (chars : List ℕ) (from : List Source) (p : ℕ) (ns ats bs : List ℕ
 
 -- WHAT A TREF LEADS TO
 
-module _ (script chars : List ℕ) (r : Option Opened) (x : Element) (told : texts_of script chars r ≡ quoted (events script chars) x) where
+module _ (drawing : Drawing) (r : Option Opened) (x : Element) (told : texts_of drawing r ≡ quoted (document drawing) x) where
   module _ (l : Opened) (e : r ≡ Some l) where
-    pub found-texts : texts_from script chars l.inside ≡ quoted (events script chars) x
-    found-texts = subst (λ (f : Option Opened). texts_of script chars f ≡ quoted (events script chars) x) e told
+    pub found-texts : texts_from drawing l.inside ≡ quoted (document drawing) x
+    found-texts = subst (λ (f : Option Opened). texts_of drawing f ≡ quoted (document drawing) x) e told
 
-    pub found-quotes : NodeFit script r → Lies chars (events script chars) → Quotable script chars l.inside
+    pub found-quotes : NodeFit drawing r → Lies drawing.characters.now (document drawing) → Quotable drawing l.inside
     found-quotes f h =
-        let s : Standing script l = subst (NodeFit script) e f in
+        let s : Standing drawing l = subst (NodeFit drawing) e f in
         record {
           fit = s.fit;
-          lie = subst (Every (LiesText (length chars))) (sym found-texts)
-              (texts-quoted (LiesElement (length chars)) (LiesText (length chars)) (events script chars) x h);
+          lie = subst (Every (LiesText (length drawing.characters.now))) (sym found-texts)
+              (texts-quoted (LiesElement (length drawing.characters.now)) (LiesText (length drawing.characters.now)) (document drawing) x h);
         }
 
-  pub found_nothing : r ≡ None → (p : ℕ) (t : Tree) → done t ≡ quote_of chars (quoted (events script chars) x) p t
+  pub found_nothing : r ≡ None → (p : ℕ) (t : Tree) → done t ≡ quote_of drawing.characters.now (quoted (document drawing) x) p t
   unfolding total_size
   found_nothing e p t =
-      let z : [] ≡ quoted (events script chars) x =
-      subst (λ (f : Option Opened). texts_of script chars f ≡ quoted (events script chars) x) e told in
-      subst (λ (l : List Source). done t ≡ quote_of chars l p t) z refl
+      let z : [] ≡ quoted (document drawing) x =
+      subst (λ (f : Option Opened). texts_of drawing f ≡ quoted (document drawing) x) e told in
+      subst (λ (l : List Source). done t ≡ quote_of drawing.characters.now l p t) z refl
 
 -- THE PARENT
 

@@ -20,8 +20,8 @@ module _ (chars : List ℕ) (t u : Tree) (n : ℕ)
       (ap (λ k. node_above u (k - 1) j) (parents p l) ∙ h.0, h.1)
 
   -- What is remembered above a node that was there is right still.
-  pub recalled-on : (ws : List ℕ) (p : ℕ) → p < n → (v : Levels) → Recalled chars t ws p v → Recalled chars u ws p v
-  recalled-on ws p l v h = subst (Told ws v) (fun_ext (λ j. sym (same j))) h
+  pub recalled-on : (p : ℕ) → p < n → (v : Levels) → Recalled chars t p v → Recalled chars u p v
+  recalled-on p l v h = subst (Told v) (fun_ext (λ j. sym (same j))) h
     where
       same : (j : ℕ) → space_above chars u p j ≡ space_above chars t p j
       same j =
@@ -29,8 +29,8 @@ module _ (chars : List ℕ) (t u : Tree) (n : ℕ)
           ap (space_of chars u) a.0 ∙ old-space chars t u n says parents falls (node_above t p j) a.1
 
 -- And so is, above a new node below p, that with the space of p.
-pub recalled-in : (chars : List ℕ) (u : Tree) (ws ws' : List ℕ) (p i : ℕ) (v r : Levels) (s : XmlSpace) → parent_of u i ≡ p + 1 →
-    s ≡ space_of chars u p → Recalled chars u ws p v → Pushed ws v s ws' r → Recalled chars u ws' i r
-recalled-in chars u ws ws' p i v r s new is h push =
+pub recalled-in : (chars : List ℕ) (u : Tree) (p i : ℕ) (v r : Levels) (s : XmlSpace) → parent_of u i ≡ p + 1 →
+    s ≡ space_of chars u p → Recalled chars u p v → Pushed v s r → Recalled chars u i r
+recalled-in chars u p i v r s new is h push =
     let q : p ≡ parent_of u i - 1 = omega (arith, new) in
-    push (space_above chars u i) (is ∙ ap (space_of chars u) q) (subst (λ k. Told ws v (space_above chars u k)) q h)
+    push (space_above chars u i) (is ∙ ap (space_of chars u) q) (subst (λ k. Told v (space_above chars u k)) q h)

@@ -4,6 +4,7 @@ use mathlib.Core.Path.{◌≡◌, sym, subst}
 use mathlib.Core.List.{List, ◌∷◌}
 use Rattle.model.specs.Drawing.{begin}
 use Rattle.model.specs.Tables.{Tree, Out, refused, done}
+use Rattle.script.specs.declared.drawing.Drawing.{Drawing}
 use Rattle.script.specs.declared.cursor.Cursor.{Cursor}
 use Rattle.walk.specs.declared.node.Opened.{Opened}
 use Rattle.walk.specs.Nodes.{element_of, Standing, Further}
@@ -25,9 +26,9 @@ module _ (r : Result Parsed Refusal) (ns ats bs : List ℕ) (o : Out Tree) (h : 
   pub element-none : (j : Refusal) → r ≡ Err j → refused (number_of j) ≡ o
   element-none j e = subst (λ (y : Result Parsed Refusal). parsed_of ns ats bs y ≡ o) e h
 
-pub element-behind : (r : Result Parsed Refusal) (script chars : List ℕ) (from : Cursor) → ParsedFit script chars from r →
-    (x : Parsed) → r ≡ Ok x → SameNodes script chars from x.behind
-element-behind r script chars from h x e = subst (ParsedFit script chars from) e h
+pub element-behind : (r : Result Parsed Refusal) (drawing : Drawing) (from : Cursor) → ParsedFit drawing from r →
+    (x : Parsed) → r ≡ Ok x → SameNodes drawing from x.behind
+element-behind r drawing from h x e = subst (ParsedFit drawing from) e h
 
 module _ (r : Result Counts Refusal) (ns ats bs : List ℕ) (o : Out Tree) (h : out_of ns ats bs r ≡ o) where
   pub append-done : (k : Counts) → r ≡ Ok k → done (tree_of ns ats bs k) ≡ o
@@ -37,9 +38,9 @@ module _ (r : Result Counts Refusal) (ns ats bs : List ℕ) (o : Out Tree) (h : 
   append-none j e = subst (λ (y : Result Counts Refusal). out_of ns ats bs y ≡ o) e h
 
 -- An element opens.
-pub opening : (script chars : List ℕ) (s : State) (x : Opened) →
-    begin (element_of script chars x) ∷ events_at script chars x.inside ≡ events_at script chars s.c → Standing script x →
-    Further script s.c x.inside → Lies chars (events_at script chars s.c) → Opening script chars s x
-opening script chars s x q f g l =
-    let h : Lies chars (begin (element_of script chars x) ∷ events_at script chars x.inside) = subst (Lies chars) (sym q) l in
+pub opening : (drawing : Drawing) (s : State) (x : Opened) →
+    begin (element_of drawing x) ∷ events_at drawing x.inside ≡ events_at drawing s.c → Standing drawing x →
+    Further drawing s.c x.inside → Lies drawing.characters.now (events_at drawing s.c) → Opening drawing s x
+opening drawing s x q f g l =
+    let h : Lies drawing.characters.now (begin (element_of drawing x) ∷ events_at drawing x.inside) = subst (Lies drawing.characters.now) (sym q) l in
     record { standing = f; further = g; events = q; element = h.0; lies = h.1 }

@@ -7,7 +7,7 @@ use native.Mathlib.Omega.{arith}
 use lib.ListN.{length}
 use Rattle.model.specs.EId
 use Rattle.model.specs.Names.{is_element}
-use Rattle.model.specs.Drawing.{Element, Event, events}
+use Rattle.model.specs.Drawing.{Element, Event}
 use Rattle.model.specs.Tables.{Tree, Out, refused, done, then, text_of, set_text, add_element}
 use Rattle.model.specs.Element.{parse_svg_element}
 use Rattle.model.specs.Text.{Trimming, stop, look, cut, run, cut_text, space_of, own_text_nodes, trim_text_nodes}
@@ -16,6 +16,8 @@ use Rattle.model.specs.Theorems.Kept.{Tidy}
 use Rattle.model.specs.Theorems.Reach as R
 use Rattle.model.specs.Theorems.Reach.{IsText}
 use Rattle.model.proofs.Theorems.Reach.{tidy-cut, within-trimming, own-collected}
+use Rattle.script.specs.Step.{document}
+use Rattle.script.specs.declared.drawing.Drawing.{Drawing}
 use Rattle.script.specs.declared.cursor.Cursor.{Cursor}
 use Rattle.walk.specs.declared.node.Opened.{Opened}
 use Rattle.walk.specs.Nodes.{element_of, leave}
@@ -66,28 +68,28 @@ tidy-trimmed size chars e t l g =
 
 -- ITS NODE
 
-module _ (script chars ns ats bs : List ℕ) (k : Counts) (p : ℕ) (x : Opened) (b : Beginning script chars (tree_of ns ats bs k) p x)
+module _ (drawing : Drawing) (ns ats bs : List ℕ) (k : Counts) (p : ℕ) (x : Opened) (b : Beginning drawing (tree_of ns ats bs k) p x)
     (ignored : Bool) where
   abbrev t : Tree
   t = tree_of ns ats bs k
 
   abbrev X : Element
-  X = element_of script chars x
+  X = element_of drawing x
 
   abbrev xs : List Event
-  xs = events_at script chars x.inside
+  xs = events_at drawing x.inside
 
   abbrev labelled : Out Tree
-  labelled = label (plain chars) (events script chars) X xs ignored p t
+  labelled = label (plain drawing.characters.now) (document drawing) X xs ignored p t
 
   -- What follows its node.
   abbrev follows : Tree → Out Tree
-  follows r = then (inside_of script chars k.nodes xs k.nodes r) (λ q. done (trim_text_nodes chars k.nodes q))
+  follows r = then (inside_of drawing k.nodes xs k.nodes r) (λ q. done (trim_text_nodes drawing.characters.now k.nodes q))
 
   pub label-ready : Ready ns ats k p
-  label-ready = kept-ready (length chars) ns ats bs k b.inside.tidy.kept (b.inside.few.0, b.inside.few.1) p b.inside.below
+  label-ready = kept-ready (length drawing.characters.now) ns ats bs k b.inside.tidy.kept (b.inside.few.0, b.inside.few.1) p b.inside.below
 
-  pub label-values : InAttributes script chars x.inside × InDeclarations script chars x.inside
+  pub label-values : InAttributes drawing x.inside × InDeclarations drawing x.inside
   label-values = (
     record { fit = b.inside.fit; lie = b.element.0; small = b.inside.small },
     record { fit = b.inside.fit; lie = b.element.1; small = b.inside.small },
@@ -96,33 +98,33 @@ module _ (script chars ns ats bs : List ℕ) (k : Counts) (p : ℕ) (x : Opened)
   pub label-refused : (j : ℕ) → refused j ≡ parse_svg_element X EId.Text ignored p t → refused j ≡ labelled
   label-refused j h = ap (λ (o : Out Tree). then o follows) h
 
-  module _ (ns₁ ats₁ bs₁ : List ℕ) (taken : Counts) (behind : Cursor) (nodes : SameNodes script chars x.inside behind)
+  module _ (ns₁ ats₁ bs₁ : List ℕ) (taken : Counts) (behind : Cursor) (nodes : SameNodes drawing x.inside behind)
       (told : done (tree_of ns₁ ats₁ bs₁ taken) ≡ parse_svg_element X EId.Text ignored p t) where
     is-element : is_element EId.Text ≡ true
     unfolding is_element
     is-element = refl
 
-    grown : Grown (length chars) t (tree_of ns₁ ats₁ bs₁ taken)
+    grown : Grown (length drawing.characters.now) t (tree_of ns₁ ats₁ bs₁ taken)
     grown =
-        element-grown (length chars) t b.inside.tidy EId.Text is-element p b.inside.below ignored X b.element
+        element-grown (length drawing.characters.now) t b.inside.tidy EId.Text is-element p b.inside.below ignored X b.element
         (tree_of ns₁ ats₁ bs₁ taken) told
 
     texts : taken.text ≡ k.text
     unfolding add_element
     texts = ap (λ (v : Tree). v.text_count) (made-element t p EId.Text ignored X (tree_of ns₁ ats₁ bs₁ taken) told).0
 
-    pub label-holds : Holding (length chars) (tree_of ns₁ ats₁ bs₁ taken) k.nodes
+    pub label-holds : Holding (length drawing.characters.now) (tree_of ns₁ ats₁ bs₁ taken) k.nodes
     label-holds = record {
       kept = grown.tidy.kept;
       few = (grown.few.0, omega (arith, texts, b.inside.few.2));
       below = omega (arith, grown.one);
     }
 
-    module _ (sp : XmlSpace) (handed : space_in sp ≡ space_of chars (read_of ns₁ ats₁) k.nodes) where
+    module _ (sp : XmlSpace) (handed : space_in sp ≡ space_of drawing.characters.now (read_of ns₁ ats₁) k.nodes) where
       abbrev first : State
       first = record { c = behind; p = k.nodes; counts = taken; space = sp }
 
-      pub label-within : Within script chars ns₁ ats₁ bs₁ k.nodes first
+      pub label-within : Within drawing ns₁ ats₁ bs₁ k.nodes first
       label-within = record {
         fit = nodes.fit;
         all = b.inside.all;
@@ -135,22 +137,22 @@ module _ (script chars ns ats bs : List ℕ) (k : Counts) (p : ℕ) (x : Opened)
         };
         up = omega arith;
         below = omega (arith, grown.one);
-        space = handed ∙ space-same chars (tree_of ns₁ ats₁ bs₁ taken) k.nodes;
+        space = handed ∙ space-same drawing.characters.now (tree_of ns₁ ats₁ bs₁ taken) k.nodes;
       }
 
-      so_far : then (inside_of script chars k.nodes (events_at script chars behind) k.nodes (tree_of ns₁ ats₁ bs₁ taken))
-          (λ q. done (trim_text_nodes chars k.nodes q)) ≡ labelled
+      so_far : then (inside_of drawing k.nodes (events_at drawing behind) k.nodes (tree_of ns₁ ats₁ bs₁ taken))
+          (λ q. done (trim_text_nodes drawing.characters.now k.nodes q)) ≡ labelled
       so_far =
-          ap (λ ys. then (inside_of script chars k.nodes ys k.nodes (tree_of ns₁ ats₁ bs₁ taken))
-          (λ q. done (trim_text_nodes chars k.nodes q))) nodes.events
+          ap (λ ys. then (inside_of drawing k.nodes ys k.nodes (tree_of ns₁ ats₁ bs₁ taken))
+          (λ q. done (trim_text_nodes drawing.characters.now k.nodes q))) nodes.events
           ∙ ap (λ (o : Out Tree). then o follows) told
 
-      pub inside-refused : (j : ℕ) → refused j ≡ whole script chars k.nodes ns₁ ats₁ bs₁ first ns₁ ats₁ bs₁ → refused j ≡ labelled
-      inside-refused j h = ap (λ (o : Out Tree). then o (λ q. done (trim_text_nodes chars k.nodes q))) h ∙ so_far
+      pub inside-refused : (j : ℕ) → refused j ≡ whole drawing k.nodes ns₁ ats₁ bs₁ first ns₁ ats₁ bs₁ → refused j ≡ labelled
+      inside-refused j h = ap (λ (o : Out Tree). then o (λ q. done (trim_text_nodes drawing.characters.now k.nodes q))) h ∙ so_far
 
       module _ (ns₂ ats₂ bs₂ : List ℕ) where
-        module _ (last : Counts) (c : Cursor) (ends : Ends script chars k.nodes ns₁ ats₁ bs₁ first ns₂ ats₂ bs₂ last c) where
-          pub label-trims : Trimmable chars (tree_of ns₂ ats₂ bs₂ last) k.nodes
+        module _ (last : Counts) (c : Cursor) (ends : Ends drawing k.nodes ns₁ ats₁ bs₁ first ns₂ ats₂ bs₂ last c) where
+          pub label-trims : Trimmable drawing.characters.now (tree_of ns₂ ats₂ bs₂ last) k.nodes
           label-trims = record {
             kept = ends.sound.tidy.kept;
             small = ends.sound.few.0;
@@ -159,29 +161,29 @@ module _ (script chars ns ats bs : List ℕ) (k : Counts) (p : ℕ) (x : Opened)
           }
 
           module _ (ns₃ bs₃ : List ℕ)
-              (trimmed : tree_of ns₃ ats₂ bs₃ last ≡ trim_text_nodes chars k.nodes (tree_of ns₂ ats₂ bs₂ last)) where
+              (trimmed : tree_of ns₃ ats₂ bs₃ last ≡ trim_text_nodes drawing.characters.now k.nodes (tree_of ns₂ ats₂ bs₂ last)) where
             pub label-done : done (tree_of ns₃ ats₂ bs₃ last) ≡ labelled
             label-done =
                 ap (λ (r : Tree). done r) trimmed
-                ∙ ap (λ (o : Out Tree). then o (λ q. done (trim_text_nodes chars k.nodes q))) ends.same
+                ∙ ap (λ (o : Out Tree). then o (λ q. done (trim_text_nodes drawing.characters.now k.nodes q))) ends.same
                 ∙ so_far
 
-            pub label-leaves : Closed script chars x.inside k.nodes (tree_of ns₃ ats₂ bs₃ last) c
+            pub label-leaves : Closed drawing x.inside k.nodes (tree_of ns₃ ats₂ bs₃ last) c
             label-leaves = record {
               fit = ends.fit;
               later = omega (arith, nodes.later, ends.later);
               behind = ends.behind (leave 0 xs) (record { deep = 0; up = refl; left = ap (leave 0) nodes.events });
-              tidy = rw trimmed (tidy-trimmed (length chars) chars k.nodes (tree_of ns₂ ats₂ bs₂ last) ends.below
+              tidy = rw trimmed (tidy-trimmed (length drawing.characters.now) drawing.characters.now k.nodes (tree_of ns₂ ats₂ bs₂ last) ends.below
                   ends.sound.tidy);
               few = ends.sound.few;
               more = omega (arith, ends.below);
             }
 
 -- What the walk inside comes to.
-module _ (script chars : List ℕ) (e : ℕ) (ns ats bs : List ℕ) (s : State) (ns' ats' bs' : List ℕ) (r : Result Parsed Refusal)
-    (h : InsideFit script chars e ns ats bs s ns' ats' bs' r) where
-  pub inside-done : (x : Parsed) → r ≡ Ok x → Ends script chars e ns ats bs s ns' ats' bs' x.counts x.behind
-  inside-done x q = subst (InsideFit script chars e ns ats bs s ns' ats' bs') q h
+module _ (drawing : Drawing) (e : ℕ) (ns ats bs : List ℕ) (s : State) (ns' ats' bs' : List ℕ) (r : Result Parsed Refusal)
+    (h : InsideFit drawing e ns ats bs s ns' ats' bs' r) where
+  pub inside-done : (x : Parsed) → r ≡ Ok x → Ends drawing e ns ats bs s ns' ats' bs' x.counts x.behind
+  inside-done x q = subst (InsideFit drawing e ns ats bs s ns' ats' bs') q h
 
-  pub inside-none : (k : Refusal) → r ≡ Err k → refused (number_of k) ≡ whole script chars e ns ats bs s ns' ats' bs'
-  inside-none k q = subst (InsideFit script chars e ns ats bs s ns' ats' bs') q h
+  pub inside-none : (k : Refusal) → r ≡ Err k → refused (number_of k) ≡ whole drawing e ns ats bs s ns' ats' bs'
+  inside-none k q = subst (InsideFit drawing e ns ats bs s ns' ats' bs') q h

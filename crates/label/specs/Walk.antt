@@ -11,8 +11,9 @@ use Rattle.model.specs.Parse.{inside, plain}
 use Rattle.model.specs.Theorems.Sim.{Events}
 use Rattle.model.specs.Theorems.Inside.{LiesElement, LiesText}
 use Rattle.model.specs.Theorems.Kept.{Kept, Tidy}
+use Rattle.script.specs.declared.drawing.Drawing.{Drawing}
 use Rattle.script.specs.declared.cursor.Cursor.{Cursor}
-use Rattle.script.specs.Step.{Fit}
+use Rattle.script.specs.Step.{Fit, document}
 use Rattle.walk.specs.declared.node.Opened.{Opened}
 use Rattle.walk.specs.Nodes.{element_of, leave, Standing, Further}
 use Rattle.walk.specs.Values.{events_at}
@@ -51,15 +52,15 @@ pub record Sound (size e : ℕ) (t : Tree) : Type 0 where
   pub under : (i : ℕ) → e < i → i < t.node_count → e + 1 ≤ word t.nodes i 1
 
 -- Inside the text element e.
-pub record Within (script chars ns ats bs : List ℕ) (e : ℕ) (s : State) : Type 0 where
-  pub fit : Fit script s.c
-  pub all : Lies chars (events script chars)
-  pub lies : Lies chars (events_at script chars s.c)
-  pub small : length chars ≤ most_bytes
-  pub sound : Sound (length chars) e (tree_of ns ats bs s.counts)
+pub record Within (drawing : Drawing) (ns ats bs : List ℕ) (e : ℕ) (s : State) : Type 0 where
+  pub fit : Fit drawing s.c
+  pub all : Lies drawing.characters.now (document drawing)
+  pub lies : Lies drawing.characters.now (events_at drawing s.c)
+  pub small : length drawing.characters.now ≤ most_bytes
+  pub sound : Sound (length drawing.characters.now) e (tree_of ns ats bs s.counts)
   pub up : e ≤ s.p
   pub below : s.p < s.counts.nodes
-  pub space : space_in s.space ≡ space_of chars (tree_of ns ats bs s.counts) s.p
+  pub space : space_in s.space ≡ space_of drawing.characters.now (tree_of ns ats bs s.counts) s.p
 
 -- The way up from p to e has d steps.
 abbrev pub Up : List ℕ → ℕ → ℕ → ℕ → Type 0
@@ -73,50 +74,50 @@ pub record Way (ns : List ℕ) (e p : ℕ) (xs rest : List Event) : Type 0 where
   pub left : leave deep xs ≡ rest
 
 -- What the model makes of the nodes xs inside e, where p is open.
-abbrev pub inside_of : List ℕ → List ℕ → ℕ → List Event → ℕ → Tree → Out Tree
-inside_of script chars e xs p t = inside (plain chars) (events script chars) e xs 0 p t
+abbrev pub inside_of : Drawing → ℕ → List Event → ℕ → Tree → Out Tree
+inside_of drawing e xs p t = inside (plain drawing.characters.now) (document drawing) e xs 0 p t
 
 -- A TURN
 
 -- An element x that opens at the place of the state.
-pub record Opening (script chars : List ℕ) (s : State) (x : Opened) : Type 0 where
-  pub standing : Standing script x
-  pub further : Further script s.c x.inside
-  pub events : begin (element_of script chars x) ∷ events_at script chars x.inside ≡ events_at script chars s.c
-  pub element : LiesElement (length chars) (element_of script chars x)
-  pub lies : Lies chars (events_at script chars x.inside)
+pub record Opening (drawing : Drawing) (s : State) (x : Opened) : Type 0 where
+  pub standing : Standing drawing x
+  pub further : Further drawing s.c x.inside
+  pub events : begin (element_of drawing x) ∷ events_at drawing x.inside ≡ events_at drawing s.c
+  pub element : LiesElement (length drawing.characters.now) (element_of drawing x)
+  pub lies : Lies drawing.characters.now (events_at drawing x.inside)
 
-module _ (script chars : List ℕ) (e : ℕ) (ns ats bs : List ℕ) (s : State) (ns' ats' bs' : List ℕ) where
+module _ (drawing : Drawing) (e : ℕ) (ns ats bs : List ℕ) (s : State) (ns' ats' bs' : List ℕ) where
   -- The model's answer from the state on.
   abbrev pub whole : Out Tree
-  whole = inside_of script chars e (events_at script chars s.c) s.p (tree_of ns ats bs s.counts)
+  whole = inside_of drawing e (events_at drawing s.c) s.p (tree_of ns ats bs s.counts)
 
   -- The walk goes on from n.
   pub record Goes (n : State) : Type 0 where
-    pub within : Within script chars ns' ats' bs' e n
+    pub within : Within drawing ns' ats' bs' e n
     pub later : s.c.at ≤ n.c.at
-    pub same : inside_of script chars e (events_at script chars n.c) n.p (tree_of ns' ats' bs' n.counts) ≡ whole
-    pub way : (rest : List Event) → Way ns e s.p (events_at script chars s.c) rest →
-        Way ns' e n.p (events_at script chars n.c) rest
+    pub same : inside_of drawing e (events_at drawing n.c) n.p (tree_of ns' ats' bs' n.counts) ≡ whole
+    pub way : (rest : List Event) → Way ns e s.p (events_at drawing s.c) rest →
+        Way ns' e n.p (events_at drawing n.c) rest
 
   -- The walk ends with these counts, and c stands behind the text element.
   pub record Ends (k : Counts) (c : Cursor) : Type 0 where
-    pub fit : Fit script c
-    pub sound : Sound (length chars) e (tree_of ns' ats' bs' k)
+    pub fit : Fit drawing c
+    pub sound : Sound (length drawing.characters.now) e (tree_of ns' ats' bs' k)
     pub below : e < k.nodes
     pub later : s.c.at ≤ c.at
     pub same : done (tree_of ns' ats' bs' k) ≡ whole
-    pub behind : (rest : List Event) → Way ns e s.p (events_at script chars s.c) rest → events_at script chars c ≡ rest
+    pub behind : (rest : List Event) → Way ns e s.p (events_at drawing s.c) rest → events_at drawing c ≡ rest
 
-  -- Where a turn goes on, the words ws have what is remembered.
-  abbrev pub FlowFit : List ℕ → ControlFlow Parsed (State × Levels) → Type 0
-  FlowFit ws (Continue x) = Goes x.0 × (s.c.at < x.0.c.at) × Recalled chars (tree_of ns' ats' bs' x.0.counts) ws x.0.p x.1
-  FlowFit ws (Break x) = Ends x.counts x.behind
+  -- Where a turn goes on, v is what is remembered.
+  abbrev pub FlowFit : Levels → ControlFlow Parsed State → Type 0
+  FlowFit v (Continue x) = Goes x × (s.c.at < x.c.at) × Recalled drawing.characters.now (tree_of ns' ats' bs' x.counts) x.p v
+  FlowFit v (Break x) = Ends x.counts x.behind
 
   -- A turn.
-  abbrev pub TurnFit : List ℕ → Result (ControlFlow Parsed (State × Levels)) Refusal → Type 0
-  TurnFit ws (Ok flow) = FlowFit ws flow
-  TurnFit ws (Err r) = refused (number_of r) ≡ whole
+  abbrev pub TurnFit : Levels → Result (ControlFlow Parsed State) Refusal → Type 0
+  TurnFit v (Ok flow) = FlowFit v flow
+  TurnFit v (Err r) = refused (number_of r) ≡ whole
 
   -- What the whole walk comes to.
   abbrev pub InsideFit : Result Parsed Refusal → Type 0

@@ -1,7 +1,7 @@
 // A text element whole: its own node, its inside, and the spaces of its texts.
 ghost use Rattle.std.specs.Prelude.{◌≡◌};
-ghost use Rattle.model.specs.Drawing.{events};
 ghost use Rattle.model.specs.Parse.{label, plain};
+ghost use Rattle.script.specs.Step.{document};
 ghost use Rattle.walk.specs.Nodes.{element_of};
 ghost use Rattle.walk.specs.Values.{events_at};
 ghost use Rattle.memo.specs.Table.{Memo};
@@ -15,6 +15,7 @@ use element::Parsed;
 use element::parse::parse_svg_element;
 use names::eid;
 use refusal::Refusal;
+use script::drawing::Drawing;
 use text::space::space_of;
 use tree::Counts;
 use trimming::nodes::trim_text_nodes;
@@ -22,8 +23,7 @@ use walk::node::Opened;
 
 // `parse_svg_element` of a text element below `parent`, then `parse_svg_text_element`. The answer has the cursor behind it.
 pub fn parse_svg_text_element(
-    script: &[u8],
-    characters: &[u8],
+    drawing: &Drawing,
     slots: &[u16],
     nodes: &mut [u32],
     attributes: &mut [u32],
@@ -33,20 +33,18 @@ pub fn parse_svg_text_element(
     ignored: bool,
     x: Opened,
 ) -> Result<Parsed, Refusal>
-    requires beginning { Beginning script.now characters.now (tree_of nodes.old attributes.old text.old counts) parent x }
-    requires memo { Memo script.now characters.now slots.now }
+    requires beginning { Beginning drawing.now (tree_of nodes.old attributes.old text.old counts) parent x }
+    requires memo { Memo drawing.now slots.now }
     ensures outcome { parsed_of nodes.new attributes.new text.new result
-        ≡ label (plain characters.now) (events script.now characters.now)
-        (element_of script.now characters.now x)
-        (events_at script.now characters.now x.inside) ignored parent
+        ≡ label (plain drawing.now.characters.now) (document drawing.now)
+        (element_of drawing.now x)
+        (events_at drawing.now x.inside) ignored parent
         (tree_of nodes.old attributes.old text.old counts) }
-    ensures behind { ClosedFit script.now characters.now x.inside counts.nodes
-        nodes.new attributes.new text.new result }
+    ensures behind { ClosedFit drawing.now x.inside counts.nodes nodes.new attributes.new text.new result }
 {
     let e = counts.nodes;
     let opened = parse_svg_element(
-        script,
-        characters,
+        drawing,
         nodes,
         attributes,
         counts,
@@ -55,14 +53,14 @@ pub fn parse_svg_text_element(
         ignored,
         x,
     )?;
-    let space = space_of(nodes, attributes, characters, e);
+    let space = space_of(nodes, attributes, drawing.characters, e);
     let first = State {
         c: opened.behind,
         p: e,
         counts: opened.counts,
         space,
     };
-    let all = inside(script, characters, slots, nodes, attributes, text, e, first)?;
-    trim_text_nodes(nodes, attributes, text, characters, all.counts, e);
+    let all = inside(drawing, slots, nodes, attributes, text, e, first)?;
+    trim_text_nodes(nodes, attributes, text, drawing.characters, all.counts, e);
     Ok(all)
 }

@@ -1,10 +1,10 @@
 // The inside of a text element (`parse_svg_text_element_impl`), one node after another.
 ghost use Rattle.std.specs.Prelude.{◌≡◌, [], ◌∷◌, ℕ, ◌+◌, ◌≤◌, length};
 ghost use Rattle.model.specs.Check.{most_bytes};
-ghost use Rattle.model.specs.Drawing.{events, quoted, source_at};
+ghost use Rattle.model.specs.Drawing.{quoted, source_at};
 ghost use Rattle.model.specs.Tables.{parent_of};
 ghost use Rattle.model.specs.Text.{append_text, space_of};
-ghost use Rattle.script.specs.Step.{mark_of};
+ghost use Rattle.script.specs.Step.{mark_of, document};
 ghost use Rattle.walk.specs.Nodes.{element_of, Standing};
 ghost use Rattle.memo.specs.Table.{Memo};
 ghost use Rattle.tree.specs.Lent.{tree_of, read_of, out_of, ReadableIn, Climbable};
@@ -20,9 +20,9 @@ use names::{aid, eid};
 use pieces::Levels;
 use pieces::content::{code_of, is_text_content, text_tag_of};
 use pieces::quote::append_quoted;
-use pieces::remember::{nothing, pop, push};
 use refusal::Refusal;
 use script::cursor::Cursor;
+use script::drawing::Drawing;
 use std::ops::ControlFlow;
 use text::append::append_text;
 use text::space::{get_xmlspace, space_of};
@@ -86,8 +86,7 @@ fn add_text(
 
 // The text node of the tref x below p, made from all texts that it quotes; there is none for nothing.
 fn add_quoted(
-    script: &[u8],
-    characters: &[u8],
+    drawing: &Drawing,
     slots: &[u16],
     nodes: &mut [u32],
     attributes: &[u32],
@@ -97,18 +96,18 @@ fn add_quoted(
     x: Opened,
     space: XmlSpace,
 ) -> Result<Counts, Refusal>
-    requires holding { Holding (length characters.now) (tree_of nodes.old attributes.now text.old counts) p }
-    requires space_value { space_in space ≡ space_of characters.now (read_of nodes.old attributes.now) p }
-    requires standing { Standing script.now x }
-    requires lies { Lies characters.now (events script.now characters.now) }
-    requires memo { Memo script.now characters.now slots.now }
+    requires holding { Holding (length drawing.now.characters.now) (tree_of nodes.old attributes.now text.old counts) p }
+    requires space_value { space_in space ≡ space_of drawing.now.characters.now (read_of nodes.old attributes.now) p }
+    requires standing { Standing drawing.now x }
+    requires lies { Lies drawing.now.characters.now (document drawing.now) }
+    requires memo { Memo drawing.now slots.now }
     ensures { out_of nodes.new attributes.now text.new result
-        ≡ quote_of characters.now (quoted (events script.now characters.now)
-        (element_of script.now characters.now x)) p
+        ≡ quote_of drawing.now.characters.now (quoted (document drawing.now)
+        (element_of drawing.now x)) p
         (tree_of nodes.old attributes.now text.old counts) }
 {
-    match quoted(script, characters, slots, x) {
-        Some(l) => append_quoted(script, characters, nodes, text, counts, p, l.inside, space),
+    match quoted(drawing, slots, x) {
+        Some(l) => append_quoted(drawing, nodes, text, counts, p, l.inside, space),
         None => Ok(counts),
     }
 }
@@ -116,35 +115,31 @@ fn add_quoted(
 // An element inside the text element e: its node, and its inside comes next; a tref quotes, and its own inside is passed over. So is an
 // element that is not read here.
 fn begin(
-    script: &[u8],
-    characters: &[u8],
+    drawing: &Drawing,
     slots: &[u16],
     nodes: &mut [u32],
     attributes: &mut [u32],
     text: &mut [u8],
-    words: &mut [u64; 32],
     e: u32,
     s: State,
-    levels: Levels,
+    levels: &mut Levels,
     x: Opened,
-) -> Result<ControlFlow<Parsed, (State, Levels)>, Refusal>
-    requires within { Within script.now characters.now nodes.old attributes.old text.old e s }
-    requires opening { Opening script.now characters.now s x }
-    requires recalled { Recalled characters.now (tree_of nodes.old attributes.old text.old s.counts) words.old s.p levels }
-    requires memo { Memo script.now characters.now slots.now }
-    ensures { TurnFit script.now characters.now e nodes.old attributes.old
-        text.old s nodes.new attributes.new text.new words.new result }
+) -> Result<ControlFlow<Parsed, State>, Refusal>
+    requires within { Within drawing.now nodes.old attributes.old text.old e s }
+    requires opening { Opening drawing.now s x }
+    requires recalled { Recalled drawing.now.characters.now (tree_of nodes.old attributes.old text.old s.counts) s.p levels.old }
+    requires memo { Memo drawing.now slots.now }
+    ensures { TurnFit drawing.now e nodes.old attributes.old text.old s nodes.new attributes.new text.new levels.new result }
 {
     let code = code_of(x.name);
     let counts = s.counts;
     let handed = s.space;
     if !is_text_content(x.name, x.space, s.p == e) {
-        let behind = past_element(script, characters, x.inside);
-        return Ok(ControlFlow::Continue((State { c: behind, ..s }, levels)));
+        let behind = past_element(drawing, x.inside);
+        return Ok(ControlFlow::Continue(State { c: behind, ..s }));
     }
     let opened = parse_svg_element(
-        script,
-        characters,
+        drawing,
         nodes,
         attributes,
         counts,
@@ -154,21 +149,20 @@ fn begin(
         x,
     )?;
     let node = counts.nodes;
-    let space = get_xmlspace(nodes, attributes, characters, node, handed);
+    let space = get_xmlspace(nodes, attributes, drawing.characters, node, handed);
     let is_read = code != eid::TREF;
     if is_read {
-        let more = push(words, levels, handed);
+        levels.push(handed);
         let next = State {
             c: opened.behind,
             p: node,
             counts: opened.counts,
             space,
         };
-        return Ok(ControlFlow::Continue((next, more)));
+        return Ok(ControlFlow::Continue(next));
     }
     let all = add_quoted(
-        script,
-        characters,
+        drawing,
         slots,
         nodes,
         attributes,
@@ -178,45 +172,48 @@ fn begin(
         x,
         space,
     )?;
-    let past = past_element(script, characters, opened.behind);
+    let past = past_element(drawing, opened.behind);
     let next = State {
         c: past,
         counts: all,
         ..s
     };
-    Ok(ControlFlow::Continue((next, levels)))
+    Ok(ControlFlow::Continue(next))
 }
 
 // What stands at the place of the state.
 fn advance(
-    script: &[u8],
-    characters: &[u8],
+    drawing: &Drawing,
     slots: &[u16],
     nodes: &mut [u32],
     attributes: &mut [u32],
     text: &mut [u8],
-    words: &mut [u64; 32],
     e: u32,
     s: State,
-    levels: Levels,
-) -> Result<ControlFlow<Parsed, (State, Levels)>, Refusal>
-    requires within { Within script.now characters.now nodes.old attributes.old text.old e s }
-    requires recalled { Recalled characters.now (tree_of nodes.old attributes.old text.old s.counts) words.old s.p levels }
-    requires memo { Memo script.now characters.now slots.now }
-    ensures { TurnFit script.now characters.now e nodes.old attributes.old
-        text.old s nodes.new attributes.new text.new words.new result }
+    levels: &mut Levels,
+) -> Result<ControlFlow<Parsed, State>, Refusal>
+    requires within { Within drawing.now nodes.old attributes.old text.old e s }
+    requires recalled { Recalled drawing.now.characters.now (tree_of nodes.old attributes.old text.old s.counts) s.p levels.old }
+    requires memo { Memo drawing.now slots.now }
+    ensures { TurnFit drawing.now e nodes.old attributes.old text.old s nodes.new attributes.new text.new levels.new result }
 {
-    match next_item(script, characters, s.c) {
-        Item::Begin(x) => begin(
-            script, characters, slots, nodes, attributes, text, words, e, s, levels, x,
-        ),
+    match next_item(drawing, s.c) {
+        Item::Begin(x) => begin(drawing, slots, nodes, attributes, text, e, s, levels, x),
         Item::Text(own, len, n) => {
             let counts = add_text(
-                nodes, attributes, text, characters, s.counts, s.p, own, len, s.space,
+                nodes,
+                attributes,
+                text,
+                drawing.characters,
+                s.counts,
+                s.p,
+                own,
+                len,
+                s.space,
             )?;
-            Ok(ControlFlow::Continue((State { c: n, counts, ..s }, levels)))
+            Ok(ControlFlow::Continue(State { c: n, counts, ..s }))
         }
-        Item::Other(n) => Ok(ControlFlow::Continue((State { c: n, ..s }, levels))),
+        Item::Other(n) => Ok(ControlFlow::Continue(State { c: n, ..s })),
         Item::Close(n) => {
             if s.p == e {
                 return Ok(ControlFlow::Break(Parsed {
@@ -226,11 +223,19 @@ fn advance(
             }
             let up = node_word(nodes, s.p, word::PARENT) - 1;
             let above = State { c: n, p: up, ..s };
-            match pop(words, levels) {
-                Some((space, less)) => Ok(ControlFlow::Continue((State { space, ..above }, less))),
+            match levels.pop() {
+                Some(space) => Ok(ControlFlow::Continue(State { space, ..above })),
                 None => {
-                    let space = space_above(nodes, attributes, characters, s.p, up, s.space);
-                    Ok(ControlFlow::Continue((State { space, ..above }, nothing())))
+                    let space = space_above(
+                        nodes,
+                        attributes,
+                        drawing.characters,
+                        s.p,
+                        up,
+                        s.space,
+                    );
+                    *levels = Levels::nothing();
+                    Ok(ControlFlow::Continue(State { space, ..above }))
                 }
             }
         }
@@ -243,8 +248,7 @@ fn advance(
 
 // All nodes inside the text element e, from the cursor `from` inside it on. The answer has the cursor behind it.
 pub fn inside(
-    script: &[u8],
-    characters: &[u8],
+    drawing: &Drawing,
     slots: &[u16],
     nodes: &mut [u32],
     attributes: &mut [u32],
@@ -252,23 +256,16 @@ pub fn inside(
     e: u32,
     first: State,
 ) -> Result<Parsed, Refusal>
-    requires within { Within script.now characters.now nodes.old attributes.old text.old e first }
-    requires memo { Memo script.now characters.now slots.now }
-    ensures { InsideFit script.now characters.now e nodes.old attributes.old
-        text.old first nodes.new attributes.new text.new result }
+    requires within { Within drawing.now nodes.old attributes.old text.old e first }
+    requires memo { Memo drawing.now slots.now }
+    ensures { InsideFit drawing.now e nodes.old attributes.old text.old first nodes.new attributes.new text.new result }
 {
-    let mut words = [0u64; 32];
-    let mut levels = nothing();
+    let mut levels = Levels::nothing();
     let mut s = first;
     loop {
-        let turn = advance(
-            script, characters, slots, nodes, attributes, text, &mut words, e, s, levels,
-        )?;
+        let turn = advance(drawing, slots, nodes, attributes, text, e, s, &mut levels)?;
         match turn {
-            ControlFlow::Continue((n, l)) => {
-                s = n;
-                levels = l;
-            }
+            ControlFlow::Continue(next) => s = next,
             ControlFlow::Break(parsed) => return Ok(parsed),
         }
     }

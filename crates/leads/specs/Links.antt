@@ -1,11 +1,11 @@
 -- The links of nodes as the code reads them, and what reading them asks.
 use Rattle.std.specs.Prelude.{◌≡◌, ℕ, ◌+◌, ◌*◌, ◌<◌, List, [], Option, Some, None, IfSome, length}
-use Rattle.model.specs.Check.{check}
-use Rattle.model.specs.Drawing.{Value, events, values_in}
+use Rattle.model.specs.Drawing.{Value, values_in}
 use Rattle.model.specs.Tables.{Tree, ELEMENT, kind_of, to_of, entry_at, value_of}
 use Rattle.model.specs.Theorems.Kept.{KeptEntry}
+use Rattle.script.specs.declared.drawing.Drawing.{Drawing}
 use Rattle.script.specs.declared.cursor.Cursor.{Cursor}
-use Rattle.script.specs.Step.{Fit}
+use Rattle.script.specs.Step.{Fit, Checked, document}
 use Rattle.places.specs.Marks.{Marked}
 use Rattle.tree.specs.Lent.{Readable, Valued}
 use Rattle.places.specs.declared.marks.Marks.{Marks}
@@ -13,14 +13,14 @@ use Rattle.places.specs.declared.marks.Marks.{Marks}
 -- THE DRAWING
 
 -- The values of a drawing.
-abbrev pub values_of : List ℕ → List ℕ → List Value
-values_of script chars = values_in (events script chars)
+abbrev pub values_of : Drawing → List Value
+values_of drawing = values_in (document drawing)
 
 -- A drawing that check takes, marks of its script, and a cursor in it.
-pub record Drawn (script chars : List ℕ) (marks : Marks) (c : Cursor) : Type 0 where
-  pub checked : check script chars ≡ 0
-  pub marked : Marked script marks
-  pub fit : Fit script c
+pub record Drawn (drawing : Drawing) (marks : Marks) (c : Cursor) : Type 0 where
+  pub checked : Checked drawing
+  pub marked : Marked drawing marks
+  pub fit : Fit drawing c
 
 -- IDS
 

@@ -14,6 +14,7 @@ use names::aid;
 use places::marks::Marks;
 use places::seek::behind_value;
 use script::cursor::Cursor;
+use script::drawing::Drawing;
 use walk::value::{next_reading, part_at};
 
 // Do filters lead to an id? And a place in the script from which to look for the next link.
@@ -24,29 +25,21 @@ pub struct Filtered {
 }
 
 // Has a value that begins at start, from behind it, a filter link with the id in entry j?
-fn any_id(
-    script: &[u8],
-    characters: &[u8],
-    attributes: &[u32],
-    from: Cursor,
-    start: usize,
-    j: Option<u32>,
-) -> bool
-    requires fit { Fit script.now from }
+fn any_id(drawing: &Drawing, attributes: &[u32], from: Cursor, start: usize, j: Option<u32>) -> bool
+    requires fit { Fit drawing.now from }
     requires start_le_most_place { start ≤ most_place }
-    requires stands { Stands (length characters.now) (entries_of attributes.now) j }
-    ensures { result ≡ any_reading 4 (id_at characters.now (entries_of attributes.now) j)
-        (readings_in script.now characters.now start from) }
+    requires stands { Stands (length drawing.now.characters.now) (entries_of attributes.now) j }
+    ensures { result ≡ any_reading 4 (id_at drawing.now.characters.now (entries_of attributes.now) j) (readings_in drawing.now start from) }
 {
     let mut c = from;
-    while let Some(x) = next_reading(script, characters, c, start) {
+    while let Some(x) = next_reading(drawing, c, start) {
         let is_filter = x.kind == 4;
         if is_filter
             && is_id(
                 attributes,
-                characters,
+                drawing.characters,
                 j,
-                part_at(characters, x.part.start, x.part.len),
+                part_at(drawing.characters, x.part.start, x.part.len),
             )
         {
             return true;
@@ -57,28 +50,20 @@ fn any_id(
 }
 
 // The same of the value whose command stands at the cursor.
-fn any_id_at(
-    script: &[u8],
-    characters: &[u8],
-    attributes: &[u32],
-    c: Cursor,
-    j: Option<u32>,
-) -> bool
-    requires fit { Fit script.now c }
-    requires stands { Stands (length characters.now) (entries_of attributes.now) j }
-    ensures { result ≡ any_reading 4 (id_at characters.now (entries_of attributes.now) j)
-        (readings_here script.now characters.now c) }
+fn any_id_at(drawing: &Drawing, attributes: &[u32], c: Cursor, j: Option<u32>) -> bool
+    requires fit { Fit drawing.now c }
+    requires stands { Stands (length drawing.now.characters.now) (entries_of attributes.now) j }
+    ensures { result ≡ any_reading 4 (id_at drawing.now.characters.now (entries_of attributes.now) j) (readings_here drawing.now c) }
 {
-    match behind_value(script, characters, c) {
-        Some(behind) => any_id(script, characters, attributes, behind, c.chars, j),
+    match behind_value(drawing, c) {
+        Some(behind) => any_id(drawing, attributes, behind, c.chars, j),
         None => false,
     }
 }
 
 // Does one of the filters of node m lead to the id in entry j? Every filter link is compared.
 pub fn has_filter(
-    script: &[u8],
-    characters: &[u8],
+    drawing: &Drawing,
     marks: &Marks,
     nodes: &[u32],
     attributes: &[u32],
@@ -86,26 +71,17 @@ pub fn has_filter(
     j: Option<u32>,
     hint: Cursor,
 ) -> Filtered
-    requires drawn { Drawn script.now characters.now marks.now hint }
-    requires readable_in { ReadableIn (length characters.now) (read_of nodes.now attributes.now) m }
-    requires stands { Stands (length characters.now) (entries_of attributes.now) j }
-    ensures same { result.back ≡ any_reading 4 (id_at characters.now (entries_of attributes.now) j)
-        (readings_of_attribute characters.now (values_of script.now characters.now)
+    requires drawn { Drawn drawing.now marks.now hint }
+    requires readable_in { ReadableIn (length drawing.now.characters.now) (read_of nodes.now attributes.now) m }
+    requires stands { Stands (length drawing.now.characters.now) (entries_of attributes.now) j }
+    ensures same { result.back ≡ any_reading 4 (id_at drawing.now.characters.now (entries_of attributes.now) j)
+        (readings_of_attribute drawing.now.characters.now (values_of drawing.now)
         (read_of nodes.now attributes.now) AId.Filter m) }
-    ensures fit { Fit script.now result.hint }
+    ensures fit { Fit drawing.now result.hint }
 {
-    let Some(c) = value_place(
-        script,
-        characters,
-        marks,
-        nodes,
-        attributes,
-        m,
-        aid::FILTER,
-        hint,
-    ) else {
+    let Some(c) = value_place(drawing, marks, nodes, attributes, m, aid::FILTER, hint) else {
         return Filtered { back: false, hint };
     };
-    let back = any_id_at(script, characters, attributes, c, j);
+    let back = any_id_at(drawing, attributes, c, j);
     Filtered { back, hint: c }
 }

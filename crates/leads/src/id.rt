@@ -9,8 +9,7 @@ use tree::read::has_value;
 // Is it the id in entry j? Where there is none, the id is empty.
 pub fn is_id(attributes: &[u32], characters: &[u8], j: Option<u32>, value: &[u8]) -> bool
     requires { Stands (length characters.now) (entries_of attributes.now) j }
-    ensures { result
-        ≡ same_bytes value.now (id_at characters.now (entries_of attributes.now) j) }
+    ensures { result ≡ same_bytes value.now (id_at characters.now (entries_of attributes.now) j) }
 {
     match j {
         Some(j) => has_value(attributes, characters, j, value),

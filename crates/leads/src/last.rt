@@ -8,6 +8,7 @@ ghost use Rattle.ids.specs.Chains.{Indexed};
 ghost use Rattle.leads.specs.Links.{Known, KnownIn};
 
 use ids::find::find_id;
+use ids::heads::Heads;
 use names::{aid, is_fixed};
 use tree::read::{attribute_id, has_value};
 use tree::word;
@@ -80,7 +81,7 @@ pub fn last_of(
     nodes: &[u32],
     attributes: &[u32],
     characters: &[u8],
-    heads: &[u32; 2049],
+    heads: &Heads,
     count: u32,
     i: u32,
 ) -> Option<u32>

@@ -10,6 +10,7 @@ ghost use Rattle.leads.specs.Links.{Drawn, values_of};
 use places::marks::{Marks, seek_near};
 use places::seek::reading_at;
 use script::cursor::Cursor;
+use script::drawing::Drawing;
 use tree::read::attribute_of;
 use tree::word;
 use tree::word::entry_word;
@@ -25,8 +26,7 @@ pub struct FoundLink {
 // The place of the command that has the value of attribute a of node i; none where the attribute is absent or has a fixed value. The hint
 // only saves time.
 pub fn value_place(
-    script: &[u8],
-    characters: &[u8],
+    drawing: &Drawing,
     marks: &Marks,
     nodes: &[u32],
     attributes: &[u32],
@@ -34,24 +34,23 @@ pub fn value_place(
     a: u32,
     hint: Cursor,
 ) -> Option<Cursor>
-    requires drawn { Drawn script.now characters.now marks.now hint }
-    requires readable_in { ReadableIn (length characters.now) (read_of nodes.now attributes.now) i }
-    ensures some { IfSome result (λ c. readings_here script.now characters.now c
-        ≡ readings_of_attribute characters.now (values_of script.now characters.now) (read_of nodes.now attributes.now) a i) }
+    requires drawn { Drawn drawing.now marks.now hint }
+    requires readable_in { ReadableIn (length drawing.now.characters.now) (read_of nodes.now attributes.now) i }
+    ensures some { IfSome result (λ c. readings_here drawing.now c
+        ≡ readings_of_attribute drawing.now.characters.now (values_of drawing.now) (read_of nodes.now attributes.now) a i) }
     ensures none { IfNone result
-        (readings_of_attribute characters.now (values_of script.now characters.now) (read_of nodes.now attributes.now) a i ≡ []) }
-    ensures fit { IfSome result (Fit script.now) }
+        (readings_of_attribute drawing.now.characters.now (values_of drawing.now) (read_of nodes.now attributes.now) a i ≡ []) }
+    ensures fit { IfSome result (Fit drawing.now) }
 {
-    let j = attribute_of(nodes, attributes, characters, i, a)?;
+    let j = attribute_of(nodes, attributes, drawing.characters, i, a)?;
     let number = entry_word(attributes, j, word::COMMAND).checked_sub(1)?;
-    let c = seek_near(script, characters, marks, number as usize, hint);
+    let c = seek_near(drawing, marks, number as usize, hint);
     Some(c)
 }
 
 // The link of node i by its attribute a: the first reading of that kind, asked for by the command of its entry. The hint only saves time.
 pub fn link_of(
-    script: &[u8],
-    characters: &[u8],
+    drawing: &Drawing,
     marks: &Marks,
     nodes: &[u32],
     attributes: &[u32],
@@ -60,17 +59,17 @@ pub fn link_of(
     kind: u8,
     hint: Cursor,
 ) -> FoundLink
-    requires drawn { Drawn script.now characters.now marks.now hint }
-    requires readable_in { ReadableIn (length characters.now) (read_of nodes.now attributes.now) i }
-    ensures same { part_of characters.now result.part
-        ≡ link_of characters.now (values_of script.now characters.now) kind
+    requires drawn { Drawn drawing.now marks.now hint }
+    requires readable_in { ReadableIn (length drawing.now.characters.now) (read_of nodes.now attributes.now) i }
+    ensures same { part_of drawing.now.characters.now result.part
+        ≡ link_of drawing.now.characters.now (values_of drawing.now) kind
         (read_of nodes.now attributes.now) a i }
     ensures part { PartFit result.part }
-    ensures fit { Fit script.now result.hint }
+    ensures fit { Fit drawing.now result.hint }
 {
-    let Some(c) = value_place(script, characters, marks, nodes, attributes, i, a, hint) else {
+    let Some(c) = value_place(drawing, marks, nodes, attributes, i, a, hint) else {
         return FoundLink { part: None, hint };
     };
-    let part = reading_at(script, characters, c, kind);
+    let part = reading_at(drawing, c, kind);
     FoundLink { part, hint: c }
 }

@@ -12,8 +12,9 @@ use Rattle.model.specs.AId
 use Rattle.model.specs.Drawing as model
 use Rattle.model.specs.Drawing.{Command, opening, attribute, declaration, reading, closing, broken, Mark, past, Event, begin, close}
 use Rattle.model.specs.Drawing.{events, events_from, element_at, attribute_in, has_id, first_with_id, number_of, linked_by}
+use Rattle.script.specs.declared.drawing.Drawing.{Drawing}
 use Rattle.script.specs.declared.cursor.Cursor.{Cursor}
-use Rattle.script.specs.Step.{Here, commands_at, mark_of, at_start, place_from, place_of}
+use Rattle.script.specs.Step.{Here, commands_at, mark_of, at_start, place_from, place_of, document}
 use Rattle.script.proofs.Commands.{Stands, nothing-there, broken-there, there, what-stands, unbroken}
 use Rattle.walk.specs.declared.node.Opened.{Opened}
 use Rattle.walk.specs.Values.{events_at}
@@ -123,55 +124,55 @@ same_or_not a b n m f g = go (same_bytes a b) refl
     go true e = eq-eqb n m (f e)
     go false e = ne_eqb n m (λ z. absurd (false≢true (sym e ∙ ap (same_bytes a) (sym (g z)) ∙ same-itself a)))
 
-module _ (s chars : List ℕ) (l : List ℕ) (e : model.Element) (ys : List Event) (f : first_with_id l (events s chars) ≡ begin e ∷ ys)
+module _ (drawing : Drawing) (l : List ℕ) (e : model.Element) (ys : List Event) (f : first_with_id l (document drawing) ≡ begin e ∷ ys)
     (z : e.number ≡ 0 → ⊥) where
   -- A link leads to the first element with an id exactly if it names that id.
-  pub leads-by : (k : List ℕ) → eqb (number_of (first_with_id k (events s chars))) e.number ≡ same_bytes k l
+  pub leads-by : (k : List ℕ) → eqb (number_of (first_with_id k (document drawing))) e.number ≡ same_bytes k l
   unfolding events
-  leads-by k = same_or_not k l (number_of (first_with_id k (events s chars))) e.number
-      (λ h. ap (λ i. number_of (first_with_id i (events s chars))) (same-eq k l h) ∙ ap number_of f)
+  leads-by k = same_or_not k l (number_of (first_with_id k (document drawing))) e.number
+      (λ h. ap (λ i. number_of (first_with_id i (document drawing))) (same-eq k l h) ∙ ap number_of f)
       (λ h. one-id e k l
-      (found-has k (events s chars) e ys (unique chars k l _ _ (h ∙ sym (ap number_of f)) (λ y. z (sym h ∙ y)) ∙ f))
-      (found-has l (events s chars) e ys f))
+      (found-has k (document drawing) e ys (unique drawing.characters.now k l _ _ (h ∙ sym (ap number_of f)) (λ y. z (sym h ∙ y)) ∙ f))
+      (found-has l (document drawing) e ys f))
 
 -- THE ELEMENT AT A PLACE
 
 -- The nodes from the own place of an element on.
-pub node-here : (s chars : List ℕ) (e : Opened) → Standing s e → node_at s chars e ≡ events_at s chars e.own
+pub node-here : (drawing : Drawing) (e : Opened) → Standing drawing e → node_at drawing e ≡ events_at drawing e.own
 unfolding events_from element_at
-node-here s chars e w = stepped (events_from chars) w.here
+node-here drawing e w = stepped (events_from drawing.characters.now) w.here
     (λ m. begin (record {
       number = e.own.number + 1;
       code = e.name;
       namespace = e.space;
-      attributes = model.attributes_at chars m (commands_at s e.inside);
-      declarations = model.declarations_at chars m (commands_at s e.inside);
-    }) ∷ events_from chars m (commands_at s e.inside)) refl
+      attributes = model.attributes_at drawing.characters.now m (commands_at drawing e.inside);
+      declarations = model.declarations_at drawing.characters.now m (commands_at drawing e.inside);
+    }) ∷ events_from drawing.characters.now m (commands_at drawing e.inside)) refl
 
-module _ (s chars id : List ℕ) where
-  same-on : (d : Cursor) (x : Command) (m : Cursor) → Here s d x m
-      → first_with_id id (events_from chars (mark_of d) (x ∷ commands_at s m))
-      ≡ first_with_id id (events_from chars (past (mark_of d) x) (commands_at s m))
-      → first_with_id id (events_at s chars d) ≡ first_with_id id (events_at s chars m)
+module _ (drawing : Drawing) (id : List ℕ) where
+  same-on : (d : Cursor) (x : Command) (m : Cursor) → Here drawing d x m
+      → first_with_id id (events_from drawing.characters.now (mark_of d) (x ∷ commands_at drawing m))
+      ≡ first_with_id id (events_from drawing.characters.now (past (mark_of d) x) (commands_at drawing m))
+      → first_with_id id (events_at drawing d) ≡ first_with_id id (events_at drawing m)
   same-on d x m h e =
-      sym (stepped (λ k cs. first_with_id id (events_from chars k cs)) h (λ k. first_with_id id (events_from chars k (commands_at s m))) e)
+      sym (stepped (λ k cs. first_with_id id (events_from drawing.characters.now k cs)) h (λ k. first_with_id id (events_from drawing.characters.now k (commands_at drawing m))) e)
 
   -- Behind a command that opens no element found, the same is found.
-  step-on : (d : Cursor) (x : Command) (m : Cursor) → Here s d x m → (number_of (first_with_id id (events_at s chars d)) ≡ d.number + 1 → ⊥)
-      → first_with_id id (events_at s chars d) ≡ first_with_id id (events_at s chars m)
+  step-on : (d : Cursor) (x : Command) (m : Cursor) → Here drawing d x m → (number_of (first_with_id id (events_at drawing d)) ≡ d.number + 1 → ⊥)
+      → first_with_id id (events_at drawing d) ≡ first_with_id id (events_at drawing m)
   unfolding first_with_id events_from element_at
   step-on d (opening a b) m h n =
-      let p = ap (λ cs. first_with_id id (events_from chars (mark_of d) cs)) h.more in
-      p ∙ go (has_id id (element_at chars (mark_of d) a b (commands_at s m))) (λ z. n (ap number_of p ∙ z))
-      ∙ ap (λ (k : Cursor). first_with_id id (events_from chars (mark_of k) (commands_at s m))) (sym h.next)
+      let p = ap (λ cs. first_with_id id (events_from drawing.characters.now (mark_of d) cs)) h.more in
+      p ∙ go (has_id id (element_at drawing.characters.now (mark_of d) a b (commands_at drawing m))) (λ z. n (ap number_of p ∙ z))
+      ∙ ap (λ (k : Cursor). first_with_id id (events_from drawing.characters.now (mark_of k) (commands_at drawing m))) (sym h.next)
     where
       xs : List Event
-      xs = events_from chars (past (mark_of d) (opening a b)) (commands_at s m)
+      xs = events_from drawing.characters.now (past (mark_of d) (opening a b)) (commands_at drawing m)
 
       go : (t : Bool)
-          → (number_of (pick t (λ u. begin (element_at chars (mark_of d) a b (commands_at s m)) ∷ xs) (λ u. first_with_id id xs))
+          → (number_of (pick t (λ u. begin (element_at drawing.characters.now (mark_of d) a b (commands_at drawing m)) ∷ xs) (λ u. first_with_id id xs))
           ≡ d.number + 1 → ⊥)
-          → pick t (λ u. begin (element_at chars (mark_of d) a b (commands_at s m)) ∷ xs) (λ u. first_with_id id xs) ≡ first_with_id id xs
+          → pick t (λ u. begin (element_at drawing.characters.now (mark_of d) a b (commands_at drawing m)) ∷ xs) (λ u. first_with_id id xs) ≡ first_with_id id xs
       go true q = absurd (q refl)
       go false q = refl
   step-on d (attribute a b l) m h n = same-on d (attribute a b l) m h refl
@@ -182,31 +183,31 @@ module _ (s chars id : List ℕ) where
   step-on d closing m h n = same-on d closing m h refl
   step-on d (broken b) m h n = absurd (false≢true (sym (unbroken (broken b) h)))
 
-  module _ (e : Opened) (w : Standing s e) where
+  module _ (e : Opened) (w : Standing drawing e) where
     -- What is found at the own place of an element, with its number, is the element.
-    at_own : number_of (first_with_id id (node_at s chars e)) ≡ e.own.number + 1 → first_with_id id (node_at s chars e) ≡ node_at s chars e
-    at_own h = go (has_id id (element_of s chars e)) refl
+    at_own : number_of (first_with_id id (node_at drawing e)) ≡ e.own.number + 1 → first_with_id id (node_at drawing e) ≡ node_at drawing e
+    at_own h = go (has_id id (element_of drawing e)) refl
       where
-        go : (t : Bool) → has_id id (element_of s chars e) ≡ t → first_with_id id (node_at s chars e) ≡ node_at s chars e
+        go : (t : Bool) → has_id id (element_of drawing e) ≡ t → first_with_id id (node_at drawing e) ≡ node_at drawing e
         go true p = id-hit id _ _ p
         go false p =
-            let q = id-miss id (events_at s chars e.inside) (element_of s chars e) p in
-            let g = later chars id (mark_of e.inside) (commands_at s e.inside) (λ y. omega (arith, sym (ap number_of q) ∙ h, y)) in
+            let q = id-miss id (events_at drawing e.inside) (element_of drawing e) p in
+            let g = later drawing.characters.now id (mark_of e.inside) (commands_at drawing e.inside) (λ y. omega (arith, sym (ap number_of q) ∙ h, y)) in
             absurd (omega (arith, g, sym (ap number_of q) ∙ h, ap (λ (k : Cursor). k.number) w.here.next))
 
-    own-from : (k : ℕ) (d : Cursor) → place_from k d (commands_at s d) ≡ e.own → e.own.number ≡ d.number + k
-        → number_of (first_with_id id (events_at s chars d)) ≡ e.own.number + 1 → first_with_id id (events_at s chars d) ≡ node_at s chars e
+    own-from : (k : ℕ) (d : Cursor) → place_from k d (commands_at drawing d) ≡ e.own → e.own.number ≡ d.number + k
+        → number_of (first_with_id id (events_at drawing d)) ≡ e.own.number + 1 → first_with_id id (events_at drawing d) ≡ node_at drawing e
     unfolding place_from
     own-from zero d p n h =
-        let q = ap (events_at s chars) p ∙ sym (node-here s chars e w) in
+        let q = ap (events_at drawing) p ∙ sym (node-here drawing e w) in
         ap (first_with_id id) q ∙ at_own (ap (λ xs. number_of (first_with_id id xs)) (sym q) ∙ h)
-    own-from (suc k) d p n h = go (what-stands s d) (λ m. own-from k m)
+    own-from (suc k) d p n h = go (what-stands drawing d) (λ m. own-from k m)
       where
-        go : Stands s d
-            → ((m : Cursor) → place_from k m (commands_at s m) ≡ e.own → e.own.number ≡ m.number + k
-            → number_of (first_with_id id (events_at s chars m)) ≡ e.own.number + 1
-            → first_with_id id (events_at s chars m) ≡ node_at s chars e)
-            → first_with_id id (events_at s chars d) ≡ node_at s chars e
+        go : Stands drawing d
+            → ((m : Cursor) → place_from k m (commands_at drawing m) ≡ e.own → e.own.number ≡ m.number + k
+            → number_of (first_with_id id (events_at drawing m)) ≡ e.own.number + 1
+            → first_with_id id (events_at drawing m) ≡ node_at drawing e)
+            → first_with_id id (events_at drawing d) ≡ node_at drawing e
         go (nothing-there z) ih = absurd (let y : d ≡ e.own = rw z at p in omega (arith, ap (λ (v : Cursor). v.number) y, n))
         go (broken-there b z) ih = absurd (let y : d ≡ e.own = rw z at p in omega (arith, ap (λ (v : Cursor). v.number) y, n))
         go (there x m v) ih =
@@ -215,7 +216,7 @@ module _ (s chars id : List ℕ) where
             (ap number_of (sym q) ∙ h)
 
     -- What is found in the document with the number of an element is the element.
-    pub in_place : number_of (first_with_id id (events s chars)) ≡ e.own.number + 1 → first_with_id id (events s chars) ≡ node_at s chars e
+    pub in_place : number_of (first_with_id id (document drawing)) ≡ e.own.number + 1 → first_with_id id (document drawing) ≡ node_at drawing e
     unfolding events place_of commands_at
     in_place h = own-from e.own.number at_start (sym w.own.placed) (let z : e.own.number ≡ 0 + e.own.number = omega arith in z) h
 
@@ -225,37 +226,37 @@ module _ (s chars id : List ℕ) where
 nowhere : (n : ℕ) → eqb 0 (n + 1) ≡ false
 nowhere n = ne_eqb 0 (n + 1) (λ z. omega (arith, z))
 
-module _ (s chars : List ℕ) (e : Opened) (w : Standing s e) where
+module _ (drawing : Drawing) (e : Opened) (w : Standing drawing e) where
   -- The leading id of the element, from its first unprefixed id.
   abbrev leading : Option model.Value → Option model.Part
   leading o =
-      given o (λ v. pick (eqb (number_of (first_with_id v.part.bytes (events s chars))) (e.own.number + 1)) (λ u. some v.part)
+      given o (λ v. pick (eqb (number_of (first_with_id v.part.bytes (document drawing))) (e.own.number + 1)) (λ u. some v.part)
       (λ u. none)) (λ u. none)
 
-  is_leading : (o : Option model.Value) → attribute_in 0 AId.Id (element_of s chars e).attributes ≡ o
-      → leading o ≡ leading_id (events s chars) (element_of s chars e)
+  is_leading : (o : Option model.Value) → attribute_in 0 AId.Id (element_of drawing e).attributes ≡ o
+      → leading o ≡ leading_id (document drawing) (element_of drawing e)
   unfolding leading_id
   is_leading o a = ap leading (sym a)
 
   -- An element that is led to has the id.
-  led : (k : List ℕ) → number_of (first_with_id k (events s chars)) ≡ e.own.number + 1 → has_id k (element_of s chars e) ≡ true
-  led k h = found-has k (events s chars) (element_of s chars e) _ (in_place s chars k e w h)
+  led : (k : List ℕ) → number_of (first_with_id k (document drawing)) ≡ e.own.number + 1 → has_id k (element_of drawing e) ≡ true
+  led k h = found-has k (document drawing) (element_of drawing e) _ (in_place drawing k e w h)
 
-  with_value : (k : List ℕ) (v : model.Value) → attribute_in 0 AId.Id (element_of s chars e).attributes ≡ some v → (t : Bool)
-      → eqb (number_of (first_with_id v.part.bytes (events s chars))) (e.own.number + 1) ≡ t
-      → eqb (number_of (first_with_id k (events s chars))) (e.own.number + 1)
+  with_value : (k : List ℕ) (v : model.Value) → attribute_in 0 AId.Id (element_of drawing e).attributes ≡ some v → (t : Bool)
+      → eqb (number_of (first_with_id v.part.bytes (document drawing))) (e.own.number + 1) ≡ t
+      → eqb (number_of (first_with_id k (document drawing))) (e.own.number + 1)
       ≡ given (pick t (λ u. some v.part) (λ u. none)) (λ q. same_bytes k q.bytes) (λ u. false)
   unfolding has_id
   with_value k v a true g =
-      leads-by s chars v.part.bytes (element_of s chars e) _ (in_place s chars v.part.bytes e w (eqb-true _ _ g))
+      leads-by drawing v.part.bytes (element_of drawing e) _ (in_place drawing v.part.bytes e w (eqb-true _ _ g))
       (λ y. omega (arith, y)) k
   with_value k v a false g = ne_eqb _ _ (λ h.
       let q : v.part.bytes ≡ k = same-eq _ _
       (sym (ap (λ o. given o (λ (x : model.Value). same_bytes x.part.bytes k) (λ u. false)) a) ∙ led k h) in
-      eqb-false _ _ g (ap (λ i. number_of (first_with_id i (events s chars))) q ∙ h))
+      eqb-false _ _ g (ap (λ i. number_of (first_with_id i (document drawing))) q ∙ h))
 
-  by_value : (k : List ℕ) (o : Option model.Value) → attribute_in 0 AId.Id (element_of s chars e).attributes ≡ o
-      → eqb (number_of (first_with_id k (events s chars))) (e.own.number + 1) ≡ given (leading o) (λ q. same_bytes k q.bytes) (λ u. false)
+  by_value : (k : List ℕ) (o : Option model.Value) → attribute_in 0 AId.Id (element_of drawing e).attributes ≡ o
+      → eqb (number_of (first_with_id k (document drawing))) (e.own.number + 1) ≡ given (leading o) (λ q. same_bytes k q.bytes) (λ u. false)
   unfolding has_id
   by_value k (some v) a = with_value k v a _ refl
   by_value k none a =
@@ -263,16 +264,16 @@ module _ (s chars : List ℕ) (e : Opened) (w : Standing s e) where
 
   -- A link leads to an element exactly if it names the element's leading id.
   pub leads-to-own : (p : Option model.Part)
-      → eqb (number_of (linked_by (events s chars) p)) (e.own.number + 1)
-      ≡ same_parts p (leading_id (events s chars) (element_of s chars e))
+      → eqb (number_of (linked_by (document drawing) p)) (e.own.number + 1)
+      ≡ same_parts p (leading_id (document drawing) (element_of drawing e))
   leads-to-own none = nowhere e.own.number
   leads-to-own (some p) = by_value p.bytes _ refl ∙ ap (same_parts (some p)) (is_leading _ refl)
 
 -- A link leads to the element that another link leads to exactly if both name the same id.
-pub leads-to-linked : (s chars : List ℕ) (l : Opened) (q : Option model.Part) → node_at s chars l ≡ linked_by (events s chars) q
+pub leads-to-linked : (drawing : Drawing) (l : Opened) (q : Option model.Part) → node_at drawing l ≡ linked_by (document drawing) q
     → (p : Option model.Part)
-    → eqb (number_of (linked_by (events s chars) p)) (l.own.number + 1) ≡ same_parts p q
-leads-to-linked s chars l q h none = nowhere l.own.number
-leads-to-linked s chars l none h (some p) = absurd (let z : ◌≡◌ {A = ℕ} 0 1 = cc in omega arith)
-leads-to-linked s chars l (some q) h (some p) = leads-by s chars q.bytes (element_of s chars l) _ (sym h) (λ y. omega (arith, y))
+    → eqb (number_of (linked_by (document drawing) p)) (l.own.number + 1) ≡ same_parts p q
+leads-to-linked drawing l q h none = nowhere l.own.number
+leads-to-linked drawing l none h (some p) = absurd (let z : ◌≡◌ {A = ℕ} 0 1 = cc in omega arith)
+leads-to-linked drawing l (some q) h (some p) = leads-by drawing q.bytes (element_of drawing l) _ (sym h) (λ y. omega (arith, y))
     p.bytes

@@ -1,3 +1,4 @@
 pub mod Leading
 pub mod Linking
 pub mod Using
+pub mod Sets

@@ -1,4 +1,5 @@
 -- What the searches for elements answer, as the model has it.
+use Rattle.script.specs.declared.drawing.Drawing.{Drawing}
 use Rattle.std.specs.Prelude.{ℕ, zero, Bool, false, List, [], Option, Some, None, eqb}
 use Rattle.std.proofs.Math.Option as math
 use Rattle.std.proofs.Math.Option.{none, some}
@@ -9,9 +10,9 @@ use Rattle.walk.specs.declared.node.Opened.{Opened}
 use Rattle.walk.specs.Values.{events_at}
 
 -- The texts inside an element that was looked for, at any depth.
-abbrev pub texts_of : List ℕ → List ℕ → Option Opened → List Source
-texts_of script chars (Some e) = texts_in zero (events_at script chars e.inside)
-texts_of script chars None = []
+abbrev pub texts_of : Drawing → Option Opened → List Source
+texts_of drawing (Some e) = texts_in zero (events_at drawing e.inside)
+texts_of drawing None = []
 
 -- Are both parts there, with the same bytes?
 abbrev pub same_parts : math.Option Part → math.Option Part → Bool

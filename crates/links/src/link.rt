@@ -3,9 +3,9 @@ ghost use Rattle.std.specs.Prelude.{◌≡◌, ◌≤◌, length};
 ghost use Rattle.model.specs.Base.{or_else};
 ghost use Rattle.model.specs.AId;
 ghost use Rattle.model.specs.Check.{most_bytes};
-ghost use Rattle.model.specs.Drawing.{events, attribute_in, iri_of, use_href, tref_href, linked_by};
+ghost use Rattle.model.specs.Drawing.{attribute_in, iri_of, use_href, tref_href, linked_by};
 ghost use Rattle.model.specs.Drawing.{leads_back, uses_in, use_target, quoted};
-ghost use Rattle.script.specs.Step.{Fit};
+ghost use Rattle.script.specs.Step.{Fit, document};
 ghost use Rattle.walk.specs.Values.{attributes_in, events_at, value_in, Readable, part_of, PartFit};
 ghost use Rattle.walk.specs.Nodes.{element_of, node_at, Standing};
 ghost use Rattle.memo.specs.Plain.{node_of, NodeFit};
@@ -13,77 +13,69 @@ ghost use Rattle.memo.specs.Table.{Memo};
 ghost use Rattle.links.specs.Links.{texts_of, same_parts, leading_id};
 
 use super::uses::next_use;
+use memo::link::HREF;
 use memo::plain::first_id;
 use memo::table::find;
-use names::{aid, same};
+use names::same;
 use script::cursor::Cursor;
+use script::drawing::Drawing;
 use walk::node::{Opened, has_tag_name};
 use walk::value::{Part, ValueAt, attribute_in, part_at, reading_of};
 
-// The codes of the names that links ask for.
-const HREF: u8 = aid::HREF as u8;
-
 // The IRI that the host has read in a value.
-fn iri_of(script: &[u8], characters: &[u8], value: Result<ValueAt, Cursor>) -> Option<Part>
-    requires { Readable script.now value }
-    ensures same { part_of characters.now result
-        ≡ iri_of (value_in script.now characters.now value) }
+fn iri_of(drawing: &Drawing, value: Result<ValueAt, Cursor>) -> Option<Part>
+    requires { Readable drawing.now value }
+    ensures same { part_of drawing.now.characters.now result ≡ iri_of (value_in drawing.now value) }
     ensures fit { PartFit result }
 {
     let v = value.ok()?;
-    reading_of(script, characters, v.behind, v.own.chars, 1)
+    reading_of(drawing, v.behind, v.own.chars, 1)
 }
 
 // The IRI of the first href in one namespace; where there is none, of the first in the other.
-fn href_of(script: &[u8], characters: &[u8], inside: Cursor, first: u8, second: u8) -> Option<Part>
-    requires { Fit script.now inside }
-    ensures same { part_of characters.now result
-        ≡ iri_of (or_else (attribute_in first AId.Href (attributes_in script.now characters.now inside))
-        (attribute_in second AId.Href (attributes_in script.now characters.now inside))) }
+fn href_of(drawing: &Drawing, inside: Cursor, first: u8, second: u8) -> Option<Part>
+    requires { Fit drawing.now inside }
+    ensures same { part_of drawing.now.characters.now result
+        ≡ iri_of (or_else (attribute_in first AId.Href (attributes_in drawing.now inside))
+        (attribute_in second AId.Href (attributes_in drawing.now inside))) }
     ensures fit { PartFit result }
 {
-    let value = attribute_in(script, characters, inside, first, HREF).or_else(|_| attribute_in(
-        script, characters, inside, second, HREF,
-    ));
-    iri_of(script, characters, value)
+    // No or_else: of a closure that holds a drawing the check knows no equation.
+    let value = match attribute_in(drawing, inside, first, HREF) {
+        Ok(v) => Ok(v),
+        Err(_) => attribute_in(drawing, inside, second, HREF),
+    };
+    iri_of(drawing, value)
 }
 
 // The link of a use.
-pub fn use_href(script: &[u8], characters: &[u8], e: Opened) -> Option<Part>
-    requires { Standing script.now e }
-    ensures same { part_of characters.now result
-        ≡ use_href (element_of script.now characters.now e) }
+pub fn use_href(drawing: &Drawing, e: Opened) -> Option<Part>
+    requires { Standing drawing.now e }
+    ensures same { part_of drawing.now.characters.now result ≡ use_href (element_of drawing.now e) }
     ensures fit { PartFit result }
 {
-    href_of(script, characters, e.inside, 0, 2)
+    href_of(drawing, e.inside, 0, 2)
 }
 
 // The link of a tref.
-pub fn tref_href(script: &[u8], characters: &[u8], e: Opened) -> Option<Part>
-    requires { Standing script.now e }
-    ensures same { part_of characters.now result
-        ≡ tref_href (element_of script.now characters.now e) }
+pub fn tref_href(drawing: &Drawing, e: Opened) -> Option<Part>
+    requires { Standing drawing.now e }
+    ensures same { part_of drawing.now.characters.now result ≡ tref_href (element_of drawing.now e) }
     ensures fit { PartFit result }
 {
-    href_of(script, characters, e.inside, 2, 0)
+    href_of(drawing, e.inside, 2, 0)
 }
 
 // The element that a link leads to: the first with that id.
-pub fn linked(script: &[u8], characters: &[u8], slots: &[u16], link: Option<Part>) -> Option<Opened>
-    requires script_len_bound { length script.now ≤ most_bytes }
+pub fn linked(drawing: &Drawing, slots: &[u16], link: Option<Part>) -> Option<Opened>
+    requires script_len_bound { length drawing.now.script.now ≤ most_bytes }
     requires part_fit { PartFit link }
-    requires memo { Memo script.now characters.now slots.now }
-    ensures same { node_of script.now characters.now result
-        ≡ linked_by (events script.now characters.now) (part_of characters.now link) }
-    ensures fit { NodeFit script.now result }
+    requires memo { Memo drawing.now slots.now }
+    ensures same { node_of drawing.now result ≡ linked_by (document drawing.now) (part_of drawing.now.characters.now link) }
+    ensures fit { NodeFit drawing.now result }
 {
     let p = link?;
-    find(
-        script,
-        characters,
-        slots,
-        part_at(characters, p.start, p.len),
-    )
+    find(drawing, slots, part_at(drawing.characters, p.start, p.len))
 }
 
 // Are both parts there, with the same bytes?
@@ -103,24 +95,21 @@ fn same_parts(characters: &[u8], a: Option<Part>, b: Option<Part>) -> bool
 }
 
 // The id by which links lead to an element: its first unprefixed one, if it is the first element with it.
-pub fn leading_id(script: &[u8], characters: &[u8], slots: &[u16], e: Opened) -> Option<Part>
-    requires standing { Standing script.now e }
-    requires memo { Memo script.now characters.now slots.now }
-    ensures same { part_of characters.now result
-        ≡ leading_id (events script.now characters.now)
-        (element_of script.now characters.now e) }
+pub fn leading_id(drawing: &Drawing, slots: &[u16], e: Opened) -> Option<Part>
+    requires standing { Standing drawing.now e }
+    requires memo { Memo drawing.now slots.now }
+    ensures same { part_of drawing.now.characters.now result ≡ leading_id (document drawing.now) (element_of drawing.now e) }
     ensures fit { PartFit result }
 {
-    let v = first_id(script, characters, e).ok()?;
+    let v = first_id(drawing, e).ok()?;
     let part = Part {
         start: v.own.chars,
         len: v.len,
     };
     let f = find(
-        script,
-        characters,
+        drawing,
         slots,
-        part_at(characters, part.start, part.len),
+        part_at(drawing.characters, part.start, part.len),
     )?;
     if f.own.number == e.own.number {
         return Some(part);
@@ -129,31 +118,23 @@ pub fn leading_id(script: &[u8], characters: &[u8], slots: &[u16], e: Opened) ->
 }
 
 // Does a use inside the element l, to which the link of the use e leads, lead to e or to l? Links are compared with the ids of these two.
-fn leads_back_by(
-    script: &[u8],
-    characters: &[u8],
-    slots: &[u16],
-    e: Opened,
-    l: Opened,
-    link: Option<Part>,
-) -> bool
-    requires standing { Standing script.now e }
-    requires standing_2 { Standing script.now l }
+fn leads_back_by(drawing: &Drawing, slots: &[u16], e: Opened, l: Opened, link: Option<Part>) -> bool
+    requires standing { Standing drawing.now e }
+    requires standing_2 { Standing drawing.now l }
     requires part_fit { PartFit link }
-    requires l_value { node_at script.now characters.now l
-        ≡ linked_by (events script.now characters.now) (part_of characters.now link) }
-    requires memo { Memo script.now characters.now slots.now }
-    ensures { result ≡ leads_back (events script.now characters.now)
-        (element_of script.now characters.now e).number
-        (element_of script.now characters.now l).number
-        (uses_in 0 (events_at script.now characters.now l.inside)) }
+    requires l_value { node_at drawing.now l ≡ linked_by (document drawing.now) (part_of drawing.now.characters.now link) }
+    requires memo { Memo drawing.now slots.now }
+    ensures { result ≡ leads_back (document drawing.now)
+        (element_of drawing.now e).number
+        (element_of drawing.now l).number
+        (uses_in 0 (events_at drawing.now l.inside)) }
 {
-    let id = leading_id(script, characters, slots, e);
+    let id = leading_id(drawing, slots, e);
     let mut c = l.inside;
     let mut level: usize = 0;
-    while let Some(u) = next_use(script, characters, c, level) {
-        let href = use_href(script, characters, u.element);
-        if same_parts(characters, href, id) || same_parts(characters, href, link) {
+    while let Some(u) = next_use(drawing, c, level) {
+        let href = use_href(drawing, u.element);
+        if same_parts(drawing.characters, href, id) || same_parts(drawing.characters, href, link) {
             return true;
         }
         level = u.open_elements;
@@ -164,45 +145,35 @@ fn leads_back_by(
 
 // The same, where there may be no use inside l: then nothing is looked for.
 pub fn leads_back(
-    script: &[u8],
-    characters: &[u8],
+    drawing: &Drawing,
     slots: &[u16],
     e: Opened,
     l: Opened,
     link: Option<Part>,
 ) -> bool
-    requires standing { Standing script.now e }
-    requires standing_2 { Standing script.now l }
+    requires standing { Standing drawing.now e }
+    requires standing_2 { Standing drawing.now l }
     requires part_fit { PartFit link }
-    requires l_value { node_at script.now characters.now l
-        ≡ linked_by (events script.now characters.now) (part_of characters.now link) }
-    requires memo { Memo script.now characters.now slots.now }
-    ensures { result ≡ leads_back (events script.now characters.now)
-        (element_of script.now characters.now e).number
-        (element_of script.now characters.now l).number
-        (uses_in 0 (events_at script.now characters.now l.inside)) }
+    requires l_value { node_at drawing.now l ≡ linked_by (document drawing.now) (part_of drawing.now.characters.now link) }
+    requires memo { Memo drawing.now slots.now }
+    ensures { result ≡ leads_back (document drawing.now)
+        (element_of drawing.now e).number
+        (element_of drawing.now l).number
+        (uses_in 0 (events_at drawing.now l.inside)) }
 {
-    next_use(script, characters, l.inside, 0).is_some()
-        && leads_back_by(script, characters, slots, e, l, link)
+    next_use(drawing, l.inside, 0).is_some() && leads_back_by(drawing, slots, e, l, link)
 }
 
 // The element that a use, met with that origin, copies; nothing where it copies none.
-pub fn use_target(
-    script: &[u8],
-    characters: &[u8],
-    slots: &[u16],
-    e: Opened,
-    origin: usize,
-) -> Option<Opened>
-    requires standing { Standing script.now e }
-    requires memo { Memo script.now characters.now slots.now }
-    ensures same { node_of script.now characters.now result
-        ≡ use_target (events script.now characters.now)
-        (element_of script.now characters.now e) origin }
-    ensures fit { NodeFit script.now result }
+#[tactic(auto, using(crate::proofs::Sets::use_target_set))]
+pub fn use_target(drawing: &Drawing, slots: &[u16], e: Opened, origin: usize) -> Option<Opened>
+    requires standing { Standing drawing.now e }
+    requires memo { Memo drawing.now slots.now }
+    ensures same { node_of drawing.now result ≡ use_target (document drawing.now) (element_of drawing.now e) origin }
+    ensures fit { NodeFit drawing.now result }
 {
-    let link = use_href(script, characters, e);
-    let l = linked(script, characters, slots, link)?;
+    let link = use_href(drawing, e);
+    let l = linked(drawing, slots, link)?;
     if !has_tag_name(l.name, l.space) {
         return None;
     }
@@ -214,21 +185,20 @@ pub fn use_target(
     if is_origin {
         return None;
     }
-    if leads_back(script, characters, slots, e, l, link) {
+    if leads_back(drawing, slots, e, l, link) {
         return None;
     }
     Some(l)
 }
 
 // The element whose texts a tref quotes; nothing where it quotes none.
-pub fn quoted(script: &[u8], characters: &[u8], slots: &[u16], e: Opened) -> Option<Opened>
-    requires standing { Standing script.now e }
-    requires memo { Memo script.now characters.now slots.now }
-    ensures same { texts_of script.now characters.now result
-        ≡ quoted (events script.now characters.now) (element_of script.now characters.now e) }
-    ensures fit { NodeFit script.now result }
+pub fn quoted(drawing: &Drawing, slots: &[u16], e: Opened) -> Option<Opened>
+    requires standing { Standing drawing.now e }
+    requires memo { Memo drawing.now slots.now }
+    ensures same { texts_of drawing.now result ≡ quoted (document drawing.now) (element_of drawing.now e) }
+    ensures fit { NodeFit drawing.now result }
 {
-    let l = linked(script, characters, slots, tref_href(script, characters, e))?;
+    let l = linked(drawing, slots, tref_href(drawing, e))?;
     if has_tag_name(l.name, l.space) {
         return Some(l);
     }

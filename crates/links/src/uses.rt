@@ -9,6 +9,7 @@ ghost use Rattle.links.specs.Uses.{uses_of, UseFit};
 
 use names::eid;
 use script::cursor::Cursor;
+use script::drawing::Drawing;
 use walk::node::{Item, Opened, next_item, past_others};
 
 // A use in the SVG namespace inside an element, at any depth, and how many elements are open inside it, itself among them.
@@ -29,22 +30,17 @@ fn is_use(name: u8, space: u8) -> bool
 }
 
 // The next use from the cursor on, with that many elements open inside the element that is walked.
-pub fn next_use(
-    script: &[u8],
-    characters: &[u8],
-    from: Cursor,
-    open_elements: usize,
-) -> Option<InnerUse>
-    requires fit_2 { Fit script.now from }
+#[tactic(auto, using(crate::proofs::Sets::next_use_set))]
+pub fn next_use(drawing: &Drawing, from: Cursor, open_elements: usize) -> Option<InnerUse>
+    requires fit_2 { Fit drawing.now from }
     requires open_elements_le_at { open_elements ≤ from.at }
-    ensures same { uses_of script.now characters.now result
-        ≡ uses_in open_elements (events_at script.now characters.now from) }
-    ensures fit { UseFit script.now from result }
+    ensures same { uses_of drawing.now result ≡ uses_in open_elements (events_at drawing.now from) }
+    ensures fit { UseFit drawing.now from result }
 {
     let mut c = from;
     let mut level = open_elements;
     loop {
-        match next_item(script, characters, c) {
+        match next_item(drawing, c) {
             Item::Begin(e) => {
                 level += 1;
                 if is_use(e.name, e.space) {
@@ -56,7 +52,7 @@ pub fn next_use(
                 c = e.inside;
             }
             Item::Text(_, _, n) => c = n,
-            Item::Other(n) => c = past_others(script, characters, n),
+            Item::Other(n) => c = past_others(drawing, n),
             Item::Close(n) => {
                 if level == 0 {
                     return None;

@@ -10,8 +10,9 @@ use lib.Seq.{get_or-set_same}
 use Rattle.model.specs.Base.{pick}
 use Rattle.model.specs.Check.{most_bytes}
 use Rattle.model.specs.Drawing.{Event, begin, events, events_from, element_at, attributes_at, declarations_at, has_id, first_with_id}
+use Rattle.script.specs.declared.drawing.Drawing.{Drawing}
 use Rattle.script.specs.declared.cursor.Cursor.{Cursor}
-use Rattle.script.specs.Step.{Fit, at_start, commands_at}
+use Rattle.script.specs.Step.{Fit, at_start, commands_at, document}
 use Rattle.script.proofs.Commands.{placed_first}
 use Rattle.std.specs.Prelude.{Result, Err}
 use Rattle.walk.specs.declared.node.Opened.{Opened}
@@ -43,80 +44,80 @@ use Rattle.memo.proofs.Knowing.{
 -- THE LAST MARK
 
 -- From mark m on a search meets the element that comes next.
-seeing-next : (s chars slots : List ℕ) (m left : ℕ) (e : Opened) → 0 < left → Follows s chars slots m left (node_at s chars e)
-    → Seeing s chars slots m e
-seeing-next s chars slots m left e z f id q n =
-    subst Some (sym (within-hit id (events_at s chars e.inside) left (element_of s chars e) z q) ∙ f id n) tt
+seeing-next : (drawing : Drawing) (slots : List ℕ) (m left : ℕ) (e : Opened) → 0 < left → Follows drawing slots m left (node_at drawing e)
+    → Seeing drawing slots m e
+seeing-next drawing slots m left e z f id q n =
+    subst Some (sym (within-hit id (events_at drawing e.inside) left (element_of drawing e) z q) ∙ f id n) tt
 
 -- The same marks, and an element less.
-follows-less : (s chars slots slots' : List ℕ) (m left : ℕ) (e : Opened) (n : Cursor) → spacing slots' ≡ spacing slots
-    → mark_in slots' m ≡ mark_in slots m → events_at s chars n ≡ events_at s chars e.inside → 0 < left
-    → Follows s chars slots m left (node_at s chars e) → Follows s chars slots' m (left - 1) (events_at s chars n)
-follows-less s chars slots slots' m left e n p q v z f id h =
+follows-less : (drawing : Drawing) (slots slots' : List ℕ) (m left : ℕ) (e : Opened) (n : Cursor) → spacing slots' ≡ spacing slots
+    → mark_in slots' m ≡ mark_in slots m → events_at drawing n ≡ events_at drawing e.inside → 0 < left
+    → Follows drawing slots m left (node_at drawing e) → Follows drawing slots' m (left - 1) (events_at drawing n)
+follows-less drawing slots slots' m left e n p q v z f id h =
     ap (within (left - 1) id) v
-    ∙ within-less id (events_at s chars e.inside) left (element_of s chars e) z
-    (f id (ap (λ c. within (spacing slots) id (events_at s chars c)) (sym q)
-    ∙ ap (λ k. within k id (events_at s chars (mark_in slots' m))) (sym p) ∙ h))
+    ∙ within-less id (events_at drawing e.inside) left (element_of drawing e) z
+    (f id (ap (λ c. within (spacing slots) id (events_at drawing c)) (sym q)
+    ∙ ap (λ k. within k id (events_at drawing (mark_in slots' m))) (sym p) ∙ h))
 
 -- AN ELEMENT PASSED, NEAR A MARK
 
-module _ (s chars slots : List ℕ) (next left : ℕ) (e : Opened) (h : Filling s chars slots next left (node_at s chars e)) (z : 0 < left)
+module _ (drawing : Drawing) (slots : List ℕ) (next left : ℕ) (e : Opened) (h : Filling drawing slots next left (node_at drawing e)) (z : 0 < left)
   where
     last_set : next - 1 < next
     last_set = omega (arith, h.some z)
 
-    pub ready-near : Standing s e → Ready s chars slots next (next - 1) e
+    pub ready-near : Standing drawing e → Ready drawing slots next (next - 1) e
     ready-near st = record {
       stands = st;
       known = h.known;
       set = λ p. last_set;
-      seeing = λ p. seeing-next s chars slots (next - 1) left e z (h.follows z);
+      seeing = λ p. seeing-next drawing slots (next - 1) left e z (h.follows z);
     }
 
-    pub passed-near : (slots' : List ℕ) (n : Cursor) → Entered s chars slots next e slots' n
-        → Filling s chars slots' next (left - 1) (events_at s chars n)
+    pub passed-near : (slots' : List ℕ) (n : Cursor) → Entered drawing slots next e slots' n
+        → Filling drawing slots' next (left - 1) (events_at drawing n)
     passed-near slots' n w = record {
       long = omega (arith, h.long, w.kept.long);
       few = h.few;
       some = λ l. h.some z;
       known = w.known;
-      follows = λ l. follows-less s chars slots slots' (next - 1) left e n w.kept.spaced
+      follows = λ l. follows-less drawing slots slots' (next - 1) left e n w.kept.spaced
           (w.kept.marks (next - 1) (h.known.marks (next - 1) last_set).low) w.nodes.events z (h.follows z);
     }
 
 -- AN ELEMENT WITHOUT AN ID
 
-pub passed-bare : (s chars slots : List ℕ) (next left : ℕ) (e : Opened) → Filling s chars slots next left (node_at s chars e)
+pub passed-bare : (drawing : Drawing) (slots : List ℕ) (next left : ℕ) (e : Opened) → Filling drawing slots next left (node_at drawing e)
     → (r : Result ValueAt Cursor)
-    → IdIs s chars e r → (n : Cursor) → r ≡ Err n → Filling s chars slots next (left - 1) (events_at s chars n)
-passed-bare s chars slots next left e h r i n t = record {
+    → IdIs drawing e r → (n : Cursor) → r ≡ Err n → Filling drawing slots next (left - 1) (events_at drawing n)
+passed-bare drawing slots next left e h r i n t = record {
   long = h.long;
   few = h.few;
   some = λ l. h.some (omega (arith, l));
-  known = subst (Known s chars slots next) (sym same.events) (known_past s chars slots next e h.known (λ x q f. no x q));
+  known = subst (Known drawing slots next) (sym same.events) (known_past drawing slots next e h.known (λ x q f. no x q));
   follows = λ l. let z : 0 < left = omega (arith, l) in
-      follows-less s chars slots slots (next - 1) left e n refl refl same.events z (h.follows z);
+      follows-less drawing slots slots (next - 1) left e n refl refl same.events z (h.follows z);
 }
   where
-    same : SameNodes s chars e.inside n
-    same = (has-none s chars [] e r i n t).nodes
+    same : SameNodes drawing e.inside n
+    same = (has-none drawing [] e r i n t).nodes
 
-    no : (x : List ℕ) → has_id x (element_of s chars e) ≡ true → ⊥
-    no x q = false≢true (sym (has-none s chars x e r i n t).has-not ∙ q)
+    no : (x : List ℕ) → has_id x (element_of drawing e) ≡ true → ⊥
+    no x q = false≢true (sym (has-none drawing x e r i n t).has-not ∙ q)
 
 -- A TABLE THAT TELLS NOTHING MORE
 
-pub passed-closed : (s chars slots : List ℕ) (next left : ℕ) (xs ys : List Event) → Filling s chars slots next left xs
-    → spacing slots ≡ 0 → Filling s chars slots next 0 ys
-passed-closed s chars slots next left xs ys h e = record {
+pub passed-closed : (drawing : Drawing) (slots : List ℕ) (next left : ℕ) (xs ys : List Event) → Filling drawing slots next left xs
+    → spacing slots ≡ 0 → Filling drawing slots next 0 ys
+passed-closed drawing slots next left xs ys h e = record {
   long = h.long;
   few = h.few;
   some = λ l. absurd (omega (arith, l));
-  known = known-closed s chars slots next xs ys e h.known;
+  known = known-closed drawing slots next xs ys e h.known;
   follows = λ l. absurd (omega (arith, l));
 }
 
-module _ (s chars slots : List ℕ) (next left : ℕ) (xs : List Event) (h : Filling s chars slots next left xs) (slots' : List ℕ)
+module _ (drawing : Drawing) (slots : List ℕ) (next left : ℕ) (xs : List Event) (h : Filling drawing slots next left xs) (slots' : List ℕ)
     (q : slots' ≡ set slots (unit slots) 0) where
   apart : Apart slots (unit slots) 1 slots'
   apart = subst (Apart slots (unit slots) 1) (sym q) (apart-set slots (unit slots) 0)
@@ -135,15 +136,15 @@ module _ (s chars slots : List ℕ) (next left : ℕ) (xs : List Event) (h : Fil
   same-slots : (i : ℕ) → slot_in slots' i ≡ slot_in slots i
   same-slots i = same-slot slots slots' (unit slots) 1 apart i (λ a b. omega (arith, b, some_words))
 
-  pub filling-closed : (ys : List Event) → Filling s chars slots' next 0 ys
+  pub filling-closed : (ys : List Event) → Filling drawing slots' next 0 ys
   filling-closed ys = record {
     long = omega (arith, h.long, apart.long);
     few = h.few;
     some = λ l. absurd (omega (arith, l));
     known = record {
-      marks = λ m l. same-placed s slots slots' m (same-unit slots slots' (unit slots) 1 apart) (same-marks m) (h.known.marks m l);
+      marks = λ m l. same-placed drawing slots slots' m (same-unit slots slots' (unit slots) 1 apart) (same-marks m) (h.known.marks m l);
       used = λ i n. subst (λ w. mark_of w < next) (sym (same-slots i)) (h.known.used i (λ e. n (same-slots i ∙ e)));
-      told = λ id. subst (Told s chars slots' next ys id) (sym (probed-shut s chars slots' id (open-closed slots' (key_of id) closed))) tt;
+      told = λ id. subst (Told drawing slots' next ys id) (sym (probed-shut drawing slots' id (open-closed slots' (key_of id) closed))) tt;
     };
     follows = λ l. absurd (omega (arith, l));
   }
@@ -151,20 +152,20 @@ module _ (s chars slots : List ℕ) (next left : ℕ) (xs : List Event) (h : Fil
 -- A MARK SET
 
 -- The nodes from an element's own place on begin with it.
-pub own-nodes : (s chars : List ℕ) (e : Opened) → Standing s e → node_at s chars e ≡ events_at s chars e.own
+pub own-nodes : (drawing : Drawing) (e : Opened) → Standing drawing e → node_at drawing e ≡ events_at drawing e.own
 unfolding events_from element_at
-own-nodes s chars e w =
-    stepped (events_from chars) w.here
+own-nodes drawing e w =
+    stepped (events_from drawing.characters.now) w.here
     (λ m. begin (record {
       number = e.own.number + 1;
       code = e.name;
       namespace = e.space;
-      attributes = attributes_at chars m (commands_at s e.inside);
-      declarations = declarations_at chars m (commands_at s e.inside);
-    }) ∷ events_from chars m (commands_at s e.inside)) refl
+      attributes = attributes_at drawing.characters.now m (commands_at drawing e.inside);
+      declarations = declarations_at drawing.characters.now m (commands_at drawing e.inside);
+    }) ∷ events_from drawing.characters.now m (commands_at drawing e.inside)) refl
 
-module _ (s chars slots : List ℕ) (next : ℕ) (e : Opened)
-    (h : Filling s chars slots next 0 (node_at s chars e)) (st : Standing s e) (room : RoomFor slots next e.own) (slots' : List ℕ)
+module _ (drawing : Drawing) (slots : List ℕ) (next : ℕ) (e : Opened)
+    (h : Filling drawing slots next 0 (node_at drawing e)) (st : Standing drawing e) (room : RoomFor slots next e.own) (slots' : List ℕ)
     (p : MarkPut slots next e.own slots') where
   put-words : unit slots' ≡ unit slots
   put-words = same-unit slots slots' _ _ p.apart
@@ -184,121 +185,121 @@ module _ (s chars slots : List ℕ) (next : ℕ) (e : Opened)
   put-open : (key : ℕ) → is_open slots' key ≡ is_open slots key
   put-open key = same-open slots slots' _ _ p.apart enough (omega (arith, enough)) key
 
-  here-nodes : events_at s chars (mark_in slots' next) ≡ node_at s chars e
-  here-nodes = ap (events_at s chars) p.here ∙ sym (own-nodes s chars e st)
+  here-nodes : events_at drawing (mark_in slots' next) ≡ node_at drawing e
+  here-nodes = ap (events_at drawing) p.here ∙ sym (own-nodes drawing e st)
 
-  same-search : (id : List ℕ) → probed s chars slots' id ≡ probed s chars slots id
+  same-search : (id : List ℕ) → probed drawing slots' id ≡ probed drawing slots id
   same-search id =
-      ap (λ b. pick b (λ u. probed_from (sees s chars slots' id) (unit slots') (key_of id)) (λ u. table.over)) (put-open (key_of id))
-      ∙ ap (λ n. pick (is_open slots (key_of id)) (λ u. probed_from (sees s chars slots' id) n (key_of id)) (λ u. table.over)) put-words
+      ap (λ b. pick b (λ u. probed_from (sees drawing slots' id) (unit slots') (key_of id)) (λ u. table.over)) (put-open (key_of id))
+      ∙ ap (λ n. pick (is_open slots (key_of id)) (λ u. probed_from (sees drawing slots' id) n (key_of id)) (λ u. table.over)) put-words
       ∙ ap (λ o. pick (is_open slots (key_of id)) (λ u. o) (λ u. table.over))
-      (probing-same (sees s chars slots id) (sees s chars slots' id) (next_slot (unit slots) (step_of (unit slots) (key_of id)))
-      (λ i. same_seen s chars slots slots' id i put-spaced (put-slots i) (λ n. before _ (h.known.used i n))) probes
+      (probing-same (sees drawing slots id) (sees drawing slots' id) (next_slot (unit slots) (step_of (unit slots) (key_of id)))
+      (λ i. same_seen drawing slots slots' id i put-spaced (put-slots i) (λ n. before _ (h.known.used i n))) probes
       (start_of (unit slots) (key_of id)))
 
-  marks' : (m : ℕ) → m < next + 1 → Placed s slots' m
+  marks' : (m : ℕ) → m < next + 1 → Placed drawing slots' m
   marks' m l = go (ℕ_discrete m next)
     where
-      go : Dec (m ≡ next) → Placed s slots' m
-      go (yes q) = subst (Placed s slots') (sym q)
-          (record { low = omega (arith, put-words, room.low); fit = subst (Fit s) (sym p.here) st.own })
+      go : Dec (m ≡ next) → Placed drawing slots' m
+      go (yes q) = subst (Placed drawing slots') (sym q)
+          (record { low = omega (arith, put-words, room.low); fit = subst (Fit drawing) (sym p.here) st.own })
       go (no n) =
-          let k : m < next = omega (arith, l, n) in same-placed s slots slots' m put-words (before m k) (h.known.marks m k)
+          let k : m < next = omega (arith, l, n) in same-placed drawing slots slots' m put-words (before m k) (h.known.marks m k)
 
-  told' : (id : List ℕ) (o : Outcome) → Told s chars slots next (node_at s chars e) id o
-      → Told s chars slots' (next + 1) (node_at s chars e) id o
+  told' : (id : List ℕ) (o : Outcome) → Told drawing slots next (node_at drawing e) id o
+      → Told drawing slots' (next + 1) (node_at drawing e) id o
   told' id (table.found ys) t = t
   told' id table.free t = record { rest = t.rest; marks = λ m l. go m l (ℕ_discrete m next) }
     where
       go : (m : ℕ) → m < next + 1 → Dec (m ≡ next)
-          → first_with_id id (events_at s chars (mark_in slots' m)) ≡ first_with_id id (events s chars)
+          → first_with_id id (events_at drawing (mark_in slots' m)) ≡ first_with_id id (document drawing)
       go m l (yes q) =
-          ap (λ k. first_with_id id (events_at s chars (mark_in slots' k))) q ∙ ap (first_with_id id) here-nodes ∙ t.rest
+          ap (λ k. first_with_id id (events_at drawing (mark_in slots' k))) q ∙ ap (first_with_id id) here-nodes ∙ t.rest
       go m l (no n) =
           let k : m < next = omega (arith, l, n) in
-          ap (λ c. first_with_id id (events_at s chars c)) (before m k) ∙ t.marks m k
+          ap (λ c. first_with_id id (events_at drawing c)) (before m k) ∙ t.marks m k
   told' id table.over t = tt
 
-  put-known : Known s chars slots' (next + 1) (node_at s chars e)
+  put-known : Known drawing slots' (next + 1) (node_at drawing e)
   put-known = record {
     marks = marks';
     used = λ i n. let l : mark_of (slot_in slots i) < next = h.known.used i (λ z. n (put-slots i ∙ z)) in
         subst (λ w. mark_of w < next + 1) (sym (put-slots i)) (omega (arith, l));
-    told = λ id. subst (Told s chars slots' (next + 1) (node_at s chars e) id) (sym (same-search id))
-        (told' id (probed s chars slots id) (h.known.told id));
+    told = λ id. subst (Told drawing slots' (next + 1) (node_at drawing e) id) (sym (same-search id))
+        (told' id (probed drawing slots id) (h.known.told id));
   }
 
   -- From it on a search meets what comes next.
-  follows-new : Follows s chars slots' next (spacing slots') (node_at s chars e)
+  follows-new : Follows drawing slots' next (spacing slots') (node_at drawing e)
   follows-new id q = ap (within (spacing slots') id) (sym here-nodes) ∙ q
 
-  pub ready-new : Ready s chars slots' (next + 1) next e
+  pub ready-new : Ready drawing slots' (next + 1) next e
   ready-new = record {
     stands = st;
     known = put-known;
     set = λ z. omega arith;
-    seeing = λ z. seeing-next s chars slots' next (spacing slots') e z follows-new;
+    seeing = λ z. seeing-next drawing slots' next (spacing slots') e z follows-new;
   }
 
   pub passed-new : (most : ℕ) → most ≡ spacing slots' → 0 < most → (slots'' : List ℕ) (n : Cursor)
-      → Entered s chars slots' (next + 1) e slots'' n → Filling s chars slots'' (next + 1) (most - 1) (events_at s chars n)
+      → Entered drawing slots' (next + 1) e slots'' n → Filling drawing slots'' (next + 1) (most - 1) (events_at drawing n)
   passed-new most q z slots'' n w = record {
     long = omega (arith, h.long, p.apart.long, w.kept.long);
     few = omega (arith, room.few);
     some = λ l. omega arith;
     known = w.known;
     follows = λ l.
-        subst (λ m. Follows s chars slots'' m (most - 1) (events_at s chars n)) (let a : next ≡ next + 1 - 1 = omega arith in a)
-        (subst (λ k. Follows s chars slots'' next (k - 1) (events_at s chars n)) (sym q)
-        (follows-less s chars slots' slots'' next (spacing slots') e n w.kept.spaced
+        subst (λ m. Follows drawing slots'' m (most - 1) (events_at drawing n)) (let a : next ≡ next + 1 - 1 = omega arith in a)
+        (subst (λ k. Follows drawing slots'' next (k - 1) (events_at drawing n)) (sym q)
+        (follows-less drawing slots' slots'' next (spacing slots') e n w.kept.spaced
         (w.kept.marks next (omega (arith, put-words, room.low))) w.nodes.events (omega (arith, q, z)) follows-new));
   }
 
 -- FROM ITEM TO ITEM
 
 -- The walk goes on behind an item that is no element.
-pub filling-past : (s chars slots : List ℕ) (next left : ℕ) (xs ys : List Event) → Filling s chars slots next left xs
+pub filling-past : (drawing : Drawing) (slots : List ℕ) (next left : ℕ) (xs ys : List Event) → Filling drawing slots next left xs
     → ((id : List ℕ) → first_with_id id xs ≡ first_with_id id ys) → ((id : List ℕ) → within left id xs ≡ within left id ys)
-    → Filling s chars slots next left ys
-filling-past s chars slots next left xs ys h f g = record {
+    → Filling drawing slots next left ys
+filling-past drawing slots next left xs ys h f g = record {
   long = h.long;
   few = h.few;
   some = h.some;
-  known = known_on s chars slots next xs ys h.known (λ id o. sym (f id));
+  known = known_on drawing slots next xs ys h.known (λ id o. sym (f id));
   follows = λ z id q. sym (g id) ∙ h.follows z id q;
 }
 
 -- THE BEGINNING
 
-pub known-first : (s chars slots : List ℕ) (xs : List Event) → Blank slots
-    → ((id : List ℕ) → first_with_id id xs ≡ first_with_id id (events s chars))
-    → Known s chars slots 0 xs
-known-first s chars slots xs b f = record {
+pub known-first : (drawing : Drawing) (slots : List ℕ) (xs : List Event) → Blank slots
+    → ((id : List ℕ) → first_with_id id xs ≡ first_with_id id (document drawing))
+    → Known drawing slots 0 xs
+known-first drawing slots xs b f = record {
   marks = λ m l. absurd (omega (arith, l));
   used = λ i n. absurd (n (b.none i));
   told = λ id. told id (is_open slots (key_of id)) refl;
 }
   where
-    by : (id : List ℕ) (o : Outcome) → OnFound (λ ys. ⊥) o → Told s chars slots 0 xs id o
+    by : (id : List ℕ) (o : Outcome) → OnFound (λ ys. ⊥) o → Told drawing slots 0 xs id o
     by id (table.found ys) t = absurd t
     by id table.free t = record { rest = f id; marks = λ m l. absurd (omega (arith, l)) }
     by id table.over t = tt
 
-    told : (id : List ℕ) (o : Bool) → is_open slots (key_of id) ≡ o → Told s chars slots 0 xs id (probed s chars slots id)
+    told : (id : List ℕ) (o : Bool) → is_open slots (key_of id) ≡ o → Told drawing slots 0 xs id (probed drawing slots id)
     told id true o =
-        subst (Told s chars slots 0 xs id) (sym (probed-open s chars slots id o))
-        (by id (probed_from (sees s chars slots id) (unit slots) (key_of id))
-        (found-holds (λ ys. ⊥) (sees s chars slots id) (next_slot (unit slots) (step_of (unit slots) (key_of id)))
-        (λ i. subst (OnThis (λ ys. ⊥)) (sym (seen-empty s chars slots id i (b.none i))) tt) probes (start_of (unit slots) (key_of id))))
-    told id false o = subst (Told s chars slots 0 xs id) (sym (probed-shut s chars slots id o)) tt
+        subst (Told drawing slots 0 xs id) (sym (probed-open drawing slots id o))
+        (by id (probed_from (sees drawing slots id) (unit slots) (key_of id))
+        (found-holds (λ ys. ⊥) (sees drawing slots id) (next_slot (unit slots) (step_of (unit slots) (key_of id)))
+        (λ i. subst (OnThis (λ ys. ⊥)) (sym (seen-empty drawing slots id i (b.none i))) tt) probes (start_of (unit slots) (key_of id))))
+    told id false o = subst (Told drawing slots 0 xs id) (sym (probed-shut drawing slots id o)) tt
 
-pub filling-first : (s chars slots : List ℕ) (c : Cursor) → Blank slots → c ≡ at_start → Filling s chars slots 0 0 (events_at s chars c)
+pub filling-first : (drawing : Drawing) (slots : List ℕ) (c : Cursor) → Blank slots → c ≡ at_start → Filling drawing slots 0 0 (events_at drawing c)
 unfolding events commands_at
-filling-first s chars slots c b e = record {
+filling-first drawing slots c b e = record {
   long = b.long;
   few = omega arith;
   some = λ l. l;
-  known = subst (λ d. Known s chars slots 0 (events_at s chars d)) (sym e) (known-first s chars slots (events s chars) b (λ id. refl));
+  known = subst (λ d. Known drawing slots 0 (events_at drawing d)) (sym e) (known-first drawing slots (document drawing) b (λ id. refl));
   follows = λ l. absurd (omega (arith, l));
 }
 
@@ -314,14 +315,14 @@ zeros (suc n) zero = refl
 zeros (suc n) (suc i) = zeros n i
 
 -- The table that tells nothing, whatever its length.
-pub memo-none : (s chars slots : List ℕ) → slots ≡ replicate (length slots) 0 → Memo s chars slots
-memo-none s chars slots z = record {
+pub memo-none : (drawing : Drawing) (slots : List ℕ) → slots ≡ replicate (length slots) 0 → Memo drawing slots
+memo-none drawing slots z = record {
   next = 0;
   known = record {
     marks = λ m l. absurd (omega (arith, l));
     used = λ i n. absurd (n (word (4 * unit slots + i)));
-    told = λ id. subst (Told s chars slots 0 [] id)
-        (sym (probed-shut s chars slots id (open-closed slots (key_of id) (word (unit slots))))) tt;
+    told = λ id. subst (Told drawing slots 0 [] id)
+        (sym (probed-shut drawing slots id (open-closed slots (key_of id) (word (unit slots))))) tt;
   };
 }
   where
@@ -353,15 +354,15 @@ wanted-on s t u a b =
     apart-join s t u 0 (unit s) 0 (unit s) 0 (unit s) a (subst (λ n. Apart t 0 n u) (same-unit s t 0 (unit s) a) b) (omega arith)
     (omega arith) (omega arith) (omega arith)
 
-pub nodes-inside : (s chars : List ℕ) (e : Opened) → Standing s e → SameNodes s chars e.inside e.inside
-nodes-inside s chars e w = record { fit = w.fit; later = omega arith; events = refl }
+pub nodes-inside : (drawing : Drawing) (e : Opened) → Standing drawing e → SameNodes drawing e.inside e.inside
+nodes-inside drawing e w = record { fit = w.fit; later = omega arith; events = refl }
 
 pub set_long : (slots slots' : List ℕ) → slots' ≡ set slots (unit slots) 0 → length slots' ≡ length slots
 set_long slots slots' e = ap length e ∙ length-set slots (unit slots) 0
 
-pub at_left : (s chars slots : List ℕ) (next left : ℕ) (xs : List Event) → Filling s chars slots next left xs → left ≤ 0
-    → Filling s chars slots next 0 xs
-at_left s chars slots next left xs h l = subst (λ n. Filling s chars slots next n xs) (let z : left ≡ 0 = omega (arith, l) in z) h
+pub at_left : (drawing : Drawing) (slots : List ℕ) (next left : ℕ) (xs : List Event) → Filling drawing slots next left xs → left ≤ 0
+    → Filling drawing slots next 0 xs
+at_left drawing slots next left xs h l = subst (λ n. Filling drawing slots next n xs) (let z : left ≡ 0 = omega (arith, l) in z) h
 
 -- The spacing of the marks is not 0, and a mark leaves it.
 pub spaced-still : (slots slots' : List ℕ) (m : ℕ) (c : Cursor) → MarkPut slots m c slots' → (spacing slots ≡ 0 → ⊥) → 0 < spacing slots'
@@ -370,17 +371,17 @@ spaced-still slots slots' m c p n =
 
 -- FROM ITEM TO ITEM, AS THE CODE HAS IT
 
-pub start-fit : (s : List ℕ) (c : Cursor) → length s ≤ most_bytes → c ≡ at_start → Fit s c
-start-fit s c l e = subst (Fit s) (sym e) (placed_first s at_start refl l)
+pub start-fit : (drawing : Drawing) (c : Cursor) → length drawing.script.now ≤ most_bytes → c ≡ at_start → Fit drawing c
+start-fit drawing c l e = subst (Fit drawing) (sym e) (placed_first drawing at_start refl l)
 
-pub filling-at : (s chars slots : List ℕ) (next left : ℕ) (xs ys : List Event) → xs ≡ ys → Filling s chars slots next left ys
-    → Filling s chars slots next left xs
-filling-at s chars slots next left xs ys e h = subst (Filling s chars slots next left) (sym e) h
+pub filling-at : (drawing : Drawing) (slots : List ℕ) (next left : ℕ) (xs ys : List Event) → xs ≡ ys → Filling drawing slots next left ys
+    → Filling drawing slots next left xs
+filling-at drawing slots next left xs ys e h = subst (Filling drawing slots next left) (sym e) h
 
-pub bare-nodes : (s chars : List ℕ) (e : Opened) (r : Result ValueAt Cursor) → IdIs s chars e r → (n : Cursor) → r ≡ Err n
-    → SameNodes s chars e.inside n
-bare-nodes s chars e r i n t = (has-none s chars [] e r i n t).nodes
+pub bare-nodes : (drawing : Drawing) (e : Opened) (r : Result ValueAt Cursor) → IdIs drawing e r → (n : Cursor) → r ≡ Err n
+    → SameNodes drawing e.inside n
+bare-nodes drawing e r i n t = (has-none drawing [] e r i n t).nodes
 
-pub at_less : (s chars slots : List ℕ) (next left n : ℕ) (xs : List Event) → n ≡ left → Filling s chars slots next left xs
-    → Filling s chars slots next n xs
-at_less s chars slots next left n xs e h = subst (λ m. Filling s chars slots next m xs) (sym e) h
+pub at_less : (drawing : Drawing) (slots : List ℕ) (next left n : ℕ) (xs : List Event) → n ≡ left → Filling drawing slots next left xs
+    → Filling drawing slots next n xs
+at_less drawing slots next left n xs e h = subst (λ m. Filling drawing slots next m xs) (sym e) h

@@ -9,6 +9,7 @@ use Rattle.model.specs.Base.{given, same_bytes}
 use Rattle.model.specs.AId
 use Rattle.model.specs.Drawing as model
 use Rattle.model.specs.Drawing.{Event, begin, close, attribute_in, value_at, has_id, first_with_id}
+use Rattle.script.specs.declared.drawing.Drawing.{Drawing}
 use Rattle.script.specs.declared.cursor.Cursor.{Cursor}
 use Rattle.walk.specs.declared.node.Opened.{Opened}
 use Rattle.walk.specs.declared.node.Item.{Item}
@@ -24,38 +25,38 @@ use Rattle.walk.proofs.Along.{Along, at_item, over}
 -- AN ELEMENT'S ID
 
 -- What attribute_in ensures of the unprefixed id.
-abbrev pub IdIs : List ℕ → List ℕ → Opened → Result ValueAt Cursor → Type 0
-IdIs s chars e r = (value_in s chars r ≡ attribute_in 0 AId.Id (attributes_in s chars e.inside)) × ValueFit s chars e.inside r
+abbrev pub IdIs : Drawing → Opened → Result ValueAt Cursor → Type 0
+IdIs drawing e r = (value_in drawing r ≡ attribute_in 0 AId.Id (attributes_in drawing e.inside)) × ValueFit drawing e.inside r
 
-id-told : (s chars : List ℕ) (e : Opened) (r x : Result ValueAt Cursor) → r ≡ x → IdIs s chars e r → IdIs s chars e x
-id-told s chars e r x t h = subst (IdIs s chars e) t h
+id-told : (drawing : Drawing) (e : Opened) (r x : Result ValueAt Cursor) → r ≡ x → IdIs drawing e r → IdIs drawing e x
+id-told drawing e r x t h = subst (IdIs drawing e) t h
 
-module _ (s chars id : List ℕ) (e : Opened) (r : Result ValueAt Cursor) (h : IdIs s chars e r) where
-  module _ (v : ValueAt) (t : r ≡ Ok v) (p : List ℕ) (g : p ≡ slice v.own.chars (v.own.chars + v.len) chars) (q : Bool)
+module _ (drawing : Drawing) (id : List ℕ) (e : Opened) (r : Result ValueAt Cursor) (h : IdIs drawing e r) where
+  module _ (v : ValueAt) (t : r ≡ Ok v) (p : List ℕ) (g : p ≡ slice v.own.chars (v.own.chars + v.len) drawing.characters.now) (q : Bool)
       (k : q ≡ same_bytes p id) where
-    pub compared : q ≡ has_id id (element_of s chars e)
+    pub compared : q ≡ has_id id (element_of drawing e)
     unfolding has_id value_at model.part_at
     compared =
         k ∙ ap (λ b. same_bytes b id) g
-        ∙ ap (λ w. given w (λ y. same_bytes y.part.bytes id) (λ u. false)) (id-told s chars e r (Ok v) t h).0
+        ∙ ap (λ w. given w (λ y. same_bytes y.part.bytes id) (λ u. false)) (id-told drawing e r (Ok v) t h).0
 
-    pub has : q ≡ true → Tested s chars id e (Ok tt)
+    pub has : q ≡ true → Tested drawing id e (Ok tt)
     has z = sym compared ∙ z
 
-    pub has-not : q ≡ false → Tested s chars id e (Err v.behind)
-    has-not z = record { has-not = sym compared ∙ z; nodes = (id-told s chars e r (Ok v) t h).1.rest.nodes }
+    pub has-not : q ≡ false → Tested drawing id e (Err v.behind)
+    has-not z = record { has-not = sym compared ∙ z; nodes = (id-told drawing e r (Ok v) t h).1.rest.nodes }
 
-  pub has-none : (n : Cursor) → r ≡ Err n → Tested s chars id e (Err n)
+  pub has-none : (n : Cursor) → r ≡ Err n → Tested drawing id e (Err n)
   unfolding has_id
   has-none n t = record {
     has-not = sym (ap (λ w. given w (λ (y : model.Value). same_bytes y.part.bytes id) (λ u. false))
-        (id-told s chars e r (Err n) t h).0);
-    nodes = (id-told s chars e r (Err n) t h).1.rest.nodes;
+        (id-told drawing e r (Err n) t h).0);
+    nodes = (id-told drawing e r (Err n) t h).1.rest.nodes;
   }
 
-pub value-fit : (s chars : List ℕ) (from : Cursor) (r : Result ValueAt Cursor) (v : ValueAt) → r ≡ Ok v → ValueFit s chars from r
-    → Attributed s chars from v
-value-fit s chars from r v t f = subst (ValueFit s chars from) t f
+pub value-fit : (drawing : Drawing) (from : Cursor) (r : Result ValueAt Cursor) (v : ValueAt) → r ≡ Ok v → ValueFit drawing from r
+    → Attributed drawing from v
+value-fit drawing from r v t f = subst (ValueFit drawing from) t f
 
 -- THE FIRST ID
 
@@ -63,8 +64,8 @@ value-fit s chars from r v t f = subst (ValueFit s chars from) t f
 abbrev pub first_id : List ℕ → ℕ → List Event → List Event
 first_id id k xs = first_with_id id xs
 
-pub tested : (s chars id : List ℕ) (e : Opened) (r x : Result (Unit {0}) Cursor) → r ≡ x → Tested s chars id e r → Tested s chars id e x
-tested s chars id e r x t h = subst (Tested s chars id e) t h
+pub tested : (drawing : Drawing) (id : List ℕ) (e : Opened) (r x : Result (Unit {0}) Cursor) → r ≡ x → Tested drawing id e r → Tested drawing id e x
+tested drawing id e r x t h = subst (Tested drawing id e) t h
 
 module _ (id : List ℕ) (xs : List Event) where
   pub id-miss : (e : model.Element) → has_id id e ≡ false → first_with_id id (begin e ∷ xs) ≡ first_with_id id xs
@@ -91,24 +92,24 @@ pub id-none : (id : List ℕ) → first_with_id id [] ≡ []
 unfolding first_with_id
 id-none id = refl
 
-module _ (id : List ℕ) (v : List Event) (s chars : List ℕ) (from c : Cursor) (w : Along (first_id id) v s chars from c 0)
-    (r : Item) (e : Opened) (t : r ≡ item.Begin e) (i : ItemIs s chars c r) where
+module _ (id : List ℕ) (v : List Event) (drawing : Drawing) (from c : Cursor) (w : Along (first_id id) v drawing from c 0)
+    (r : Item) (e : Opened) (t : r ≡ item.Begin e) (i : ItemIs drawing c r) where
   -- The element has the id.
-  pub found-id : has_id id (element_of s chars e) ≡ true → node_at s chars e ≡ v
-  found-id h = sym (id-hit id (events_at s chars e.inside) (element_of s chars e) h)
-      ∙ at_item (first_id id) v s chars from c 0 w r (item.Begin e) t i
+  pub found-id : has_id id (element_of drawing e) ≡ true → node_at drawing e ≡ v
+  found-id h = sym (id-hit id (events_at drawing e.inside) (element_of drawing e) h)
+      ∙ at_item (first_id id) v drawing from c 0 w r (item.Begin e) t i
 
-  behind : (n : Cursor) → Without s chars id e n → Further s c n
+  behind : (n : Cursor) → Without drawing id e n → Further drawing c n
   behind n z = record {
     fit = z.nodes.fit;
     further = omega
-        (arith, (item-told s chars c r (item.Begin e) t i).1.1.further, z.nodes.later);
+        (arith, (item-told drawing c r (item.Begin e) t i).1.1.further, z.nodes.later);
   }
 
   -- It has not, and the search goes on behind the attributes that were read.
-  pub over-without : (n : Cursor) → Without s chars id e n → Along (first_id id) v s chars from n 0
-  over-without n z = over (first_id id) v s chars from c 0 w r (item.Begin e) t i n 0 (behind n z) (omega arith)
-      (id-miss id (events_at s chars e.inside) (element_of s chars e) z.has-not ∙ ap (first_with_id id) (sym z.nodes.events))
+  pub over-without : (n : Cursor) → Without drawing id e n → Along (first_id id) v drawing from n 0
+  over-without n z = over (first_id id) v drawing from c 0 w r (item.Begin e) t i n 0 (behind n z) (omega arith)
+      (id-miss id (events_at drawing e.inside) (element_of drawing e) z.has-not ∙ ap (first_with_id id) (sym z.nodes.events))
 
-  pub further-without : (n : Cursor) → Without s chars id e n → Further s c n
+  pub further-without : (n : Cursor) → Without drawing id e n → Further drawing c n
   further-without n z = behind n z

@@ -7,3 +7,4 @@ pub mod Knowing
 pub mod Entering
 pub mod Filling
 pub mod Passing
+pub mod Sets

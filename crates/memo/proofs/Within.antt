@@ -7,6 +7,7 @@ use native.Mathlib.Omega.{arith}
 use Rattle.model.specs.Base.{pick}
 use Rattle.model.specs.Drawing as model
 use Rattle.model.specs.Drawing.{Event, begin, close, has_id, first_with_id}
+use Rattle.script.specs.declared.drawing.Drawing.{Drawing}
 use Rattle.script.specs.declared.cursor.Cursor.{Cursor}
 use Rattle.script.specs.Step.{Fit}
 use Rattle.walk.specs.declared.node.Opened.{Opened}
@@ -88,22 +89,22 @@ within_end id (suc k) = refl
 -- THE WALK
 
 -- v is what the search among the next `left` elements from the cursor on finds.
-pub record Seeking (s chars id : List ℕ) (v : List Event) (c : Cursor) (left : ℕ) : Type 0 where
-  pub fit : Fit s c
-  pub same : within left id (events_at s chars c) ≡ v
+pub record Seeking (drawing : Drawing) (id : List ℕ) (v : List Event) (c : Cursor) (left : ℕ) : Type 0 where
+  pub fit : Fit drawing c
+  pub same : within left id (events_at drawing c) ≡ v
 
-module _ (s chars id : List ℕ) (v : List Event) (c : Cursor) (left : ℕ) (w : Seeking s chars id v c left) (r : Item) where
-  module _ (x : Item) (t : r ≡ x) (i : ItemIs s chars c r) where
-    pub seek-at : within left id (events_of s chars x) ≡ v
-    seek-at = ap (within left id) (item-told s chars c r x t i).0 ∙ w.same
+module _ (drawing : Drawing) (id : List ℕ) (v : List Event) (c : Cursor) (left : ℕ) (w : Seeking drawing id v c left) (r : Item) where
+  module _ (x : Item) (t : r ≡ x) (i : ItemIs drawing c r) where
+    pub seek-at : within left id (events_of drawing x) ≡ v
+    seek-at = ap (within left id) (item-told drawing c r x t i).0 ∙ w.same
 
-  module _ (e : Opened) (t : r ≡ item.Begin e) (i : ItemIs s chars c r) (z : 0 < left) where
-    pub seek_hit : has_id id (element_of s chars e) ≡ true → node_at s chars e ≡ v
-    seek_hit h = sym (within-hit id (events_at s chars e.inside) left (element_of s chars e) z h) ∙ seek-at (item.Begin e) t i
+  module _ (e : Opened) (t : r ≡ item.Begin e) (i : ItemIs drawing c r) (z : 0 < left) where
+    pub seek_hit : has_id id (element_of drawing e) ≡ true → node_at drawing e ≡ v
+    seek_hit h = sym (within-hit id (events_at drawing e.inside) left (element_of drawing e) z h) ∙ seek-at (item.Begin e) t i
 
-    pub seek-miss : (n : Cursor) → Without s chars id e n → Seeking s chars id v n (left - 1)
+    pub seek-miss : (n : Cursor) → Without drawing id e n → Seeking drawing id v n (left - 1)
     seek-miss n o = record {
       fit = o.nodes.fit;
       same = ap (within (left - 1) id) o.nodes.events
-          ∙ sym (within-miss id (events_at s chars e.inside) left (element_of s chars e) z o.has-not) ∙ seek-at (item.Begin e) t i;
+          ∙ sym (within-miss id (events_at drawing e.inside) left (element_of drawing e) z o.has-not) ∙ seek-at (item.Begin e) t i;
     }

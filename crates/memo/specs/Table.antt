@@ -4,9 +4,10 @@ use Rattle.std.specs.Prelude.{true, false, List, [], ◌∷◌, Option, Some, No
 use Rattle.model.specs.Base.{pick, or, same_bytes}
 use Rattle.model.specs.EId
 use Rattle.model.specs.Drawing as model
-use Rattle.model.specs.Drawing.{Event, begin, close, events, has_id, first_with_id}
+use Rattle.model.specs.Drawing.{Event, begin, close, has_id, first_with_id}
+use Rattle.script.specs.declared.drawing.Drawing.{Drawing}
 use Rattle.script.specs.declared.cursor.Cursor.{Cursor}
-use Rattle.script.specs.Step.{Fit}
+use Rattle.script.specs.Step.{Fit, document}
 use Rattle.walk.specs.declared.node.Opened.{Opened}
 use Rattle.walk.specs.Values.{events_at, SameNodes}
 use Rattle.walk.specs.Nodes.{element_of, node_at, Standing}
@@ -40,11 +41,11 @@ seen_nodes [] = another
 seen_nodes (x ∷ xs) = this (x ∷ xs)
 
 -- In a slot with the word v, by an id with that key.
-abbrev pub seen_by : List ℕ → List ℕ → List ℕ → List ℕ → ℕ → ℕ → Seen
-seen_by script chars slots id key v =
+abbrev pub seen_by : Drawing → List ℕ → List ℕ → ℕ → ℕ → Seen
+seen_by drawing slots id key v =
     pick (eqb v 0) (λ u. empty)
     (λ u. pick (eqb (print_in v) (print_of key))
-    (λ u. seen_nodes (within (spacing slots) id (events_at script chars (mark_in slots (mark_of v))))) (λ u. another))
+    (λ u. seen_nodes (within (spacing slots) id (events_at drawing (mark_in slots (mark_of v))))) (λ u. another))
 
 -- Where a search ends: at nodes, at a free slot, or nowhere.
 pub data Outcome : Type 0 where
@@ -63,18 +64,18 @@ probing f g i zero = over
 probing f g i (suc k) = onward (f i) (λ u. probing f g (g i) k)
 
 -- What is seen in each slot.
-abbrev pub sees : List ℕ → List ℕ → List ℕ → List ℕ → ℕ → Seen
-sees script chars slots id i = seen_by script chars slots id (key_of id) (slot_in slots i)
+abbrev pub sees : Drawing → List ℕ → List ℕ → ℕ → Seen
+sees drawing slots id i = seen_by drawing slots id (key_of id) (slot_in slots i)
 
 -- The search for a key, with u words in a part.
 abbrev pub probed_from : (ℕ → Seen) → ℕ → ℕ → Outcome
 probed_from f u key = probing f (next_slot u (step_of u key)) (start_of u key) probes
 
 -- The search for an id.
-abbrev pub probed : List ℕ → List ℕ → List ℕ → List ℕ → Outcome
-probed script chars slots id =
+abbrev pub probed : Drawing → List ℕ → List ℕ → Outcome
+probed drawing slots id =
     pick (is_open slots (key_of id))
-    (λ u. probed_from (sees script chars slots id) (unit slots) (key_of id)) (λ u. over)
+    (λ u. probed_from (sees drawing slots id) (unit slots) (key_of id)) (λ u. over)
 
 -- The first free slot from i on among the next k.
 unfoldable pub first_free : (ℕ → ℕ) → (ℕ → ℕ) → ℕ → ℕ → Option ℕ
@@ -104,76 +105,76 @@ may_link script = any_opens script (length script - 1)
 
 -- THE ANSWERS OF THE CODE
 
-abbrev pub seen_as : List ℕ → List ℕ → Look → Seen
-seen_as script chars (look.This e) = this (node_at script chars e)
-seen_as script chars look.Another = another
-seen_as script chars look.Empty = empty
+abbrev pub seen_as : Drawing → Look → Seen
+seen_as drawing (look.This e) = this (node_at drawing e)
+seen_as drawing look.Another = another
+seen_as drawing look.Empty = empty
 
-abbrev pub LookFit : List ℕ → Look → Type 0
-LookFit script (look.This e) = Standing script e
-LookFit script look.Another = Unit {0}
-LookFit script look.Empty = Unit {0}
+abbrev pub LookFit : Drawing → Look → Type 0
+LookFit drawing (look.This e) = Standing drawing e
+LookFit drawing look.Another = Unit {0}
+LookFit drawing look.Empty = Unit {0}
 
-abbrev pub outcome_as : List ℕ → List ℕ → Probe → Outcome
-outcome_as script chars (probe.Found e) = found (node_at script chars e)
-outcome_as script chars probe.Free = free
-outcome_as script chars probe.Over = over
+abbrev pub outcome_as : Drawing → Probe → Outcome
+outcome_as drawing (probe.Found e) = found (node_at drawing e)
+outcome_as drawing probe.Free = free
+outcome_as drawing probe.Over = over
 
-abbrev pub ProbeFit : List ℕ → Probe → Type 0
-ProbeFit script (probe.Found e) = Standing script e
-ProbeFit script probe.Free = Unit {0}
-ProbeFit script probe.Over = Unit {0}
+abbrev pub ProbeFit : Drawing → Probe → Type 0
+ProbeFit drawing (probe.Found e) = Standing drawing e
+ProbeFit drawing probe.Free = Unit {0}
+ProbeFit drawing probe.Over = Unit {0}
 
 -- WHAT THE TABLE SAYS
 
 -- Mark m has its words, and is a cursor of the script.
-pub record Placed (script slots : List ℕ) (m : ℕ) : Type 0 where
+pub record Placed (drawing : Drawing) (slots : List ℕ) (m : ℕ) : Type 0 where
   pub low : 5 * m + 6 ≤ 3 * unit slots
-  pub fit : Fit script (mark_in slots m)
+  pub fit : Fit drawing (mark_in slots m)
 
 -- The marks in slots can be read.
-abbrev pub Held : List ℕ → List ℕ → Type 0
-Held script slots = (i : ℕ) → (slot_in slots i ≡ 0 → ⊥) → Placed script slots (mark_of (slot_in slots i))
+abbrev pub Held : Drawing → List ℕ → Type 0
+Held drawing slots = (i : ℕ) → (slot_in slots i ≡ 0 → ⊥) → Placed drawing slots (mark_of (slot_in slots i))
 
 -- The first element with that id is among the nodes xs that are still to come, and behind every mark.
-pub record Ahead (script chars slots : List ℕ) (next : ℕ) (xs : List Event) (id : List ℕ) : Type 0 where
-  pub rest : first_with_id id xs ≡ first_with_id id (events script chars)
-  pub marks : (m : ℕ) → m < next → first_with_id id (events_at script chars (mark_in slots m)) ≡ first_with_id id (events script chars)
+pub record Ahead (drawing : Drawing) (slots : List ℕ) (next : ℕ) (xs : List Event) (id : List ℕ) : Type 0 where
+  pub rest : first_with_id id xs ≡ first_with_id id (document drawing)
+  pub marks : (m : ℕ) → m < next → first_with_id id (events_at drawing (mark_in slots m)) ≡ first_with_id id (document drawing)
 
 -- What the search for an id says.
-abbrev pub Told : List ℕ → List ℕ → List ℕ → ℕ → List Event → List ℕ → Outcome → Type 0
-Told script chars slots next xs id (found ys) = ys ≡ first_with_id id (events script chars)
-Told script chars slots next xs id free = Ahead script chars slots next xs id
-Told script chars slots next xs id over = Unit {0}
+abbrev pub Told : Drawing → List ℕ → ℕ → List Event → List ℕ → Outcome → Type 0
+Told drawing slots next xs id (found ys) = ys ≡ first_with_id id (document drawing)
+Told drawing slots next xs id free = Ahead drawing slots next xs id
+Told drawing slots next xs id over = Unit {0}
 
 -- Marks are set up to `next`, slots have some of them, and the searches say what they say where the nodes xs are still to come.
-pub record Known (script chars slots : List ℕ) (next : ℕ) (xs : List Event) : Type 0 where
-  pub marks : (m : ℕ) → m < next → Placed script slots m
+pub record Known (drawing : Drawing) (slots : List ℕ) (next : ℕ) (xs : List Event) : Type 0 where
+  pub marks : (m : ℕ) → m < next → Placed drawing slots m
   pub used : (i : ℕ) → (slot_in slots i ≡ 0 → ⊥) → mark_of (slot_in slots i) < next
-  pub told : (id : List ℕ) → Told script chars slots next xs id (probed script chars slots id)
+  pub told : (id : List ℕ) → Told drawing slots next xs id (probed drawing slots id)
 
 -- The table of a drawing: nothing is still to come.
-pub record Memo (script chars slots : List ℕ) : Type 0 where
+pub record Memo (drawing : Drawing) (slots : List ℕ) : Type 0 where
   pub next : ℕ
-  pub known : Known script chars slots next []
+  pub known : Known drawing slots next []
 
 -- AN ELEMENT ENTERED
 
 -- The bytes of an element's first unprefixed id are these.
-abbrev pub Named : List ℕ → List ℕ → Opened → List ℕ → Type 0
-Named script chars e id = (x : List ℕ) → has_id x (element_of script chars e) ≡ same_bytes id x
+abbrev pub Named : Drawing → Opened → List ℕ → Type 0
+Named drawing e id = (x : List ℕ) → has_id x (element_of drawing e) ≡ same_bytes id x
 
 -- From mark m on a search meets the element e.
-abbrev pub Seeing : List ℕ → List ℕ → List ℕ → ℕ → Opened → Type 0
-Seeing script chars slots m e = (id : List ℕ) → has_id id (element_of script chars e) ≡ true
-    → within (spacing slots) id (events_at script chars (mark_in slots m)) ≡ [] → ⊥
+abbrev pub Seeing : Drawing → List ℕ → ℕ → Opened → Type 0
+Seeing drawing slots m e = (id : List ℕ) → has_id id (element_of drawing e) ≡ true
+    → within (spacing slots) id (events_at drawing (mark_in slots m)) ≡ [] → ⊥
 
 -- Mark m is one of those that are set, and a search from it meets e, if the table tells anything.
-pub record Ready (script chars slots : List ℕ) (next m : ℕ) (e : Opened) : Type 0 where
-  pub stands : Standing script e
-  pub known : Known script chars slots next (node_at script chars e)
+pub record Ready (drawing : Drawing) (slots : List ℕ) (next m : ℕ) (e : Opened) : Type 0 where
+  pub stands : Standing drawing e
+  pub known : Known drawing slots next (node_at drawing e)
   pub set : 0 < spacing slots → m < next
-  pub seeing : 0 < spacing slots → Seeing script chars slots m e
+  pub seeing : 0 < spacing slots → Seeing drawing slots m e
 
 -- Marks and their spacing stay.
 pub record Kept (slots slots' : List ℕ) : Type 0 where
@@ -182,10 +183,10 @@ pub record Kept (slots slots' : List ℕ) : Type 0 where
   pub marks : (m : ℕ) → 5 * m + 6 ≤ 3 * unit slots → mark_in slots' m ≡ mark_in slots m
 
 -- The element e is entered, with the cursor n inside it before its children.
-pub record Entered (script chars slots : List ℕ) (next : ℕ) (e : Opened) (slots' : List ℕ) (n : Cursor) : Type 0 where
-  pub nodes : SameNodes script chars e.inside n
+pub record Entered (drawing : Drawing) (slots : List ℕ) (next : ℕ) (e : Opened) (slots' : List ℕ) (n : Cursor) : Type 0 where
+  pub nodes : SameNodes drawing e.inside n
   pub kept : Kept slots slots'
-  pub known : Known script chars slots' next (events_at script chars n)
+  pub known : Known drawing slots' next (events_at drawing n)
 
 -- An element with that id, met from mark m on, gets the first free slot of the id's search, if the table tells of its key.
 pub record IdEntered (slots : List ℕ) (m : ℕ) (id slots' : List ℕ) : Type 0 where
@@ -195,23 +196,23 @@ pub record IdEntered (slots : List ℕ) (m : ℕ) (id slots' : List ℕ) : Type 
       → SlotPut slots i (m + 2048 * print_of (key_of id) + 1) slots'
 
 -- From the last mark on, a search that meets nothing meets nothing among the next `left` elements.
-abbrev pub Follows : List ℕ → List ℕ → List ℕ → ℕ → ℕ → List Event → Type 0
-Follows script chars slots last left xs =
-    (id : List ℕ) → within (spacing slots) id (events_at script chars (mark_in slots last)) ≡ [] → within left id xs ≡ []
+abbrev pub Follows : Drawing → List ℕ → ℕ → ℕ → List Event → Type 0
+Follows drawing slots last left xs =
+    (id : List ℕ) → within (spacing slots) id (events_at drawing (mark_in slots last)) ≡ [] → within left id xs ≡ []
 
 -- How far the filling is, where the nodes xs are still to come.
-pub record Filling (script chars slots : List ℕ) (next left : ℕ) (xs : List Event) : Type 0 where
+pub record Filling (drawing : Drawing) (slots : List ℕ) (next left : ℕ) (xs : List Event) : Type 0 where
   pub long : 16 ≤ length slots
   pub few : next ≤ 2047
   pub some : 0 < left → 0 < next
-  pub known : Known script chars slots next xs
-  pub follows : 0 < left → Follows script chars slots (next - 1) left xs
+  pub known : Known drawing slots next xs
+  pub follows : 0 < left → Follows drawing slots (next - 1) left xs
 
 -- The element e is passed.
-pub record Passed (script chars slots : List ℕ) (e : Opened) (slots' : List ℕ) (p : Progress) : Type 0 where
+pub record Passed (drawing : Drawing) (slots : List ℕ) (e : Opened) (slots' : List ℕ) (p : Progress) : Type 0 where
   pub long : length slots' ≡ length slots
-  pub nodes : SameNodes script chars e.inside p.place
-  pub filling : Filling script chars slots' p.next p.left (events_at script chars p.place)
+  pub nodes : SameNodes drawing e.inside p.place
+  pub filling : Filling drawing slots' p.next p.left (events_at drawing p.place)
 
 -- No slot is taken.
 pub record Blank (slots : List ℕ) : Type 0 where

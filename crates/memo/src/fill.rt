@@ -7,18 +7,16 @@ ghost use Rattle.memo.specs.Words.{unit, slot_count, Apart};
 ghost use Rattle.memo.specs.Table.{free_for, Blank, Memo, IdEntered, Ready, Entered, Filling, Passed};
 
 use super::key::key_of;
-use super::link::is_link;
+use super::link::{HREF, is_link};
 use super::plain::first_id;
 use super::words::{
     MARKS, PRINT, PROBES, has_room, is_open, next_slot, put_mark, put_slot, set_spacing, slot_at,
     spacing, start_of, step_of, want,
 };
-use names::aid;
 use script::cursor::Cursor;
+use script::drawing::Drawing;
 use walk::node::{Item, Opened, next_item};
 use walk::value::{attribute_in, part_at, reading_of};
-
-const HREF: u8 = aid::HREF as u8;
 
 // How far the filling is: the cursor, how many marks are set, and how many elements more are looked at from the last mark on.
 #[derive(Clone, Copy)]
@@ -37,6 +35,7 @@ fn spaced(count: usize, words: usize) -> u16
 }
 
 // The first free slot in which an id with that key may stand.
+#[tactic(auto, using(crate::proofs::Sets::free_slot_set))]
 fn free_slot(slots: &[u16], key: usize) -> Option<usize>
     requires { 16 ≤ length slots.now }
     ensures same { result ≡ free_for slots.now key }
@@ -55,6 +54,7 @@ fn free_slot(slots: &[u16], key: usize) -> Option<usize>
 }
 
 // An element with that id gets a slot, if the table tells of its key and a slot is free: a search from mark m on meets it.
+#[tactic(auto, using(crate::proofs::Sets::enter_id_set))]
 fn enter_id(slots: &mut [u16], m: usize, id: &[u8])
     requires { m < 2047 }
     ensures { IdEntered slots.old m id.now slots.new }
@@ -69,15 +69,14 @@ fn enter_id(slots: &mut [u16], m: usize, id: &[u8])
 }
 
 // The element e is entered, if it has an id. The cursor inside it, behind the attributes that were read.
-fn enter(script: &[u8], characters: &[u8], slots: &mut [u16], e: Opened, m: usize) -> Cursor
-    requires standing { Standing script.now e }
+fn enter(drawing: &Drawing, slots: &mut [u16], e: Opened, m: usize) -> Cursor
+    requires standing { Standing drawing.now e }
     requires m_bound { m < 2047 }
-    ensures { (next : ℕ) → Ready script.now characters.now slots.old next m e
-        → Entered script.now characters.now slots.old next e slots.new result }
+    ensures { (next : ℕ) → Ready drawing.now slots.old next m e → Entered drawing.now slots.old next e slots.new result }
 {
-    match first_id(script, characters, e) {
+    match first_id(drawing, e) {
         Ok(v) => {
-            enter_id(slots, m, part_at(characters, v.own.chars, v.len));
+            enter_id(slots, m, part_at(drawing.characters, v.own.chars, v.len));
             v.behind
         }
         Err(n) => n,
@@ -86,17 +85,10 @@ fn enter(script: &[u8], characters: &[u8], slots: &mut [u16], e: Opened, m: usiz
 
 // The element e, which has an id, is passed, before which the filling is that far. Where no mark is near, one is set at it; where that
 // cannot be, the table tells nothing any more.
-fn pass_named(
-    script: &[u8],
-    characters: &[u8],
-    slots: &mut [u16],
-    e: Opened,
-    next: usize,
-    left: usize,
-) -> Progress
-    requires standing { Standing script.now e }
-    requires filling { Filling script.now characters.now slots.old next left (node_at script.now characters.now e) }
-    ensures { Passed script.now characters.now slots.old e slots.new result }
+fn pass_named(drawing: &Drawing, slots: &mut [u16], e: Opened, next: usize, left: usize) -> Progress
+    requires standing { Standing drawing.now e }
+    requires filling { Filling drawing.now slots.old next left (node_at drawing.now e) }
+    ensures { Passed drawing.now slots.old e slots.new result }
 {
     let inside = e.inside;
     if spacing(slots) == 0 {
@@ -107,7 +99,7 @@ fn pass_named(
         };
     }
     if 0 < left {
-        let place = enter(script, characters, slots, e, next - 1);
+        let place = enter(drawing, slots, e, next - 1);
         return Progress {
             place,
             next,
@@ -125,7 +117,7 @@ fn pass_named(
     }
     put_mark(slots, next, own);
     let most = spacing(slots);
-    let place = enter(script, characters, slots, e, next);
+    let place = enter(drawing, slots, e, next);
     Progress {
         place,
         next: next + 1,
@@ -134,20 +126,13 @@ fn pass_named(
 }
 
 // The element e is passed. Marks are set at elements with an id alone.
-fn pass(
-    script: &[u8],
-    characters: &[u8],
-    slots: &mut [u16],
-    e: Opened,
-    next: usize,
-    left: usize,
-) -> Progress
-    requires standing { Standing script.now e }
-    requires filling { Filling script.now characters.now slots.old next left (node_at script.now characters.now e) }
-    ensures { Passed script.now characters.now slots.old e slots.new result }
+fn pass(drawing: &Drawing, slots: &mut [u16], e: Opened, next: usize, left: usize) -> Progress
+    requires standing { Standing drawing.now e }
+    requires filling { Filling drawing.now slots.old next left (node_at drawing.now e) }
+    ensures { Passed drawing.now slots.old e slots.new result }
 {
-    match first_id(script, characters, e) {
-        Ok(_) => pass_named(script, characters, slots, e, next, left),
+    match first_id(drawing, e) {
+        Ok(_) => pass_named(drawing, slots, e, next, left),
         Err(n) => Progress {
             place: n,
             next,
@@ -157,18 +142,19 @@ fn pass(
 }
 
 // All elements are passed.
-fn pass_all(script: &[u8], characters: &[u8], slots: &mut [u16])
-    requires script_len_bound { length script.now ≤ most_bytes }
+#[tactic(auto, using(crate::proofs::Sets::pass_all_set))]
+fn pass_all(drawing: &Drawing, slots: &mut [u16])
+    requires script_len_bound { length drawing.now.script.now ≤ most_bytes }
     requires blank { Blank slots.old }
-    ensures { Memo script.now characters.now slots.new }
+    ensures { Memo drawing.now slots.new }
 {
     let mut c = Cursor::start();
     let mut next: usize = 0;
     let mut left: usize = 0;
     loop {
-        match next_item(script, characters, c) {
+        match next_item(drawing, c) {
             Item::Begin(e) => {
-                let p = pass(script, characters, slots, e, next, left);
+                let p = pass(drawing, slots, e, next, left);
                 c = p.place;
                 next = p.next;
                 left = p.left;
@@ -180,36 +166,41 @@ fn pass_all(script: &[u8], characters: &[u8], slots: &mut [u16])
 }
 
 // The key of the link in that namespace is wanted, if there is one.
-fn want_link(script: &[u8], characters: &[u8], slots: &mut [u16], inside: Cursor, space: u8)
-    requires fit { Fit script.now inside }
+#[tactic(auto, using(crate::proofs::Sets::want_link_set))]
+fn want_link(drawing: &Drawing, slots: &mut [u16], inside: Cursor, space: u8)
+    requires fit { Fit drawing.now inside }
     requires in_bounds { 16 ≤ length slots.old }
     ensures { Apart slots.old 0 (unit slots.old) slots.new }
 {
-    if let Ok(v) = attribute_in(script, characters, inside, space, HREF)
-        && let Some(p) = reading_of(script, characters, v.behind, v.own.chars, 1)
+    if let Ok(v) = attribute_in(drawing, inside, space, HREF)
+        && let Some(p) = reading_of(drawing, v.behind, v.own.chars, 1)
     {
-        want(slots, key_of(part_at(characters, p.start, p.len)));
+        want(slots, key_of(part_at(drawing.characters, p.start, p.len)));
     }
 }
 
 // The key of an element's own id is wanted.
-fn want_own(script: &[u8], characters: &[u8], slots: &mut [u16], e: Opened)
-    requires standing { Standing script.now e }
+#[tactic(auto, using(crate::proofs::Sets::want_own_set))]
+fn want_own(drawing: &Drawing, slots: &mut [u16], e: Opened)
+    requires standing { Standing drawing.now e }
     requires in_bounds { 16 ≤ length slots.old }
     ensures { Apart slots.old 0 (unit slots.old) slots.new }
 {
-    if let Ok(v) = first_id(script, characters, e) {
-        want(slots, key_of(part_at(characters, v.own.chars, v.len)));
+    if let Ok(v) = first_id(drawing, e) {
+        want(
+            slots,
+            key_of(part_at(drawing.characters, v.own.chars, v.len)),
+        );
     }
 }
 
 // The later of two counts of elements: that of the element e if it has an id.
-fn if_named(script: &[u8], characters: &[u8], e: Opened, count: usize, last: usize) -> usize
-    requires standing { Standing script.now e }
+fn if_named(drawing: &Drawing, e: Opened, count: usize, last: usize) -> usize
+    requires standing { Standing drawing.now e }
     requires last_le_count { last ≤ count }
     ensures { result ≤ count }
 {
-    if first_id(script, characters, e).is_ok() {
+    if first_id(drawing, e).is_ok() {
         count
     } else {
         last
@@ -218,8 +209,9 @@ fn if_named(script: &[u8], characters: &[u8], e: Opened, count: usize, last: usi
 
 // The keys of all links are wanted, and those of the ids that the linking elements have. How many elements there are up to the last one
 // with an id.
-fn want_links(script: &[u8], characters: &[u8], slots: &mut [u16]) -> usize
-    requires script_len_bound { length script.now ≤ most_bytes }
+#[tactic(auto, using(crate::proofs::Sets::want_links_set))]
+fn want_links(drawing: &Drawing, slots: &mut [u16]) -> usize
+    requires script_len_bound { length drawing.now.script.now ≤ most_bytes }
     requires in_bounds { 16 ≤ length slots.old }
     ensures kept { Apart slots.old 0 (unit slots.old) slots.new }
     ensures few { result ≤ most_bytes }
@@ -228,15 +220,15 @@ fn want_links(script: &[u8], characters: &[u8], slots: &mut [u16]) -> usize
     let mut count: usize = 0;
     let mut last: usize = 0;
     loop {
-        match next_item(script, characters, c) {
+        match next_item(drawing, c) {
             Item::Begin(e) => {
                 count += 1;
-                last = if_named(script, characters, e, count, last);
+                last = if_named(drawing, e, count, last);
                 c = e.inside;
                 if is_link(e.name) {
-                    want_link(script, characters, slots, c, 0);
-                    want_link(script, characters, slots, c, 2);
-                    want_own(script, characters, slots, e);
+                    want_link(drawing, slots, c, 0);
+                    want_link(drawing, slots, c, 2);
+                    want_own(drawing, slots, e);
                 }
             }
             Item::Text(_, _, n) | Item::Other(n) | Item::Close(n) => c = n,
@@ -246,15 +238,16 @@ fn want_links(script: &[u8], characters: &[u8], slots: &mut [u16]) -> usize
 }
 
 // The table of a drawing, in words that are all zero; a table of few words stays so.
-pub fn fill(script: &[u8], characters: &[u8], slots: &mut [u16])
-    requires script_len_bound { length script.now ≤ most_bytes }
+#[tactic(auto, using(crate::proofs::Sets::fill_set))]
+pub fn fill(drawing: &Drawing, slots: &mut [u16])
+    requires script_len_bound { length drawing.now.script.now ≤ most_bytes }
     requires slots_value { slots.old ≡ replicate (length slots.old) 0 }
-    ensures { Memo script.now characters.now slots.new }
+    ensures { Memo drawing.now slots.new }
 {
     if slots.len() < 256 {
         return;
     }
-    let count = want_links(script, characters, slots);
+    let count = want_links(drawing, slots);
     set_spacing(slots, spaced(count, slots.len()));
-    pass_all(script, characters, slots);
+    pass_all(drawing, slots);
 }

@@ -3,6 +3,7 @@ ghost use Rattle.std.specs.Prelude.{◌≡◌, ◌<◌};
 ghost use Rattle.memo.specs.Words.{key_of};
 
 // The key of an id: any function of its bytes will do.
+#[tactic(auto, using(crate::proofs::Sets::key_of_set))]
 pub fn key_of(id: &[u8]) -> usize
     ensures same { result ≡ key_of id.now }
     ensures low { result < 4294967296 }

@@ -2,7 +2,10 @@
 ghost use Rattle.std.specs.Prelude.{◌≡◌};
 ghost use Rattle.memo.specs.Table.{is_link, opens_link, may_link};
 
-use names::eid;
+use names::{aid, eid};
+
+// The code of the name that links have, in a byte of the script.
+pub const HREF: u8 = aid::HREF as u8;
 
 // Do elements with that name have links that are followed by ids?
 pub fn is_link(name: u8) -> bool
@@ -23,9 +26,7 @@ fn opens_link(a: u8, b: u8) -> bool
 pub fn may_link(script: &[u8]) -> bool
     ensures { result ≡ may_link script.now }
 {
-    let mut found = false;
-    for i in 1..script.len() {
-        found |= opens_link(script[i - 1], script[i]);
-    }
-    found
+    script
+        .array_windows::<2>()
+        .fold(false, |found, &[a, b]| found | opens_link(a, b))
 }

@@ -74,6 +74,7 @@ fn upper_of(c: Cursor) -> u16
 }
 
 // Mark m becomes c.
+#[tactic(auto, using(crate::proofs::Sets::put_mark_set))]
 pub fn put_mark(slots: &mut [u16], m: usize, c: Cursor)
     requires { RoomFor slots.old m c }
     ensures { MarkPut slots.old m c slots.new }
@@ -121,6 +122,7 @@ pub fn put_slot(slots: &mut [u16], i: usize, v: u16)
 }
 
 // Where the search for a key begins.
+#[tactic(auto, using(crate::proofs::Sets::start_of_set))]
 pub fn start_of(slots: &[u16], key: usize) -> usize
     requires { 16 ≤ length slots.now }
     ensures same { result ≡ start_of (unit slots.now) key }
@@ -130,6 +132,7 @@ pub fn start_of(slots: &[u16], key: usize) -> usize
 }
 
 // How many slots it goes on at a time.
+#[tactic(auto, using(crate::proofs::Sets::step_of_set))]
 pub fn step_of(slots: &[u16], key: usize) -> usize
     requires { 16 ≤ length slots.now }
     ensures same { result ≡ step_of (unit slots.now) key }
@@ -139,6 +142,7 @@ pub fn step_of(slots: &[u16], key: usize) -> usize
 }
 
 // The slot that is looked at behind slot i.
+#[tactic(auto, using(crate::proofs::Sets::next_slot_set))]
 pub fn next_slot(slots: &[u16], step: usize, i: usize) -> usize
     requires i_bound { i < slot_count slots.now }
     requires step_bound { step < slot_count slots.now }
@@ -153,6 +157,7 @@ pub fn next_slot(slots: &[u16], step: usize, i: usize) -> usize
 }
 
 // The bit of a key among those that are wanted.
+#[tactic(auto, using(crate::proofs::Sets::bit_of_set))]
 fn bit_of(slots: &[u16], key: usize) -> usize
     requires { 16 ≤ length slots.now }
     ensures same { result ≡ bit_of slots.now key }

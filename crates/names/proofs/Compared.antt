@@ -46,8 +46,3 @@ no-fixed n h = go (leb n 18) refl
     go : (b : Bool) → leb n 18 ≡ b → get_or ([] ∷ fixed_values) n [] ≡ []
     go true e = rw (none_of 18 n h (leb-true n 18 e))
     go false e = get_or-eq_default ([] ∷ fixed_values) [] {n = n} (leb-false n 18 e)
-
--- The last of several words decides.
-pub decided : (b : Bool) → b ≡ pick b (λ u. true) (λ u. false)
-decided true = refl
-decided false = refl

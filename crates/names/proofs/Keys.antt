@@ -1,14 +1,13 @@
--- The keys of a `match` on a number: what follows from what an arm and the `_` arm are told, by one computed test over all keys.
--- Assumes nothing.
+-- The keys of a `match` on a number: what follows from what the `_` arm is told, by one computed test over all keys. Assumes nothing.
 use mathlib.Core.Path.{◌≡◌, refl, sym, subst}
-use mathlib.Core.Logic.{◌⊎◌, inl, inr, ⊎_elim}
+use mathlib.Core.Logic.{◌⊎◌, inl, inr}
 use mathlib.Core.List.{List, [], ◌∷◌}
 use mathlib.Core.Bool.{Bool, true, false, ◌&&◌, ◌||◌}
 use Prim.Native.Nat.{ℕ}
 use borrow.Author.Tests.{ne_eqb}
 use lib.Dec.{T, eqb, eqb→eq}
 use types.Run.{OneOf}
-use Rattle.model.specs.Base.{pick, among, Pair, paired_with}
+use Rattle.model.specs.Base.{pick, among}
 
 -- f holds of all the numbers.
 unfoldable pub every : (ℕ → Bool) → List ℕ → Bool
@@ -22,14 +21,6 @@ first false b h = absurd h
 later : (a b : Bool) → T (a && b) → T b
 later true b h = h
 later false b h = absurd h
-
--- An arm: what holds of all its keys holds of the number.
-pub arm : (f : ℕ → Bool) (ks : List ℕ) (a : ℕ) → OneOf ks a → T (every f ks) → T (f a)
-unfolding every
-arm f [] a h e = absurd h
-arm f (x ∷ []) a h e = rw h (first (f x) true e)
-arm f (x ∷ (y ∷ ks)) a h e =
-    ⊎_elim (λ q. rw q (first (f x) (f y && every f ks) e)) (λ o. arm f (y ∷ ks) a o (later (f x) (f y && every f ks) e)) h
 
 -- The `_` arm: the number is no key of these arms, the last arm first.
 abbrev pub NoKey : List (List ℕ) → ℕ → Type 0
@@ -73,19 +64,3 @@ unlisted arms [] a n e = refl
 unlisted arms (x ∷ xs) a n e =
     rw (ne_eqb a x (differs arms a x n (first (keyed arms x) (every (keyed arms) xs) e)))
     (unlisted arms xs a n (later (keyed arms x) (every (keyed arms) xs) e))
-
-unfoldable pub keys_of : List Pair → List ℕ
-keys_of [] = []
-keys_of (p ∷ ps) = p.key ∷ keys_of ps
-
--- Where all keys of a table are keys of the match, the table has no value for the number.
-pub unpaired : (arms : List (List ℕ)) (ps : List Pair) (a : ℕ) → NoKey arms a → T (every (keyed arms) (keys_of ps)) → 0 ≡ paired_with a ps
-unfolding every keys_of paired_with
-unpaired arms [] a n e = refl
-unpaired arms (p ∷ ps) a n e =
-    rw (ne_eqb a p.key (differs arms a p.key n (first (keyed arms p.key) (every (keyed arms) (keys_of ps)) e)))
-    (unpaired arms ps a n (later (keyed arms p.key) (every (keyed arms) (keys_of ps)) e))
-
-pub is_true : (b : Bool) → T b → true ≡ b
-is_true true h = refl
-is_true false h = absurd h

@@ -1,6 +1,5 @@
 // Names: the classes of attribute names, the fixed values, and comparisons with the words that the tree knows.
-// Of codes that follow one another, each second one stands in an arm of its own: in one arm, as in one `matches!`, they would make a range,
-// with a goal of its own. A code is a number and no enum, since a word of the tables may have any value, and every function answers for it.
+// A code is a number and no enum, since a word of the tables may have any value, and every function answers for it.
 #![tactic(auto)]
 
 ghost use Rattle.std.specs.Prelude.{◌≡◌, ◌<◌, unwrap_or, IfSome};
@@ -14,6 +13,7 @@ pub mod aid;
 pub mod eid;
 
 // Is it the code of an element name?
+#[tactic(auto, unfolding(model::specs::Names::is_element))]
 pub fn is_element(code: u32) -> bool
     ensures { result ≡ is_element code }
 {
@@ -21,13 +21,16 @@ pub fn is_element(code: u32) -> bool
 }
 
 // Is it the code of an attribute name?
+#[tactic(auto, unfolding(model::specs::Names::is_attribute))]
 pub fn is_attribute(a: u32) -> bool
     ensures { result ≡ is_attribute a }
 {
     a <= 210
 }
 
-// The names that a declaration may set.
+// The names that a declaration may set. Of codes that follow one another, each second one stands in an arm of its own: in one `matches!`
+// they would make seventeen ranges, and the proof does not close.
+#[tactic(auto, unfolding(model::specs::Names::is_presentation, model::specs::Base::among))]
 pub fn is_presentation(a: u32) -> bool
     ensures { result ≡ is_presentation a }
 {
@@ -103,30 +106,33 @@ pub fn is_presentation(a: u32) -> bool
 }
 
 // Presentation names that are taken from a direct parent only.
+#[tactic(auto, unfolding(model::specs::Names::is_non_inheritable, model::specs::Base::among))]
 pub fn is_non_inheritable(a: u32) -> bool
     ensures { result ≡ is_non_inheritable a }
 {
-    match a {
+    matches!(
+        a,
         aid::ALIGNMENT_BASELINE
-        | aid::BASELINE_SHIFT
-        | aid::CLIP_PATH
-        | aid::DISPLAY
-        | aid::FILTER
-        | aid::FLOOD_COLOR
-        | aid::LIGHTING_COLOR
-        | aid::MASK
-        | aid::OPACITY
-        | aid::OVERFLOW
-        | aid::STOP_COLOR
-        | aid::TEXT_DECORATION
-        | aid::TRANSFORM
-        | aid::TRANSFORM_ORIGIN => true,
-        aid::FLOOD_OPACITY | aid::STOP_OPACITY => true,
-        _ => false,
-    }
+            | aid::BASELINE_SHIFT
+            | aid::CLIP_PATH
+            | aid::DISPLAY
+            | aid::FILTER
+            | aid::FLOOD_COLOR
+            | aid::LIGHTING_COLOR
+            | aid::MASK
+            | aid::OPACITY
+            | aid::OVERFLOW
+            | aid::STOP_COLOR
+            | aid::TEXT_DECORATION
+            | aid::TRANSFORM
+            | aid::TRANSFORM_ORIGIN
+            | aid::FLOOD_OPACITY
+            | aid::STOP_OPACITY
+    )
 }
 
 // Presentation names that may come from any ancestor.
+#[tactic(auto, unfolding(model::specs::Names::is_inheritable))]
 pub fn is_inheritable(a: u32) -> bool
     ensures { result ≡ is_inheritable a }
 {
@@ -134,64 +140,67 @@ pub fn is_inheritable(a: u32) -> bool
 }
 
 // The names whose value `inherit` is resolved.
+#[tactic(auto, unfolding(model::specs::Names::allows_inherit_value, model::specs::Base::among))]
 pub fn allows_inherit_value(a: u32) -> bool
     ensures { result ≡ allows_inherit_value a }
 {
-    match a {
+    matches!(
+        a,
         aid::ALIGNMENT_BASELINE
-        | aid::BASELINE_SHIFT
-        | aid::CLIP_PATH
-        | aid::COLOR
-        | aid::COLOR_INTERPOLATION_FILTERS
-        | aid::DIRECTION
-        | aid::DOMINANT_BASELINE
-        | aid::FILL
-        | aid::FILL_RULE
-        | aid::FLOOD_COLOR
-        | aid::FONT_FAMILY
-        | aid::FONT_KERNING
-        | aid::FONT_SIZE
-        | aid::FONT_STRETCH
-        | aid::FONT_VARIANT
-        | aid::FONT_WEIGHT
-        | aid::IMAGE_RENDERING
-        | aid::KERNING
-        | aid::LETTER_SPACING
-        | aid::MARKER_END
-        | aid::MARKER_START
-        | aid::MASK
-        | aid::OPACITY
-        | aid::OVERFLOW
-        | aid::SHAPE_RENDERING
-        | aid::STOP_COLOR
-        | aid::STROKE
-        | aid::STROKE_DASHOFFSET
-        | aid::STROKE_LINEJOIN
-        | aid::STROKE_OPACITY
-        | aid::TEXT_ANCHOR
-        | aid::TEXT_RENDERING
-        | aid::VISIBILITY
-        | aid::WORD_SPACING => true,
-        aid::CLIP_RULE
-        | aid::DISPLAY
-        | aid::FILL_OPACITY
-        | aid::FILTER
-        | aid::FLOOD_OPACITY
-        | aid::FONT_OPTICAL_SIZING
-        | aid::FONT_STYLE
-        | aid::MARKER_MID
-        | aid::STOP_OPACITY
-        | aid::STROKE_DASHARRAY
-        | aid::STROKE_LINECAP
-        | aid::STROKE_MITERLIMIT
-        | aid::STROKE_WIDTH
-        | aid::TEXT_DECORATION
-        | aid::WRITING_MODE => true,
-        _ => false,
-    }
+            | aid::BASELINE_SHIFT
+            | aid::CLIP_PATH
+            | aid::COLOR
+            | aid::COLOR_INTERPOLATION_FILTERS
+            | aid::DIRECTION
+            | aid::DOMINANT_BASELINE
+            | aid::FILL
+            | aid::FILL_RULE
+            | aid::FLOOD_COLOR
+            | aid::FONT_FAMILY
+            | aid::FONT_KERNING
+            | aid::FONT_SIZE
+            | aid::FONT_STRETCH
+            | aid::FONT_VARIANT
+            | aid::FONT_WEIGHT
+            | aid::IMAGE_RENDERING
+            | aid::KERNING
+            | aid::LETTER_SPACING
+            | aid::MARKER_END
+            | aid::MARKER_START
+            | aid::MASK
+            | aid::OPACITY
+            | aid::OVERFLOW
+            | aid::SHAPE_RENDERING
+            | aid::STOP_COLOR
+            | aid::STROKE
+            | aid::STROKE_DASHOFFSET
+            | aid::STROKE_LINEJOIN
+            | aid::STROKE_OPACITY
+            | aid::TEXT_ANCHOR
+            | aid::TEXT_RENDERING
+            | aid::VISIBILITY
+            | aid::WORD_SPACING
+            | aid::CLIP_RULE
+            | aid::DISPLAY
+            | aid::FILL_OPACITY
+            | aid::FILTER
+            | aid::FLOOD_OPACITY
+            | aid::FONT_OPTICAL_SIZING
+            | aid::FONT_STYLE
+            | aid::MARKER_MID
+            | aid::STOP_OPACITY
+            | aid::STROKE_DASHARRAY
+            | aid::STROKE_LINECAP
+            | aid::STROKE_MITERLIMIT
+            | aid::STROKE_WIDTH
+            | aid::TEXT_DECORATION
+            | aid::WRITING_MODE
+    )
 }
 
-// The names whose value `none` counts as absent.
+// The names whose value `none` counts as absent. It is no `matches!`: two of them stand on a line of their own for an edit that the check
+// must refuse.
+#[tactic(auto, unfolding(model::specs::Names::is_possible_none, model::specs::Base::among))]
 pub fn is_possible_none(a: u32) -> bool
     ensures { result ≡ is_possible_none a }
 {
@@ -210,6 +219,7 @@ pub fn is_possible_none(a: u32) -> bool
 }
 
 // Names that are dropped as attributes and taken as declarations.
+#[tactic(auto, unfolding(model::specs::Names::is_declared_only, model::specs::Base::among))]
 pub fn is_declared_only(a: u32) -> bool
     ensures { result ≡ is_declared_only a }
 {
@@ -217,6 +227,7 @@ pub fn is_declared_only(a: u32) -> bool
 }
 
 // `resolve_inherit`: the number of the fixed value for a name that no one above has; none where the attribute is dropped.
+#[tactic(auto, unfolding(model::specs::Names::inherit_default, model::specs::Names::inherit_defaults, model::specs::Base::paired_with))]
 pub fn inherit_default(a: u32) -> Option<u32>
     ensures number { unwrap_or result 0 ≡ inherit_default a }
     ensures nonzero { IfSome result (λ n. 0 < n) }
@@ -228,22 +239,23 @@ pub fn inherit_default(a: u32) -> Option<u32>
         | aid::MARKER_START
         | aid::MASK
         | aid::STROKE
-        | aid::TEXT_DECORATION => 1,
-        aid::MARKER_MID | aid::STROKE_DASHARRAY => 1,
+        | aid::TEXT_DECORATION
+        | aid::MARKER_MID
+        | aid::STROKE_DASHARRAY => 1,
         aid::IMAGE_RENDERING | aid::SHAPE_RENDERING | aid::TEXT_RENDERING => 2,
         aid::FONT_STRETCH
         | aid::FONT_VARIANT
         | aid::FONT_WEIGHT
         | aid::LETTER_SPACING
-        | aid::WORD_SPACING => 3,
-        aid::FONT_STYLE => 3,
+        | aid::WORD_SPACING
+        | aid::FONT_STYLE => 3,
         aid::FILL | aid::FLOOD_COLOR | aid::STOP_COLOR => 4,
         aid::FILL_OPACITY
         | aid::FLOOD_OPACITY
         | aid::OPACITY
         | aid::STOP_OPACITY
-        | aid::STROKE_OPACITY => 5,
-        aid::STROKE_WIDTH => 5,
+        | aid::STROKE_OPACITY
+        | aid::STROKE_WIDTH => 5,
         aid::CLIP_RULE | aid::FILL_RULE => 6,
         aid::BASELINE_SHIFT => 7,
         aid::COLOR_INTERPOLATION_FILTERS => 8,
@@ -281,6 +293,7 @@ pub fn is_preserve(value: &[u8]) -> bool
     same(value, b"preserve")
 }
 
+#[tactic(auto, unfolding(model::specs::Names::fixed_bytes, model::specs::Names::fixed_values))]
 pub fn is_none(value: &[u8]) -> bool
     ensures { result ≡ same_bytes value.now (fixed_bytes 1) }
 {
@@ -288,22 +301,18 @@ pub fn is_none(value: &[u8]) -> bool
 }
 
 // The four words that image-rendering may not have as an attribute.
+#[tactic(auto, unfolding(model::specs::Names::image_rendering_words, model::specs::Base::among_words))]
 pub fn is_image_rendering_word(value: &[u8]) -> bool
     ensures { result ≡ among_words value.now image_rendering_words }
 {
-    if same(value, b"smooth") {
-        return true;
-    }
-    if same(value, b"high-quality") {
-        return true;
-    }
-    if same(value, b"crisp-edges") {
-        return true;
-    }
-    same(value, b"pixelated")
+    same(value, b"smooth")
+        || same(value, b"high-quality")
+        || same(value, b"crisp-edges")
+        || same(value, b"pixelated")
 }
 
 // Is the value that of the fixed value with number n? A number of no fixed value stands for no bytes.
+#[tactic(auto, unfolding(model::specs::Names::fixed_bytes, model::specs::Names::fixed_values))]
 pub fn is_fixed(n: u32, value: &[u8]) -> bool
     ensures { result ≡ same_bytes (fixed_bytes n) value.now }
 {

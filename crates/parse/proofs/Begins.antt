@@ -6,10 +6,12 @@ use mathlib.Core.List.{List}
 use Rattle.std.specs.Prelude.{Result, Ok, Err}
 use lib.Dec.{eqb}
 use Rattle.model.specs.EId
-use Rattle.model.specs.Drawing.{Element, events, children_from}
+use Rattle.model.specs.Drawing.{Element, children_from}
 use Rattle.model.specs.Tables.{Tree, done}
 use Rattle.model.specs.Element.{parse_svg_element}
 use Rattle.model.specs.Parse.{each, label, node, plain}
+use Rattle.script.specs.Step.{document}
+use Rattle.script.specs.declared.drawing.Drawing.{Drawing}
 use Rattle.script.specs.declared.cursor.Cursor.{Cursor}
 use Rattle.script.specs.Step as step
 use Rattle.walk.specs.declared.node.Opened.{Opened}
@@ -30,54 +32,54 @@ use Rattle.parse.specs.Cycle.{is_parsed, tag_named, node_built, IsText, IsOther,
 use Rattle.parse.proofs.Levels.{node-skipped, node-text, node-refused, node-use, node-children}
 use Rattle.parse.proofs.Nodes.{closed_same, made_one, made-under}
 
-module _ (script chars ns ats bs : List ℕ) (k : Counts) (left : ℕ) (ignored : Bool) (p : ℕ) (e : Opened)
-    (b : Beginning script chars (tree_of ns ats bs k) p e) where
+module _ (drawing : Drawing) (ns ats bs : List ℕ) (k : Counts) (left : ℕ) (ignored : Bool) (p : ℕ) (e : Opened)
+    (b : Beginning drawing (tree_of ns ats bs k) p e) where
   abbrev t : Tree
   t = tree_of ns ats bs k
 
   abbrev X : Element
-  X = element_of script chars e
+  X = element_of drawing e
 
   abbrev Fit : List ℕ → List ℕ → List ℕ → Result Begun Refusal → Type 0
-  Fit = BegunFit script chars left ignored p e t
+  Fit = BegunFit drawing left ignored p e t
 
   pub begun-deep : left ≡ 0 → Fit ns ats bs (Err ElementsLimitReached)
-  begun-deep h origin = ap (λ l. node_built script chars l origin ignored p e t) (sym h)
+  begun-deep h origin = ap (λ l. node_built drawing l origin ignored p e t) (sym h)
 
   pub begun-skipped : 1 ≤ left → is_parsed e.name e.space ≡ false → (past : Cursor) →
-      events_at script chars past ≡ leave 0 (events_at script chars e.inside) → step.Fit script past → e.inside.at ≤ past.at →
+      events_at drawing past ≡ leave 0 (events_at drawing e.inside) → step.Fit drawing past → e.inside.at ≤ past.at →
       Fit ns ats bs (Ok (begun.Passed k past))
   begun-skipped h a past q f l = (
-    λ origin. node-skipped script chars e left origin ignored p t h a,
-    closed_same script chars t p e.inside past b.inside q f l,
+    λ origin. node-skipped drawing e left origin ignored p t h a,
+    closed_same drawing t p e.inside past b.inside q f l,
   )
 
   -- A TEXT ELEMENT
 
   module _ (is : IsText left e.name e.space) (ns' ats' bs' : List ℕ) (r : Result Parsed Refusal)
-      (told : parsed_of ns' ats' bs' r ≡ label (plain chars) (events script chars) X (events_at script chars e.inside) ignored p t)
-      (closed : ClosedFit script chars e.inside k.nodes ns' ats' bs' r) where
+      (told : parsed_of ns' ats' bs' r ≡ label (plain drawing.characters.now) (document drawing) X (events_at drawing e.inside) ignored p t)
+      (closed : ClosedFit drawing e.inside k.nodes ns' ats' bs' r) where
     pub text-refused : (j : Refusal) → r ≡ Err j → Fit ns' ats' bs' (Err j)
     text-refused j q origin =
-        element-none r ns' ats' bs' _ told j q ∙ node-text script chars e left origin ignored p t is.0 is.1 is.2
+        element-none r ns' ats' bs' _ told j q ∙ node-text drawing e left origin ignored p t is.0 is.1 is.2
 
     pub text-done : (x : Parsed) → r ≡ Ok x → Fit ns' ats' bs' (Ok (begun.Passed x.counts x.behind))
     text-done x q = (
       λ origin. element-done r ns' ats' bs' _ told x q
-          ∙ node-text script chars e left origin ignored p t is.0 is.1 is.2,
-      subst (ClosedFit script chars e.inside k.nodes ns' ats' bs') q closed,
+          ∙ node-text drawing e left origin ignored p t is.0 is.1 is.2,
+      subst (ClosedFit drawing e.inside k.nodes ns' ats' bs') q closed,
     )
 
   -- ANY OTHER ELEMENT
 
   module _ (is : IsOther left e.name e.space) (tag : ℕ) (named : tag ≡ tag_named e.name) (ns' ats' : List ℕ) (r : Result Parsed Refusal)
-      (told : parsed_of ns' ats' bs r ≡ parse_svg_element X tag ignored p t) (behind : ParsedFit script chars e.inside r) where
+      (told : parsed_of ns' ats' bs r ≡ parse_svg_element X tag ignored p t) (behind : ParsedFit drawing e.inside r) where
     made : parsed_of ns' ats' bs r ≡ parse_svg_element X (tag_named e.name) ignored p t
     made = told ∙ ap (λ g. parse_svg_element X g ignored p t) named
 
     pub other-refused : (j : Refusal) → r ≡ Err j → Fit ns' ats' bs (Err j)
     other-refused j q origin =
-        node-refused script chars e left origin ignored p t is.0 is.1 is.2 (number_of j) (element-none r ns' ats' bs _ made j q)
+        node-refused drawing e left origin ignored p t is.0 is.1 is.2 (number_of j) (element-none r ns' ats' bs _ made j q)
 
     module _ (x : Parsed) (q : r ≡ Ok x) where
       abbrev m : Counts
@@ -86,30 +88,30 @@ module _ (script chars ns ats bs : List ℕ) (k : Counts) (left : ℕ) (ignored 
       abbrev c : Cursor
       c = x.behind
 
-      nodes : SameNodes script chars e.inside c
-      nodes = element-behind r script chars e.inside behind x q
+      nodes : SameNodes drawing e.inside c
+      nodes = element-behind r drawing e.inside behind x q
 
       stands : done (tree_of ns' ats' bs m) ≡ parse_svg_element X (tag_named e.name) ignored p t
       stands = element-done r ns' ats' bs _ made x q
 
-      begun-made : Made script chars left ignored p e t (tree_of ns' ats' bs m) c
+      begun-made : Made drawing left ignored p e t (tree_of ns' ats' bs m) c
       begun-made = record {
         above = is.0;
-        under = made-under script chars ns ats bs k p e b ignored is.1 ns' ats' m c nodes stands;
+        under = made-under drawing ns ats bs k p e b ignored is.1 ns' ats' m c nodes stands;
         nodes = nodes;
-        more = made_one script chars ns ats bs k p e b ignored is.1 ns' ats' m c nodes stands;
+        more = made_one drawing ns ats bs k p e b ignored is.1 ns' ats' m c nodes stands;
       }
 
       pub other-use : eqb e.name EId.Use ≡ true → Fit ns' ats' bs (Ok (begun.Use m c))
       other-use u = (
-        λ origin. node-use script chars e left origin ignored p t is.0 is.1 is.2 (tree_of ns' ats' bs m) stands u,
+        λ origin. node-use drawing e left origin ignored p t is.0 is.1 is.2 (tree_of ns' ats' bs m) stands u,
         begun-made,
       )
 
       pub other-children : eqb e.name EId.Use ≡ false → Fit ns' ats' bs (Ok (begun.Children m c))
       other-children u = (
-        λ origin. ap (λ ys. each (node (plain chars) (events script chars) (left - 1)) (children_from zero ys) origin ignored k.nodes
+        λ origin. ap (λ ys. each (node (plain drawing.characters.now) (document drawing) (left - 1)) (children_from zero ys) origin ignored k.nodes
             (tree_of ns' ats' bs m)) nodes.events
-            ∙ node-children script chars e left origin ignored p t is.0 is.1 is.2 (tree_of ns' ats' bs m) stands u,
+            ∙ node-children drawing e left origin ignored p t is.0 is.1 is.2 (tree_of ns' ats' bs m) stands u,
         begun-made,
       )

@@ -1,19 +1,17 @@
 -- The functions of the recursion, by what they are told. Assumes nothing.
-use Prim.Native.Nat.{ℕ, zero, ◌+◌, ◌-◌, ◌≤◌, ◌<◌}
+use Prim.Native.Nat.{ℕ, zero, ◌+◌, ◌-◌, ◌≤◌}
 use Rattle.std.specs.Prelude.{Result, Ok, Err, OnOk}
-use Rattle.std.specs.Result.{is_err}
-use mathlib.Core.Bool.{true, false}
 use mathlib.Core.Path.{◌≡◌, refl, ap, sym, ◌∙◌, subst}
 use mathlib.Core.List.{List}
 use native.Mathlib.Omega.{arith}
-use lib.ListN.{length}
 use Rattle.refusal.specs.declared.Refusal.{Refusal}
 use Rattle.refusal.specs.Number.{number_of}
-use Rattle.model.specs.Drawing.{Event, events, children_from}
+use Rattle.model.specs.Drawing.{Event, children_from}
 use Rattle.model.specs.Tables.{Tree, Out, refused, done, then}
 use Rattle.model.specs.Parse.{each, node, plain}
+use Rattle.script.specs.declared.drawing.Drawing.{Drawing}
 use Rattle.script.specs.declared.cursor.Cursor.{Cursor}
-use Rattle.script.specs.Step.{Fit}
+use Rattle.script.specs.Step.{document}
 use Rattle.walk.specs.Nodes.{leave}
 use Rattle.walk.specs.Values.{events_at}
 use Rattle.tree.specs.declared.Counts.{Counts}
@@ -23,23 +21,23 @@ use Rattle.parse.specs.declared.State.{State}
 use Rattle.parse.specs.declared.met.Met.{Met}
 use Rattle.parse.specs.declared.met.Met.TheVariants.{Passed, Children, Copy, End}
 use Rattle.parse.specs.Met.{is_copied, next_of, Opens, first_of, level_built, outcome_of, rest_built, rest_nodes, rest_at}
-use Rattle.parse.specs.Met.{Reached, Copying, RestFit, MetNode, MetOr, MetFirst, MetEnd, MetFit, PastFit}
+use Rattle.parse.specs.Met.{Reached, Copying, RestFit, MetNode, MetFirst, MetEnd, MetFit, PastFit}
 use Rattle.parse.specs.Unbuilt.{Skipped}
 use Rattle.parse.proofs.Following.{each_first, leave-next, lies-next, then-refused, then-done}
 
 -- A node met, and what is left of it.
-module _ (script chars : List ℕ) (left origin p : ℕ) (xs : List Event) (low : ℕ) (t : Tree) (s' : State) (u : Tree) (met : Met)
-    (m : MetNode script chars left origin p xs low t s' u met) where
-  pub whole-refused : (j : Refusal) → refused (number_of j) ≡ rest_built script chars left t.node_count s' u met
-      → refused (number_of j) ≡ first_of script chars left origin p xs t
+module _ (drawing : Drawing) (left origin p : ℕ) (xs : List Event) (low : ℕ) (t : Tree) (s' : State) (u : Tree) (met : Met)
+    (m : MetNode drawing left origin p xs low t s' u met) where
+  pub whole-refused : (j : Refusal) → refused (number_of j) ≡ rest_built drawing left t.node_count s' u met
+      → refused (number_of j) ≡ first_of drawing left origin p xs t
   whole-refused j told = told ∙ m.built
 
-  module _ (s'' : State) (v : Tree) (told : done v ≡ rest_built script chars left t.node_count s' u met)
-      (behind : Reached script chars s'.origin (rest_nodes script chars s' met) (rest_at s' met) u.node_count s'' v) where
-    pub whole-node : done v ≡ first_of script chars left origin p xs t
+  module _ (s'' : State) (v : Tree) (told : done v ≡ rest_built drawing left t.node_count s' u met)
+      (behind : Reached drawing s'.origin (rest_nodes drawing s' met) (rest_at s' met) u.node_count s'' v) where
+    pub whole-node : done v ≡ first_of drawing left origin p xs t
     whole-node = told ∙ m.built
 
-    pub whole-behind : Reached script chars origin (next_of xs) low t.node_count s'' v
+    pub whole-behind : Reached drawing origin (next_of xs) low t.node_count s'' v
     whole-behind = record {
       by = behind.by ∙ m.by;
       fit = behind.fit;
@@ -53,26 +51,26 @@ module _ (script chars : List ℕ) (left origin p : ℕ) (xs : List Event) (low 
 -- ALL CHILDREN
 
 -- The loop goes on in the tables t, from the cursor in s, and comes to `all`, as it did from the cursor `from` on.
-pub record Goes (script chars : List ℕ) (left origin p : ℕ) (from : Cursor) (n : ℕ) (all : Out Tree) (s : State) (t : Tree)
+pub record Goes (drawing : Drawing) (left origin p : ℕ) (from : Cursor) (n : ℕ) (all : Out Tree) (s : State) (t : Tree)
     : Type 0 where
   pub by : s.origin ≡ origin
-  pub under : Underway script chars t p s.cursor
+  pub under : Underway drawing t p s.cursor
   pub later : from.at ≤ s.cursor.at
-  pub behind : leave 0 (events_at script chars s.cursor) ≡ leave 0 (events_at script chars from)
+  pub behind : leave 0 (events_at drawing s.cursor) ≡ leave 0 (events_at drawing from)
   pub more : n ≤ t.node_count
-  pub same : level_built script chars left origin p s.cursor t ≡ all
+  pub same : level_built drawing left origin p s.cursor t ≡ all
 
-pub goes_none : (script chars : List ℕ) (left p : ℕ) (s : State) (t : Tree) → Underway script chars t p s.cursor →
-    Goes script chars left s.origin p s.cursor t.node_count (level_built script chars left s.origin p s.cursor t) s t
-goes_none script chars left p s t u =
+pub goes_none : (drawing : Drawing) (left p : ℕ) (s : State) (t : Tree) → Underway drawing t p s.cursor →
+    Goes drawing left s.origin p s.cursor t.node_count (level_built drawing left s.origin p s.cursor t) s t
+goes_none drawing left p s t u =
     record { by = refl; under = u; later = omega arith; behind = refl; more = omega arith; same = refl }
 
 -- The loop goes on behind nodes of which nothing is built.
-pub goes-skipped : (script chars : List ℕ) (left origin p : ℕ) (from : Cursor) (n : ℕ) (all : Out Tree) (s : State) (ns ats bs : List ℕ) →
-    Goes script chars left origin p from n all s (tree_of ns ats bs s.counts) → (s' : State) → Skipped script chars left s s' →
-    Goes script chars left origin p from n all s' (tree_of ns ats bs s'.counts)
-goes-skipped script chars left origin p from n all s ns ats bs g s' h =
-    subst (λ (k : Counts). Goes script chars left origin p from n all s' (tree_of ns ats bs k)) (sym (ap (λ (y : State). y.counts) h.stood))
+pub goes-skipped : (drawing : Drawing) (left origin p : ℕ) (from : Cursor) (n : ℕ) (all : Out Tree) (s : State) (ns ats bs : List ℕ) →
+    Goes drawing left origin p from n all s (tree_of ns ats bs s.counts) → (s' : State) → Skipped drawing left s s' →
+    Goes drawing left origin p from n all s' (tree_of ns ats bs s'.counts)
+goes-skipped drawing left origin p from n all s ns ats bs g s' h =
+    subst (λ (k : Counts). Goes drawing left origin p from n all s' (tree_of ns ats bs k)) (sym (ap (λ (y : State). y.counts) h.stood))
     (record {
       by = ap (λ (y : State). y.origin) h.stood ∙ g.by;
       under = record {
@@ -91,36 +89,27 @@ goes-skipped script chars left origin p from n all s ns ats bs g s' h =
     })
 
 -- What was met and is no end is a node.
-met-first : (script chars : List ℕ) (left origin p : ℕ) (from : Cursor) (t : Tree) (s : State) (u : Tree) (met : Met)
-    → (met ≡ End → ⊥) → MetFit script chars left origin p from t s u (Ok met) → MetFirst script chars left origin p from t s u (Ok met)
-met-first script chars left origin p from t s u Passed z h = h
-met-first script chars left origin p from t s u Children z h = h
-met-first script chars left origin p from t s u Copy z h = h
-met-first script chars left origin p from t s u End z h = absurd (z refl)
+met-first : (drawing : Drawing) (left origin p : ℕ) (from : Cursor) (t : Tree) (s : State) (u : Tree) (met : Met)
+    → (met ≡ End → ⊥) → MetFit drawing left origin p from t s u (Ok met) → MetFirst drawing left origin p from t s u (Ok met)
+met-first drawing left origin p from t s u Passed z h = h
+met-first drawing left origin p from t s u Children z h = h
+met-first drawing left origin p from t s u Copy z h = h
+met-first drawing left origin p from t s u End z h = absurd (z refl)
 
--- An answer is a refusal, or it is not.
-is-done : (r : Result (Unit {0}) Refusal) → is_err r ≡ false → r ≡ Ok tt
-is-done (Ok x) e = refl
-is-done (Err j) e = cc
-
-pub nothing-told : (r : Result (Unit {0}) Refusal) (P : Type 0) → is_err r ≡ true → OnOk r P
-nothing-told (Ok x) P e = cc
-nothing-told (Err j) P e = tt
-
-module _ (script chars : List ℕ) (left origin p : ℕ) (from : Cursor) (n : ℕ) (all : Out Tree) (s : State) (t : Tree)
-    (g : Goes script chars left origin p from n all s t) (s' : State) (u : Tree) where
+module _ (drawing : Drawing) (left origin p : ℕ) (from : Cursor) (n : ℕ) (all : Out Tree) (s : State) (t : Tree)
+    (g : Goes drawing left origin p from n all s t) (s' : State) (u : Tree) where
   abbrev c : Cursor
   c = s.cursor
 
   abbrev xs : List Event
-  xs = events_at script chars c
+  xs = events_at drawing c
 
   -- The end.
-  module _ (ended : MetEnd script chars left s.origin p c t s' u) where
+  module _ (ended : MetEnd drawing left s.origin p c t s' u) where
     pub ends-all : done u ≡ all
-    ends-all = ended.built ∙ ap (λ x. level_built script chars left x p c t) g.by ∙ g.same
+    ends-all = ended.built ∙ ap (λ x. level_built drawing left x p c t) g.by ∙ g.same
 
-    pub ends-reached : Reached script chars origin (leave 0 (events_at script chars from)) from.at n s' u
+    pub ends-reached : Reached drawing origin (leave 0 (events_at drawing from)) from.at n s' u
     ends-reached =
         let h = ended.reached in
         record {
@@ -136,21 +125,21 @@ module _ (script chars : List ℕ) (left origin p : ℕ) (from : Cursor) (n : �
   -- The other nodes.
   abbrev others : Tree → Out Tree
   others w =
-      each (node (plain chars) (events script chars) left) (children_from zero (next_of xs)) s.origin (is_copied s.origin) p w
+      each (node (plain drawing.characters.now) (document drawing) left) (children_from zero (next_of xs)) s.origin (is_copied s.origin) p w
 
-  whole : Opens xs → then (first_of script chars left s.origin p xs t) others ≡ all
+  whole : Opens xs → then (first_of drawing left s.origin p xs t) others ≡ all
   whole opens =
-      each_first (node (plain chars) (events script chars) left) s.origin (is_copied s.origin) p t xs opens
-      ∙ ap (λ x. level_built script chars left x p c t) g.by
+      each_first (node (plain drawing.characters.now) (document drawing) left) s.origin (is_copied s.origin) p t xs opens
+      ∙ ap (λ x. level_built drawing left x p c t) g.by
       ∙ g.same
 
-  first-refused : Opens xs → (j : Refusal) → refused (number_of j) ≡ first_of script chars left s.origin p xs t
+  first-refused : Opens xs → (j : Refusal) → refused (number_of j) ≡ first_of drawing left s.origin p xs t
       → refused (number_of j) ≡ all
-  first-refused opens j h = then-refused (number_of j) (first_of script chars left s.origin p xs t) others h ∙ whole opens
+  first-refused opens j h = then-refused (number_of j) (first_of drawing left s.origin p xs t) others h ∙ whole opens
 
-  module _ (r : Result Met Refusal) (fit : MetFit script chars left s.origin p c t s' u r) where
-    told : (x : Result Met Refusal) → r ≡ x → MetFit script chars left s.origin p c t s' u x
-    told x q = subst (MetFit script chars left s.origin p c t s' u) q fit
+  module _ (r : Result Met Refusal) (fit : MetFit drawing left s.origin p c t s' u r) where
+    told : (x : Result Met Refusal) → r ≡ x → MetFit drawing left s.origin p c t s' u x
+    told x q = subst (MetFit drawing left s.origin p c t s' u) q fit
 
     -- It is refused where it is met.
     pub met-refused : (j : Refusal) → r ≡ Err j → refused (number_of j) ≡ all
@@ -158,40 +147,36 @@ module _ (script chars : List ℕ) (left origin p : ℕ) (from : Cursor) (n : �
 
     -- A node, and the answer r' on what is left of it.
     module _ (met : Met) (is : r ≡ Ok met) (some : met ≡ End → ⊥) (v : Tree) (r' : Result (Unit {0}) Refusal)
-        (rest : outcome_of v r' ≡ rest_built script chars left t.node_count s' u met) where
-      first : MetFirst script chars left s.origin p c t s' u (Ok met)
-      first = met-first script chars left s.origin p c t s' u met some (told (Ok met) is)
+        (rest : outcome_of v r' ≡ rest_built drawing left t.node_count s' u met) where
+      first : MetFirst drawing left s.origin p c t s' u (Ok met)
+      first = met-first drawing left s.origin p c t s' u met some (told (Ok met) is)
 
-      pub goes-refused : is_err r' ≡ true → outcome_of v r' ≡ all
-      goes-refused e = go r' rest e
-        where
-          go : (x : Result (Unit {0}) Refusal) → outcome_of v x ≡ rest_built script chars left t.node_count s' u met → is_err x ≡ true
-              → outcome_of v x ≡ all
-          go (Ok y) h e = cc
-          go (Err j) h e =
-              first-refused first.opens j (whole-refused script chars left s.origin p xs (c.at + 1) t s' u met first.node j h)
+      pub goes-refused : (j : Refusal) → r' ≡ Err j → refused (number_of j) ≡ all
+      goes-refused j e =
+          first-refused first.opens j
+          (whole-refused drawing left s.origin p xs (c.at + 1) t s' u met first.node j (sym (ap (outcome_of v) e) ∙ rest))
 
       module _ (s'' : State)
-          (behind : OnOk r' (Reached script chars s'.origin (rest_nodes script chars s' met) (rest_at s' met) u.node_count s'' v))
-          (ok : is_err r' ≡ false) where
-        built : done v ≡ rest_built script chars left t.node_count s' u met
-        built = sym (ap (outcome_of v) (is-done r' ok)) ∙ rest
+          (behind : OnOk r' (Reached drawing s'.origin (rest_nodes drawing s' met) (rest_at s' met) u.node_count s'' v))
+          (ok : r' ≡ Ok tt) where
+        built : done v ≡ rest_built drawing left t.node_count s' u met
+        built = sym (ap (outcome_of v) ok) ∙ rest
 
-        reached : Reached script chars s'.origin (rest_nodes script chars s' met) (rest_at s' met) u.node_count s'' v
+        reached : Reached drawing s'.origin (rest_nodes drawing s' met) (rest_at s' met) u.node_count s'' v
         reached =
-            subst (λ (y : Result (Unit {0}) Refusal). OnOk y (Reached script chars s'.origin (rest_nodes script chars s' met)
-            (rest_at s' met) u.node_count s'' v)) (is-done r' ok) behind
+            subst (λ (y : Result (Unit {0}) Refusal). OnOk y (Reached drawing s'.origin (rest_nodes drawing s' met)
+            (rest_at s' met) u.node_count s'' v)) ok behind
 
-        after : Reached script chars s.origin (next_of xs) (c.at + 1) t.node_count s'' v
-        after = whole-behind script chars left s.origin p xs (c.at + 1) t s' u met first.node s'' v built reached
+        after : Reached drawing s.origin (next_of xs) (c.at + 1) t.node_count s'' v
+        after = whole-behind drawing left s.origin p xs (c.at + 1) t s' u met first.node s'' v built reached
 
-        pub goes_on : Goes script chars left origin p from n all s'' v
+        pub goes_on : Goes drawing left origin p from n all s'' v
         goes_on = record {
           by = after.by ∙ g.by;
           under = record {
             fit = after.fit;
             all = g.under.all;
-            lies = rw after.behind (lies-next chars xs first.opens g.under.lies);
+            lies = rw after.behind (lies-next drawing.characters.now xs first.opens g.under.lies);
             small = g.under.small;
             tidy = after.tidy;
             few = after.few;
@@ -200,59 +185,63 @@ module _ (script chars : List ℕ) (left origin p : ℕ) (from : Cursor) (n : �
           later = omega (arith, g.later, after.later);
           behind = ap (leave 0) after.behind ∙ leave-next xs first.opens ∙ g.behind;
           more = omega (arith, g.more, after.more);
-          same = ap (λ x. level_built script chars left x p s''.cursor v) (sym g.by)
-              ∙ ap (λ zs. each (node (plain chars) (events script chars) left) (children_from zero zs) s.origin (is_copied s.origin) p v)
+          same = ap (λ x. level_built drawing left x p s''.cursor v) (sym g.by)
+              ∙ ap (λ zs. each (node (plain drawing.characters.now) (document drawing) left) (children_from zero zs) s.origin (is_copied s.origin) p v)
               after.behind
-              ∙ then-done v (first_of script chars left s.origin p xs t) others
-              (whole-node script chars left s.origin p xs (c.at + 1) t s' u met first.node s'' v built reached)
+              ∙ then-done v (first_of drawing left s.origin p xs t) others
+              (whole-node drawing left s.origin p xs (c.at + 1) t s' u met first.node s'' v built reached)
               ∙ whole first.opens;
         }
 
 -- WHAT A USE COPIES
 
-module _ (script chars : List ℕ) (left p : ℕ) (s : State) (t : Tree) (h : Copying script chars left p s t) where
+module _ (drawing : Drawing) (left p : ℕ) (s : State) (t : Tree) (h : Copying drawing left p s t) where
   abbrev s₁ : State
   s₁ = record s { origin = s.copier }
 
   abbrev ys : List Event
-  ys = events_at script chars s.cursor
+  ys = events_at drawing s.cursor
 
-  copy-met : (less : ℕ) (s₂ : State) (u : Tree) (met : Met) → MetFit script chars less s.copier p s.cursor t s₂ u (Ok met)
-      → MetFirst script chars less s.copier p s.cursor t s₂ u (Ok met)
+  copy-met : (less : ℕ) (s₂ : State) (u : Tree) (met : Met) → MetFit drawing less s.copier p s.cursor t s₂ u (Ok met)
+      → MetFirst drawing less s.copier p s.cursor t s₂ u (Ok met)
   copy-met less s₂ u Passed m = m
   copy-met less s₂ u Children m = m
   copy-met less s₂ u Copy m = m
   copy-met less s₂ u End m = absurd (m.none h.opens)
 
   module _ (less : ℕ) (is : less ≡ left - 2) (s₂ : State) (u : Tree) where
-    at-less : first_of script chars less s.copier p ys t ≡ first_of script chars (left - 2) s.copier p ys t
-    at-less = ap (λ x. first_of script chars x s.copier p ys t) is
+    at-less : first_of drawing less s.copier p ys t ≡ first_of drawing (left - 2) s.copier p ys t
+    at-less = ap (λ x. first_of drawing x s.copier p ys t) is
 
-    pub copy-refused : (j : Refusal) → MetFit script chars less s.copier p s.cursor t s₂ u (Err j)
-        → refused (number_of j) ≡ first_of script chars (left - 2) s.copier p ys t
+    pub copy-refused : (j : Refusal) → MetFit drawing less s.copier p s.cursor t s₂ u (Err j)
+        → refused (number_of j) ≡ first_of drawing (left - 2) s.copier p ys t
     copy-refused j m = m.node ∙ at-less
 
-    module _ (met : Met) (found : MetFit script chars less s.copier p s.cursor t s₂ u (Ok met)) where
-      copied : MetFirst script chars less s.copier p s.cursor t s₂ u (Ok met)
+    module _ (met : Met) (found : MetFit drawing less s.copier p s.cursor t s₂ u (Ok met)) where
+      copied : MetFirst drawing less s.copier p s.cursor t s₂ u (Ok met)
       copied = copy-met less s₂ u met found
 
-      pub copy_rest : RestFit script chars less t.node_count s₂ u met
+      pub copy_rest : RestFit drawing less t.node_count s₂ u met
       copy_rest = copied.node.rest
 
-      pub copy-left : (j : Refusal) → refused (number_of j) ≡ rest_built script chars less t.node_count s₂ u met
-          → refused (number_of j) ≡ first_of script chars (left - 2) s.copier p ys t
-      copy-left j told = whole-refused script chars less s.copier p ys (s.cursor.at + 1) t s₂ u met copied.node j told ∙ at-less
+      pub copy-built : (v : Tree) (r : Result (Unit {0}) Refusal) → outcome_of v r ≡ rest_built drawing less t.node_count s₂ u met
+          → outcome_of v r ≡ first_of drawing (left - 2) s.copier p ys t
+      copy-built v r told = told ∙ copied.node.built ∙ at-less
 
-      module _ (s₃ : State) (v : Tree) (told : done v ≡ rest_built script chars less t.node_count s₂ u met)
-          (behind : Reached script chars s₂.origin (rest_nodes script chars s₂ met) (rest_at s₂ met) u.node_count s₃ v) where
-        pub copy_done : done v ≡ first_of script chars (left - 2) s.copier p ys t
-        copy_done = whole-node script chars less s.copier p ys (s.cursor.at + 1) t s₂ u met copied.node s₃ v told behind ∙ at-less
+      pub copy-left : (j : Refusal) → refused (number_of j) ≡ rest_built drawing less t.node_count s₂ u met
+          → refused (number_of j) ≡ first_of drawing (left - 2) s.copier p ys t
+      copy-left j told = copy-built t (Err j) told
 
-        pub copy-reached : (s₄ : State) → PastFit script chars s.children s₃ s₄ →
-            Reached script chars s.origin (leave 0 (events_at script chars s.children)) s.children.at t.node_count
+      module _ (s₃ : State) (v : Tree) (told : done v ≡ rest_built drawing less t.node_count s₂ u met)
+          (behind : Reached drawing s₂.origin (rest_nodes drawing s₂ met) (rest_at s₂ met) u.node_count s₃ v) where
+        pub copy_done : done v ≡ first_of drawing (left - 2) s.copier p ys t
+        copy_done = copy-built v (Ok tt) told
+
+        pub copy-reached : (s₄ : State) → PastFit drawing s.children s₃ s₄ →
+            Reached drawing s.origin (leave 0 (events_at drawing s.children)) s.children.at t.node_count
             (record s₄ { origin = s.origin }) v
         copy-reached s₄ past =
-            let copied = whole-behind script chars less s.copier p ys (s.cursor.at + 1) t s₂ u met copied.node s₃ v told behind in
+            let copied = whole-behind drawing less s.copier p ys (s.cursor.at + 1) t s₂ u met copied.node s₃ v told behind in
             record {
               by = refl;
               fit = past.fit;

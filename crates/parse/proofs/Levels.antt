@@ -7,10 +7,12 @@ use native.Mathlib.Omega.{arith}
 use lib.Dec.{eqb}
 use Rattle.model.specs.Base.{pick}
 use Rattle.model.specs.EId
-use Rattle.model.specs.Drawing.{Element, Event, events, children_from, has_tag_name, use_target}
+use Rattle.model.specs.Drawing.{Element, Event, children_from, has_tag_name, use_target}
 use Rattle.model.specs.Tables.{Tree, Out, refused, done, then}
 use Rattle.model.specs.Element.{parse_svg_element}
 use Rattle.model.specs.Parse.{Ops, Builder, each, copy, label, level, node, plain}
+use Rattle.script.specs.Step.{document}
+use Rattle.script.specs.declared.drawing.Drawing.{Drawing}
 use Rattle.walk.specs.declared.node.Opened.{Opened}
 use Rattle.walk.specs.Nodes.{element_of, node_at}
 use Rattle.walk.specs.Values.{events_at}
@@ -27,27 +29,27 @@ node-level {S} o all (suc (suc k)) h =
     ap (λ i. level o all (node o all i) (node o all k)) one ∙ ap (λ i. level o all (node o all (suc (suc k) - 1)) (node o all i)) two
 
 -- The element e with that many levels left.
-module _ (script chars : List ℕ) (e : Opened) (left origin : ℕ) (ignored : Bool) (p : ℕ) (t : Tree) where
+module _ (drawing : Drawing) (e : Opened) (left origin : ℕ) (ignored : Bool) (p : ℕ) (t : Tree) where
   abbrev X : Element
-  X = element_of script chars e
+  X = element_of drawing e
 
   abbrev xs : List Event
-  xs = events_at script chars e.inside
+  xs = events_at drawing e.inside
 
   abbrev build : ℕ → Builder Tree
-  build = node (plain chars) (events script chars)
+  build = node (plain drawing.characters.now) (document drawing)
 
   abbrev whole : Out Tree
-  whole = build left (node_at script chars e) origin ignored p t
+  whole = build left (node_at drawing e) origin ignored p t
 
   abbrev labelled : Out Tree
-  labelled = label (plain chars) (events script chars) X xs ignored p t
+  labelled = label (plain drawing.characters.now) (document drawing) X xs ignored p t
 
   abbrev made : Out Tree
   made = parse_svg_element X (tag_named e.name) ignored p t
 
   abbrev copies : Tree → Out Tree
-  copies = copy (plain chars) (events script chars) (build (left - 2)) (use_target (events script chars) X origin) X.number t.node_count
+  copies = copy (plain drawing.characters.now) (document drawing) (build (left - 2)) (use_target (document drawing) X origin) X.number t.node_count
 
   abbrev goes_on : Tree → Out Tree
   goes_on = each (build (left - 1)) (children_from zero xs) origin ignored t.node_count
@@ -60,7 +62,7 @@ module _ (script chars : List ℕ) (e : Opened) (left origin : ℕ) (ignored : B
   told : 1 ≤ left → cases (is_parsed e.name e.space) (eqb e.name EId.Text) (eqb e.name EId.Use) ≡ whole
   unfolding has_tag_name
   told h =
-      sym (ap (λ (f : Builder Tree). f (node_at script chars e) origin ignored p t) (node-level (plain chars) (events script chars) left h))
+      sym (ap (λ (f : Builder Tree). f (node_at drawing e) origin ignored p t) (node-level (plain drawing.characters.now) (document drawing) left h))
 
   module _ (h : 1 ≤ left) where
     pub node-skipped : is_parsed e.name e.space ≡ false → done t ≡ whole

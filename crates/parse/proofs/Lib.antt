@@ -6,3 +6,4 @@ pub mod Following
 pub mod Finding
 pub mod Skipping
 pub mod Cycling
+pub mod Words

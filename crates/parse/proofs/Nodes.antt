@@ -9,13 +9,14 @@ use lib.ListN.{length}
 use Rattle.model.specs.Base.{pick, and}
 use Rattle.model.specs.EId
 use Rattle.model.specs.Names.{is_element}
-use Rattle.model.specs.Drawing.{Element, events, use_target}
+use Rattle.model.specs.Drawing.{Element, use_target}
 use Rattle.model.specs.Tables.{Tree, done, add_element}
 use Rattle.model.specs.Element.{parse_svg_element}
 use Rattle.model.proofs.Theorems.Sim.{and_left, and_right, events-target}
 use Rattle.model.specs.Theorems.Inside.{LiesElement, LiesText}
+use Rattle.script.specs.declared.drawing.Drawing.{Drawing}
 use Rattle.script.specs.declared.cursor.Cursor.{Cursor}
-use Rattle.script.specs.Step.{Fit}
+use Rattle.script.specs.Step.{Fit, document}
 use Rattle.walk.specs.declared.node.Opened.{Opened}
 use Rattle.walk.specs.Nodes.{element_of, node_at, leave, Standing}
 use Rattle.walk.specs.Values.{events_at, SameNodes}
@@ -43,17 +44,17 @@ tag-element name space h = go (eqb name EId.A)
     go false = named
 
 -- Passed over, with the tables as they were.
-pub closed_same : (script chars : List ℕ) (t : Tree) (p : ℕ) (from past : Cursor) → Underway script chars t p from →
-    events_at script chars past ≡ leave 0 (events_at script chars from) → Fit script past → from.at ≤ past.at →
-    Closed script chars from t.node_count t past
-closed_same script chars t p from past u q f l =
+pub closed_same : (drawing : Drawing) (t : Tree) (p : ℕ) (from past : Cursor) → Underway drawing t p from →
+    events_at drawing past ≡ leave 0 (events_at drawing from) → Fit drawing past → from.at ≤ past.at →
+    Closed drawing from t.node_count t past
+closed_same drawing t p from past u q f l =
     record { fit = f; later = l; behind = q; tidy = u.tidy; few = u.few; more = omega arith }
 
-module _ (script chars ns ats bs : List ℕ) (k : Counts) (p : ℕ) (e : Opened) (b : Beginning script chars (tree_of ns ats bs k) p e)
+module _ (drawing : Drawing) (ns ats bs : List ℕ) (k : Counts) (p : ℕ) (e : Opened) (b : Beginning drawing (tree_of ns ats bs k) p e)
     (ignored : Bool) (named : is_parsed e.name e.space ≡ true) (ns' ats' : List ℕ) (taken : Counts) (behind : Cursor)
-    (nodes : SameNodes script chars e.inside behind)
+    (nodes : SameNodes drawing e.inside behind)
     (told : done (tree_of ns' ats' bs taken)
-    ≡ parse_svg_element (element_of script chars e) (tag_named e.name) ignored p (tree_of ns ats bs k)) where
+    ≡ parse_svg_element (element_of drawing e) (tag_named e.name) ignored p (tree_of ns ats bs k)) where
   abbrev t : Tree
   t = tree_of ns ats bs k
 
@@ -61,11 +62,11 @@ module _ (script chars ns ats bs : List ℕ) (k : Counts) (p : ℕ) (e : Opened)
   u = tree_of ns' ats' bs taken
 
   abbrev X : Element
-  X = element_of script chars e
+  X = element_of drawing e
 
-  grown : Grown (length chars) t u
+  grown : Grown (length drawing.characters.now) t u
   grown =
-      element-grown (length chars) t b.inside.tidy (tag_named e.name) (tag-element e.name e.space named) p
+      element-grown (length drawing.characters.now) t b.inside.tidy (tag_named e.name) (tag-element e.name e.space named) p
       b.inside.below ignored X b.element u told
 
   texts : taken.text ≡ k.text
@@ -76,7 +77,7 @@ module _ (script chars ns ats bs : List ℕ) (k : Counts) (p : ℕ) (e : Opened)
   made_one = omega (arith, grown.one)
 
   -- What stands inside it can be built below its node.
-  pub made-under : Underway script chars u k.nodes behind
+  pub made-under : Underway drawing u k.nodes behind
   made-under = record {
     fit = nodes.fit;
     all = b.inside.all;
@@ -88,12 +89,12 @@ module _ (script chars ns ats bs : List ℕ) (k : Counts) (p : ℕ) (e : Opened)
   }
 
 -- The element l that the use e copies can be built below any node.
-pub target-begins : (script chars : List ℕ) (t : Tree) (p : ℕ) (from : Cursor) (e l : Opened) (origin : ℕ) →
-    Underway script chars t p from → Standing script l →
-    node_at script chars l ≡ use_target (events script chars) (element_of script chars e) origin → Beginning script chars t p l
-target-begins script chars t p from e l origin u s q =
-    let h : Lies chars (node_at script chars l) = subst (Lies chars) (sym q)
-    (events-target (LiesElement (length chars)) (LiesText (length chars)) (events script chars) (element_of script chars e) origin
+pub target-begins : (drawing : Drawing) (t : Tree) (p : ℕ) (from : Cursor) (e l : Opened) (origin : ℕ) →
+    Underway drawing t p from → Standing drawing l →
+    node_at drawing l ≡ use_target (document drawing) (element_of drawing e) origin → Beginning drawing t p l
+target-begins drawing t p from e l origin u s q =
+    let h : Lies drawing.characters.now (node_at drawing l) = subst (Lies drawing.characters.now) (sym q)
+    (events-target (LiesElement (length drawing.characters.now)) (LiesText (length drawing.characters.now)) (document drawing) (element_of drawing e) origin
     u.all) in
     record {
       inside = record {

@@ -7,11 +7,12 @@ use native.Mathlib.Numerals.{add-one}
 use native.Mathlib.Omega.{arith}
 use Rattle.model.specs.Base.{pick}
 use Rattle.model.specs.Drawing as model
-use Rattle.model.specs.Drawing.{Element, Source, Event, begin, close, events, children_from, has_tag_name}
+use Rattle.model.specs.Drawing.{Element, Source, Event, begin, close, children_from, has_tag_name}
 use Rattle.model.specs.Tables.{Tree, Out, done}
 use Rattle.model.specs.Parse.{Builder, each, node, plain}
+use Rattle.script.specs.declared.drawing.Drawing.{Drawing}
 use Rattle.script.specs.declared.cursor.Cursor.{Cursor}
-use Rattle.script.specs.Step.{Fit}
+use Rattle.script.specs.Step.{Fit, document}
 use Rattle.walk.specs.Nodes.{leave}
 use Rattle.walk.specs.Values.{events_at}
 use Rattle.walk.proofs.Along.{behind-close}
@@ -145,8 +146,8 @@ module _ (chars : List ℕ) (all : List Event) (left : ℕ) (above : 1 ≤ left)
 
 -- THE CURSOR IS MOVED
 
-pub skipped-none : (script chars : List ℕ) (left : ℕ) (s : State) → Fit script s.cursor → Skipped script chars left s s
-skipped-none script chars left s f = record {
+pub skipped-none : (drawing : Drawing) (left : ℕ) (s : State) → Fit drawing s.cursor → Skipped drawing left s s
+skipped-none drawing left s f = record {
   stood = refl;
   fit = f;
   later = omega arith;
@@ -155,17 +156,17 @@ skipped-none script chars left s f = record {
   same = λ o p t. refl;
 }
 
-pub skipped-past : (script chars : List ℕ) (left : ℕ) (s : State) → (left ≡ 0 → ⊥) → (past : Cursor) →
-    events_at script chars past ≡ past_unbuilt 0 (events_at script chars s.cursor) → Fit script past → s.cursor.at ≤ past.at →
-    Skipped script chars left s (record s { cursor = past })
-skipped-past script chars left s h past q f l =
-    let xs = events_at script chars s.cursor in
+pub skipped-past : (drawing : Drawing) (left : ℕ) (s : State) → (left ≡ 0 → ⊥) → (past : Cursor) →
+    events_at drawing past ≡ past_unbuilt 0 (events_at drawing s.cursor) → Fit drawing past → s.cursor.at ≤ past.at →
+    Skipped drawing left s (record s { cursor = past })
+skipped-past drawing left s h past q f l =
+    let xs = events_at drawing s.cursor in
     record {
       stood = refl;
       fit = f;
       later = l;
       behind = ap (leave 0) q ∙ leave-unbuilt 0 xs;
-      lies = λ y. subst (Lies chars) (sym q) (lies-unbuilt chars 0 xs y);
-      same = λ o p t. ap (λ zs. each (node (plain chars) (events script chars) left) (children_from 0 zs) o (is_copied o) p t) q
-          ∙ each-unbuilt chars (events script chars) left (let z : 1 ≤ left = omega (arith, h) in z) o (is_copied o) p t 0 xs;
+      lies = λ y. subst (Lies drawing.characters.now) (sym q) (lies-unbuilt drawing.characters.now 0 xs y);
+      same = λ o p t. ap (λ zs. each (node (plain drawing.characters.now) (document drawing) left) (children_from 0 zs) o (is_copied o) p t) q
+          ∙ each-unbuilt drawing.characters.now (document drawing) left (let z : 1 ≤ left = omega (arith, h) in z) o (is_copied o) p t 0 xs;
     }

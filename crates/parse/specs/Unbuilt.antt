@@ -4,6 +4,7 @@ use Rattle.model.specs.Base.{pick}
 use Rattle.model.specs.Drawing as model
 use Rattle.model.specs.Drawing.{Event, begin, close}
 use Rattle.model.specs.Tables.{Tree}
+use Rattle.script.specs.declared.drawing.Drawing.{Drawing}
 use Rattle.script.specs.Step.{Fit}
 use Rattle.walk.specs.Nodes.{leave}
 use Rattle.walk.specs.Values.{events_at}
@@ -28,11 +29,11 @@ past_unbuilt zero (close ∷ xs) = close ∷ xs
 past_unbuilt (suc k) (close ∷ xs) = past_unbuilt k xs
 
 -- The cursor is moved over some of them, with that many levels left: what comes of the others is what comes of all.
-pub record Skipped (script chars : List ℕ) (left : ℕ) (s s' : State) : Type 0 where
+pub record Skipped (drawing : Drawing) (left : ℕ) (s s' : State) : Type 0 where
   pub stood : s' ≡ record s { cursor = s'.cursor }
-  pub fit : Fit script s'.cursor
+  pub fit : Fit drawing s'.cursor
   pub later : s.cursor.at ≤ s'.cursor.at
-  pub behind : leave 0 (events_at script chars s'.cursor) ≡ leave 0 (events_at script chars s.cursor)
-  pub lies : Lies chars (events_at script chars s.cursor) → Lies chars (events_at script chars s'.cursor)
+  pub behind : leave 0 (events_at drawing s'.cursor) ≡ leave 0 (events_at drawing s.cursor)
+  pub lies : Lies drawing.characters.now (events_at drawing s.cursor) → Lies drawing.characters.now (events_at drawing s'.cursor)
   pub same : (origin p : ℕ) (t : Tree) →
-      level_built script chars left origin p s'.cursor t ≡ level_built script chars left origin p s.cursor t
+      level_built drawing left origin p s'.cursor t ≡ level_built drawing left origin p s.cursor t

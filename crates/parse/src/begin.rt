@@ -11,13 +11,13 @@ use label::whole::parse_svg_text_element;
 use names::eid;
 use pieces::content::code_of;
 use refusal::Refusal;
+use script::drawing::Drawing;
 use tree::Counts;
 use walk::node::{Opened, past_element};
 
 // The text element e, which is done with all that stands in it.
 fn begin_text(
-    script: &[u8],
-    characters: &[u8],
+    drawing: &Drawing,
     slots: &[u16],
     nodes: &mut [u32],
     attributes: &mut [u32],
@@ -28,23 +28,22 @@ fn begin_text(
     parent: u32,
     e: Opened,
 ) -> Result<Begun, Refusal>
-    requires beginning { Beginning script.now characters.now (tree_of nodes.old attributes.old text.old counts) parent e }
+    requires beginning { Beginning drawing.now (tree_of nodes.old attributes.old text.old counts) parent e }
     requires text { IsText left e.name e.space }
-    requires memo { Memo script.now characters.now slots.now }
-    ensures { BegunFit script.now characters.now left ignored parent e
+    requires memo { Memo drawing.now slots.now }
+    ensures { BegunFit drawing.now left ignored parent e
         (tree_of nodes.old attributes.old text.old counts)
         nodes.new attributes.new text.new result }
 {
     let parsed = parse_svg_text_element(
-        script, characters, slots, nodes, attributes, text, counts, parent, ignored, e,
+        drawing, slots, nodes, attributes, text, counts, parent, ignored, e,
     )?;
     Ok(Begun::Passed(parsed.counts, parsed.behind))
 }
 
 // Any other element e.
 fn begin_element(
-    script: &[u8],
-    characters: &[u8],
+    drawing: &Drawing,
     nodes: &mut [u32],
     attributes: &mut [u32],
     text: &[u8],
@@ -54,16 +53,15 @@ fn begin_element(
     parent: u32,
     e: Opened,
 ) -> Result<Begun, Refusal>
-    requires beginning { Beginning script.now characters.now (tree_of nodes.old attributes.old text.now counts) parent e }
+    requires beginning { Beginning drawing.now (tree_of nodes.old attributes.old text.now counts) parent e }
     requires other { IsOther left e.name e.space }
-    ensures { BegunFit script.now characters.now left ignored parent e
+    ensures { BegunFit drawing.now left ignored parent e
         (tree_of nodes.old attributes.old text.now counts)
         nodes.new attributes.new text.now result }
 {
     let code = code_of(e.name);
     let parsed = parse_svg_element(
-        script,
-        characters,
+        drawing,
         nodes,
         attributes,
         counts,
@@ -81,8 +79,7 @@ fn begin_element(
 // The element e below `parent`; `left` is 1025 minus its depth. Depth is tested first. An element that becomes no node is passed over with
 // all that stands in it.
 pub fn begin_node(
-    script: &[u8],
-    characters: &[u8],
+    drawing: &Drawing,
     slots: &[u16],
     nodes: &mut [u32],
     attributes: &mut [u32],
@@ -93,9 +90,9 @@ pub fn begin_node(
     parent: u32,
     e: Opened,
 ) -> Result<Begun, Refusal>
-    requires beginning { Beginning script.now characters.now (tree_of nodes.old attributes.old text.old counts) parent e }
-    requires memo { Memo script.now characters.now slots.now }
-    ensures { BegunFit script.now characters.now left ignored parent e
+    requires beginning { Beginning drawing.now (tree_of nodes.old attributes.old text.old counts) parent e }
+    requires memo { Memo drawing.now slots.now }
+    ensures { BegunFit drawing.now left ignored parent e
         (tree_of nodes.old attributes.old text.old counts)
         nodes.new attributes.new text.new result }
 {
@@ -104,15 +101,15 @@ pub fn begin_node(
         return Err(Refusal::ElementsLimitReached);
     }
     if !is_parsed(e.name, e.space) {
-        let past = past_element(script, characters, inside);
+        let past = past_element(drawing, inside);
         return Ok(Begun::Passed(counts, past));
     }
     if code_of(e.name) == eid::TEXT {
         return begin_text(
-            script, characters, slots, nodes, attributes, text, counts, left, ignored, parent, e,
+            drawing, slots, nodes, attributes, text, counts, left, ignored, parent, e,
         );
     }
     begin_element(
-        script, characters, nodes, attributes, text, counts, left, ignored, parent, e,
+        drawing, nodes, attributes, text, counts, left, ignored, parent, e,
     )
 }

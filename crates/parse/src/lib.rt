@@ -11,13 +11,15 @@ pub mod node;
 pub mod unbuilt;
 
 // Where the recursion stands, and how much of the tables is taken: it is lent to every level, and a level's own frame has none of it. A
-// cursor, where the children of the last `use` that copies begin, the number of that `use`, and the number of the `use` by which the nodes
-// at the cursor are copied, 0 for none.
+// cursor, and where the children of the last `use` that copies begin.
 #[derive(Clone, Copy)]
 pub struct State {
     pub cursor: Cursor,
     pub children: Cursor,
+    // The number of that `use`: its command's, from 1 on, and 0 where none has copied.
     pub copier: usize,
+    // The number of the `use` by which the nodes at the cursor are copied, 0 where they are not. It is no `Option`: the model's `node`
+    // takes this number, with its 0.
     pub origin: usize,
     pub counts: Counts,
 }

@@ -13,6 +13,7 @@ use crate::{Begun, State};
 use links::link::use_target;
 use refusal::Refusal;
 use script::cursor::Cursor;
+use script::drawing::Drawing;
 use walk::node::{Item, Opened, next_item, past_element};
 
 // What was met, and so what comes next: the node is done, and the cursor stands behind it; its children, from the cursor on; what it
@@ -28,19 +29,18 @@ pub enum Met {
 // What the use e copies, whose children begin at `children`.
 fn begin_copy(
     state: &mut State,
-    script: &[u8],
-    characters: &[u8],
+    drawing: &Drawing,
     slots: &[u16],
     e: Opened,
     children: Cursor,
 ) -> Met
-    requires standing { Standing script.now e }
-    requires fit { Fit script.now children }
-    requires memo { Memo script.now characters.now slots.now }
-    ensures { CopyFit script.now characters.now e children state.old state.new result }
+    requires standing { Standing drawing.now e }
+    requires fit { Fit drawing.now children }
+    requires memo { Memo drawing.now slots.now }
+    ensures { CopyFit drawing.now e children state.old state.new result }
 {
-    let Some(l) = use_target(script, characters, slots, e, state.origin) else {
-        state.cursor = past_element(script, characters, children);
+    let Some(l) = use_target(drawing, slots, e, state.origin) else {
+        state.cursor = past_element(drawing, children);
         return Met::Passed;
     };
     let number = e.own.number + 1;
@@ -55,27 +55,24 @@ fn begin_at(
     state: &mut State,
     left: u32,
     parent: u32,
-    script: &[u8],
-    characters: &[u8],
+    drawing: &Drawing,
     nodes: &mut [u32],
     attributes: &mut [u32],
     text: &mut [u8],
     slots: &[u16],
     e: Opened,
 ) -> Result<Met, Refusal>
-    requires beginning { Beginning script.now characters.now
-        (tree_of nodes.old attributes.old text.old state.old.counts) parent e }
-    requires standing { Standing script.now e }
-    requires memo { Memo script.now characters.now slots.now }
-    ensures { MetOr script.now characters.now left state.old.origin parent
-        (node_at script.now characters.now e) e.inside.at
+    requires beginning { Beginning drawing.now (tree_of nodes.old attributes.old text.old state.old.counts) parent e }
+    requires standing { Standing drawing.now e }
+    requires memo { Memo drawing.now slots.now }
+    ensures { MetOr drawing.now left state.old.origin parent
+        (node_at drawing.now e) e.inside.at
         (tree_of nodes.old attributes.old text.old state.old.counts)
         state.new (tree_of nodes.new attributes.new text.new state.new.counts) result }
 {
     let ignored = is_copied(state.origin);
     let begun = begin_node(
-        script,
-        characters,
+        drawing,
         slots,
         nodes,
         attributes,
@@ -99,7 +96,7 @@ fn begin_at(
         }
         Begun::Use(k, c) => {
             state.counts = k;
-            Ok(begin_copy(state, script, characters, slots, e, c))
+            Ok(begin_copy(state, drawing, slots, e, c))
         }
     }
 }
@@ -120,23 +117,21 @@ pub fn meet(
     state: &mut State,
     left: u32,
     parent: u32,
-    script: &[u8],
-    characters: &[u8],
+    drawing: &Drawing,
     nodes: &mut [u32],
     attributes: &mut [u32],
     text: &mut [u8],
     slots: &[u16],
 ) -> Result<Met, Refusal>
-    requires underway { Underway script.now characters.now (tree_of nodes.old attributes.old text.old state.old.counts) parent
-        state.old.cursor }
-    requires memo { Memo script.now characters.now slots.now }
-    ensures { MetFit script.now characters.now left state.old.origin parent state.old.cursor
+    requires underway { Underway drawing.now (tree_of nodes.old attributes.old text.old state.old.counts) parent state.old.cursor }
+    requires memo { Memo drawing.now slots.now }
+    ensures { MetFit drawing.now left state.old.origin parent state.old.cursor
         (tree_of nodes.old attributes.old text.old state.old.counts)
         state.new (tree_of nodes.new attributes.new text.new state.new.counts) result }
 {
-    match next_item(script, characters, state.cursor) {
+    match next_item(drawing, state.cursor) {
         Item::Begin(e) => begin_at(
-            state, left, parent, script, characters, nodes, attributes, text, slots, e,
+            state, left, parent, drawing, nodes, attributes, text, slots, e,
         ),
         Item::Text(_, _, n) => hand_over(state, left, n),
         Item::Other(n) => hand_over(state, left, n),

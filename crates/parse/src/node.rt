@@ -15,6 +15,7 @@ use crate::name::two_less;
 use crate::unbuilt::pass_unbuilt;
 use refusal::Refusal;
 use script::cursor::Cursor;
+use script::drawing::Drawing;
 use walk::node::past_element;
 
 // What is left of the node with that index, by what `meet` has met of it; `left` is 1025 minus its depth.
@@ -24,21 +25,19 @@ fn parse_xml_node(
     met: Met,
     left: u32,
     index: u32,
-    script: &[u8],
-    characters: &[u8],
+    drawing: &Drawing,
     nodes: &mut [u32],
     attributes: &mut [u32],
     text: &mut [u8],
     slots: &[u16],
 ) -> Result<(), Refusal>
-    requires rest_fit { RestFit script.now characters.now left index state.old
-        (tree_of nodes.old attributes.old text.old state.old.counts) met }
-    requires memo { Memo script.now characters.now slots.now }
+    requires rest_fit { RestFit drawing.now left index state.old (tree_of nodes.old attributes.old text.old state.old.counts) met }
+    requires memo { Memo drawing.now slots.now }
     ensures outcome { outcome_of (tree_of nodes.new attributes.new text.new state.new.counts) result
-        ≡ rest_built script.now characters.now left index state.old
+        ≡ rest_built drawing.now left index state.old
         (tree_of nodes.old attributes.old text.old state.old.counts) met }
-    ensures behind { OnOk result (Reached script.now characters.now state.old.origin
-        (rest_nodes script.now characters.now state.old met) (rest_at state.old met)
+    ensures behind { OnOk result (Reached drawing.now state.old.origin
+        (rest_nodes drawing.now state.old met) (rest_at state.old met)
         state.old.counts.nodes state.new
         (tree_of nodes.new attributes.new text.new state.new.counts)) }
 {
@@ -47,26 +46,25 @@ fn parse_xml_node(
             state,
             left - 1,
             index,
-            script,
-            characters,
+            drawing,
             nodes,
             attributes,
             text,
             slots,
         ),
         Met::Copy => parse_svg_use_element(
-            state, left, index, script, characters, nodes, attributes, text, slots,
+            state, left, index, drawing, nodes, attributes, text, slots,
         ),
         Met::Passed | Met::End => Ok(()),
     }
 }
 
 // Behind the element whose children begin at c.
-fn pass_over(state: &mut State, script: &[u8], characters: &[u8], c: Cursor)
-    requires { Fit script.now c }
-    ensures { PastFit script.now characters.now c state.old state.new }
+fn pass_over(state: &mut State, drawing: &Drawing, c: Cursor)
+    requires { Fit drawing.now c }
+    ensures { PastFit drawing.now c state.old state.new }
 {
-    state.cursor = past_element(script, characters, c);
+    state.cursor = past_element(drawing, c);
 }
 
 // What a use copies, at which the cursor stands, below the use's own node `parent`, two levels deeper than the use, which has `left`. The
@@ -76,22 +74,20 @@ fn parse_svg_use_element(
     state: &mut State,
     left: u32,
     parent: u32,
-    script: &[u8],
-    characters: &[u8],
+    drawing: &Drawing,
     nodes: &mut [u32],
     attributes: &mut [u32],
     text: &mut [u8],
     slots: &[u16],
 ) -> Result<(), Refusal>
-    requires copying { Copying script.now characters.now left parent state.old
-        (tree_of nodes.old attributes.old text.old state.old.counts) }
-    requires memo { Memo script.now characters.now slots.now }
+    requires copying { Copying drawing.now left parent state.old (tree_of nodes.old attributes.old text.old state.old.counts) }
+    requires memo { Memo drawing.now slots.now }
     ensures outcome { outcome_of (tree_of nodes.new attributes.new text.new state.new.counts) result
-        ≡ first_of script.now characters.now (left - 2) state.old.copier parent
-        (events_at script.now characters.now state.old.cursor)
+        ≡ first_of drawing.now (left - 2) state.old.copier parent
+        (events_at drawing.now state.old.cursor)
         (tree_of nodes.old attributes.old text.old state.old.counts) }
-    ensures behind { OnOk result (Reached script.now characters.now state.old.origin
-        (leave 0 (events_at script.now characters.now state.old.children))
+    ensures behind { OnOk result (Reached drawing.now state.old.origin
+        (leave 0 (events_at drawing.now state.old.children))
         state.old.children.at state.old.counts.nodes state.new
         (tree_of nodes.new attributes.new text.new state.new.counts)) }
 {
@@ -100,13 +96,11 @@ fn parse_svg_use_element(
     let less = two_less(left);
     let index = state.counts.nodes;
     state.origin = state.copier;
-    let met = meet(
-        state, less, parent, script, characters, nodes, attributes, text, slots,
-    )?;
+    let met = meet(state, less, parent, drawing, nodes, attributes, text, slots)?;
     parse_xml_node(
-        state, met, less, index, script, characters, nodes, attributes, text, slots,
+        state, met, less, index, drawing, nodes, attributes, text, slots,
     )?;
-    pass_over(state, script, characters, children);
+    pass_over(state, drawing, children);
     state.origin = origin;
     Ok(())
 }
@@ -118,41 +112,33 @@ pub fn parse_xml_node_children(
     state: &mut State,
     left: u32,
     parent: u32,
-    script: &[u8],
-    characters: &[u8],
+    drawing: &Drawing,
     nodes: &mut [u32],
     attributes: &mut [u32],
     text: &mut [u8],
     slots: &[u16],
 ) -> Result<(), Refusal>
-    requires underway { Underway script.now characters.now (tree_of nodes.old attributes.old text.old state.old.counts) parent
-        state.old.cursor }
-    requires memo { Memo script.now characters.now slots.now }
+    requires underway { Underway drawing.now (tree_of nodes.old attributes.old text.old state.old.counts) parent state.old.cursor }
+    requires memo { Memo drawing.now slots.now }
     ensures outcome { outcome_of (tree_of nodes.new attributes.new text.new state.new.counts) result
-        ≡ level_built script.now characters.now left state.old.origin parent state.old.cursor
+        ≡ level_built drawing.now left state.old.origin parent state.old.cursor
         (tree_of nodes.old attributes.old text.old state.old.counts) }
-    ensures behind { OnOk result (Reached script.now characters.now state.old.origin
-        (leave 0 (events_at script.now characters.now state.old.cursor))
+    ensures behind { OnOk result (Reached drawing.now state.old.origin
+        (leave 0 (events_at drawing.now state.old.cursor))
         state.old.cursor.at state.old.counts.nodes state.new
         (tree_of nodes.new attributes.new text.new state.new.counts)) }
 {
     loop {
         let index = state.counts.nodes;
-        let met = meet(
-            state, left, parent, script, characters, nodes, attributes, text, slots,
-        )?;
+        let met = meet(state, left, parent, drawing, nodes, attributes, text, slots)?;
         if let Met::End = met {
             return Ok(());
         }
-        let built = parse_xml_node(
-            state, met, left, index, script, characters, nodes, attributes, text, slots,
-        );
-        let is_refused = built.is_err();
-        if is_refused {
-            return built;
-        }
+        parse_xml_node(
+            state, met, left, index, drawing, nodes, attributes, text, slots,
+        )?;
         if let Met::Passed = met {
-            pass_unbuilt(state, script, characters, left);
+            pass_unbuilt(state, drawing, left);
         }
     }
 }

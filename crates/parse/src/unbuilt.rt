@@ -7,6 +7,7 @@ ghost use Rattle.parse.specs.Unbuilt.{is_built, past_unbuilt, Skipped};
 use crate::State;
 use crate::name::is_parsed;
 use script::cursor::Cursor;
+use script::drawing::Drawing;
 use walk::node::{Item, next_item, past_others};
 
 // Is something built of an element with that name, with that many elements open around it that become no nodes?
@@ -17,17 +18,16 @@ fn is_built(level: usize, name: u8, space: u8) -> bool
 }
 
 // Behind the texts, comments and elements that become no nodes, from the cursor on.
-fn past_unbuilt(script: &[u8], characters: &[u8], from: Cursor) -> Cursor
-    requires { Fit script.now from }
-    ensures same { events_at script.now characters.now result
-        ≡ past_unbuilt 0 (events_at script.now characters.now from) }
-    ensures fit { Fit script.now result }
+fn past_unbuilt(drawing: &Drawing, from: Cursor) -> Cursor
+    requires { Fit drawing.now from }
+    ensures same { events_at drawing.now result ≡ past_unbuilt 0 (events_at drawing.now from) }
+    ensures fit { Fit drawing.now result }
     ensures further { from.at ≤ result.at }
 {
     let mut c = from;
     let mut level: usize = 0;
     loop {
-        match next_item(script, characters, c) {
+        match next_item(drawing, c) {
             Item::Begin(e) => {
                 if is_built(level, e.name, e.space) {
                     return c;
@@ -39,7 +39,7 @@ fn past_unbuilt(script: &[u8], characters: &[u8], from: Cursor) -> Cursor
                 c = n;
             }
             Item::Other(n) => {
-                c = past_others(script, characters, n);
+                c = past_others(drawing, n);
             }
             Item::Close(n) => {
                 if level == 0 {
@@ -56,12 +56,12 @@ fn past_unbuilt(script: &[u8], characters: &[u8], from: Cursor) -> Cursor
 }
 
 // The cursor is moved over such nodes, if a level is left for them.
-pub fn pass_unbuilt(state: &mut State, script: &[u8], characters: &[u8], left: u32)
-    requires { Fit script.now state.old.cursor }
-    ensures { Skipped script.now characters.now left state.old state.new }
+pub fn pass_unbuilt(state: &mut State, drawing: &Drawing, left: u32)
+    requires { Fit drawing.now state.old.cursor }
+    ensures { Skipped drawing.now left state.old state.new }
 {
     if left == 0 {
         return;
     }
-    state.cursor = past_unbuilt(script, characters, state.cursor);
+    state.cursor = past_unbuilt(drawing, state.cursor);
 }

@@ -1,6 +1,6 @@
 -- The texts inside an element, one after another, trimmed as one. Assumes nothing.
 use Prim.Native.Nat.{ℕ, suc, ◌+◌, ◌-◌, ◌≤◌}
-use mathlib.Core.Path.{◌≡◌, refl, sym, ap, ◌∙◌, subst}
+use mathlib.Core.Path.{◌≡◌, sym, ap, ◌∙◌, subst}
 use mathlib.Core.List.{List, [], ◌∷◌, ◌++◌}
 use native.Mathlib.Omega.{arith}
 use lib.ListN.{length, take, drop, set, length-take, length-drop, length-append}
@@ -9,17 +9,17 @@ use Rattle.model.specs.Drawing.{Source, source_at, texts_in}
 use Rattle.model.specs.Text.{XmlSpace, trim_text, trim_text_after, total_size, joined}
 use Rattle.model.specs.Theorems.Sim.{Every}
 use Rattle.model.specs.Theorems.Inside.{LiesText}
+use Rattle.script.specs.declared.drawing.Drawing.{Drawing}
 use Rattle.script.specs.declared.cursor.Cursor.{Cursor}
 use Rattle.script.specs.Step.{Fit, mark_of}
 use Rattle.std.specs.Prelude.{Some, None}
 use Rattle.walk.specs.declared.node.TextAt.{TextAt}
 use Rattle.walk.specs.Values.{events_at}
-use Rattle.tree.proofs.Entries.{part_of}
 use Rattle.text.specs.declared.Trimmed.{Trimmed}
 use Rattle.text.specs.Spaces.{last_after, trimmed, trim_each}
 use Rattle.text.proofs.Collapse.{trim-less, trim-sources}
 use Rattle.text.proofs.Appending.{lent_back}
-use Rattle.pieces.specs.Quotes.{texts_from, Quotable}
+use Rattle.pieces.specs.Quotes.{texts_from}
 use Rattle.pieces.proofs.Summing.{TextIs}
 
 -- A run of stores behind another.
@@ -49,47 +49,22 @@ pub quoted-most : (w : XmlSpace) (chars : List ℕ) (from : List Source) → len
 unfolding trim_text
 quoted-most w chars from = omega (arith, trim-less w 48 (joined chars from), joined-most chars from)
 
--- One text is read as a part of the characters.
-module _ (w : XmlSpace) (chars : List ℕ) (start size : ℕ) (begun : Trimmed) where
-  pub more-answer : (r : Trimmed) → r ≡ trimmed w begun (take (start + size - start) (drop start chars)) →
-      r ≡ trimmed w begun (slice start (start + size) chars)
-  more-answer r e = e ∙ ap (trimmed w begun) (part_of start size chars)
-
-  pub more-place : (place place' : List ℕ) →
-      place' ≡ sets place begun.size (trim_text_after w begun.prev (take (start + size - start) (drop start chars))) →
-      place' ≡ sets place begun.size (trim_text_after w begun.prev (slice start (start + size) chars))
-  more-place place place' e =
-      e ∙ ap (λ (l : List ℕ). sets place begun.size (trim_text_after w begun.prev l)) (part_of start size chars)
-
 -- The texts up to c stand in the place, with k elements open there.
-pub record Putting (w : XmlSpace) (s chars place₀ : List ℕ) (from : Cursor) (place : List ℕ) (c : Cursor) (k : ℕ) (d : Trimmed) :
+pub record Putting (w : XmlSpace) (drawing : Drawing) (place₀ : List ℕ) (from : Cursor) (place : List ℕ) (c : Cursor) (k : ℕ) (d : Trimmed) :
     Type 0 where
-  pub fit : Fit s c
+  pub fit : Fit drawing c
   pub low : k ≤ c.at
-  pub lie : Every (LiesText (length chars)) (texts_in k (events_at s chars c))
-  pub fits : d.size + total_size (texts_in k (events_at s chars c)) ≤ length place
+  pub lie : Every (LiesText (length drawing.characters.now)) (texts_in k (events_at drawing c))
+  pub fits : d.size + total_size (texts_in k (events_at drawing c)) ≤ length place
   pub long : length place ≡ length place₀
-  pub count : d.size + length (trim_each w d.prev chars (texts_in k (events_at s chars c)))
-      ≡ length (trim_each w 48 chars (texts_from s chars from))
-  pub text : sets place d.size (trim_each w d.prev chars (texts_in k (events_at s chars c)))
-      ≡ sets place₀ 0 (trim_each w 48 chars (texts_from s chars from))
+  pub count : d.size + length (trim_each w d.prev drawing.characters.now (texts_in k (events_at drawing c)))
+      ≡ length (trim_each w 48 drawing.characters.now (texts_from drawing from))
+  pub text : sets place d.size (trim_each w d.prev drawing.characters.now (texts_in k (events_at drawing c)))
+      ≡ sets place₀ 0 (trim_each w 48 drawing.characters.now (texts_from drawing from))
 
-pub putting-none : (w : XmlSpace) (s chars place : List ℕ) (c : Cursor) → Quotable s chars c →
-    total_size (texts_from s chars c) ≤ length place →
-    Putting w s chars place c place c 0 (record { size = 0; prev = 48 })
-putting-none w s chars place c q h = record {
-  fit = q.fit;
-  low = omega arith;
-  lie = q.lie;
-  fits = omega arith;
-  long = refl;
-  count = omega arith;
-  text = refl;
-}
-
-module _ (w : XmlSpace) (s chars place₀ : List ℕ) (from : Cursor) (place : List ℕ) (c : Cursor) (k : ℕ) (d : Trimmed)
-    (h : Putting w s chars place₀ from place c k d) where
-  module _ (x : TextAt) (t : TextIs s chars c k (Some x)) where
+module _ (w : XmlSpace) (drawing : Drawing) (place₀ : List ℕ) (from : Cursor) (place : List ℕ) (c : Cursor) (k : ℕ) (d : Trimmed)
+    (h : Putting w drawing place₀ from place c k d) where
+  module _ (x : TextAt) (t : TextIs drawing c k (Some x)) where
     abbrev own : Cursor
     own = x.own
 
@@ -97,33 +72,33 @@ module _ (w : XmlSpace) (s chars place₀ : List ℕ) (from : Cursor) (place : L
     l = x.len
 
     abbrev rest : List Source
-    rest = texts_in x.open_elements (events_at s chars x.behind)
+    rest = texts_in x.open_elements (events_at drawing x.behind)
 
     abbrev part : List ℕ
-    part = slice own.chars (own.chars + l) chars
+    part = slice own.chars (own.chars + l) drawing.characters.now
 
     abbrev put : List ℕ
     put = trim_text_after w d.prev part
 
-    all_lie : Every (LiesText (length chars)) (source_at chars (mark_of own) l ∷ rest)
-    all_lie = subst (Every (LiesText (length chars))) (sym t.0) h.lie
+    all_lie : Every (LiesText (length drawing.characters.now)) (source_at drawing.characters.now (mark_of own) l ∷ rest)
+    all_lie = subst (Every (LiesText (length drawing.characters.now))) (sym t.0) h.lie
 
-    sizes : l + total_size rest ≡ total_size (texts_in k (events_at s chars c))
+    sizes : l + total_size rest ≡ total_size (texts_in k (events_at drawing c))
     unfolding total_size
     sizes = ap total_size t.0
 
-    pub text-inside : (own.chars + l ≤ length chars) × (d.size + l ≤ length place)
+    pub text-inside : (own.chars + l ≤ length drawing.characters.now) × (d.size + l ≤ length place)
     text-inside = (all_lie.0, omega (arith, h.fits, sizes))
 
-    trims : put ++ trim_each w (last_after d.prev part) chars rest ≡ trim_each w d.prev chars (texts_in k (events_at s chars c))
+    trims : put ++ trim_each w (last_after d.prev part) drawing.characters.now rest ≡ trim_each w d.prev drawing.characters.now (texts_in k (events_at drawing c))
     unfolding trim_each
-    trims = ap (trim_each w d.prev chars) t.0
+    trims = ap (trim_each w d.prev drawing.characters.now) t.0
 
     fewer : length put ≤ l
-    fewer = omega (arith, trim-less w d.prev part, slice-most own.chars l chars)
+    fewer = omega (arith, trim-less w d.prev part, slice-most own.chars l drawing.characters.now)
 
     pub putting-more : (d' : Trimmed) → d' ≡ trimmed w d part → (place' : List ℕ) → place' ≡ sets place d.size put →
-        Putting w s chars place₀ from place' x.behind x.open_elements d'
+        Putting w drawing place₀ from place' x.behind x.open_elements d'
     putting-more d' e place' q = rw (e, q) (record {
       fit = t.1.behind.fit;
       low = t.1.low;
@@ -134,18 +109,18 @@ module _ (w : XmlSpace) (s chars place₀ : List ℕ) (from : Cursor) (place : L
         arith,
         h.count,
         ap length trims,
-        length-append put (trim_each w (last_after d.prev part) chars rest),
+        length-append put (trim_each w (last_after d.prev part) drawing.characters.now rest),
       );
-      text = sets-on put (trim_each w (last_after d.prev part) chars rest) place d.size ∙ ap (sets place d.size) trims ∙ h.text;
+      text = sets-on put (trim_each w (last_after d.prev part) drawing.characters.now rest) place d.size ∙ ap (sets place d.size) trims ∙ h.text;
     })
 
-  pub putting-all : TextIs s chars c k None →
-      (d.size ≡ length (trim_text w (joined chars (texts_from s chars from))))
-      × (place ≡ sets place₀ 0 (trim_text w (joined chars (texts_from s chars from))))
+  pub putting-all : TextIs drawing c k None →
+      (d.size ≡ length (trim_text w (joined drawing.characters.now (texts_from drawing from))))
+      × (place ≡ sets place₀ 0 (trim_text w (joined drawing.characters.now (texts_from drawing from))))
   unfolding trim_each
   putting-all t =
-      let e : [] ≡ trim_each w d.prev chars (texts_in k (events_at s chars c)) = ap (trim_each w d.prev chars) t.0 in
-      let a = trim-sources w chars (texts_from s chars from) in (
+      let e : [] ≡ trim_each w d.prev drawing.characters.now (texts_in k (events_at drawing c)) = ap (trim_each w d.prev drawing.characters.now) t.0 in
+      let a = trim-sources w drawing.characters.now (texts_from drawing from) in (
         omega (arith, h.count, ap length e, ap length a),
         ap (sets place d.size) e ∙ h.text ∙ ap (sets place₀ 0) a,
       )

@@ -32,30 +32,29 @@ Stored ws zero f = Unit {0}
 Stored ws (suc k) f = (n : ℕ) × (get_or ws k 0 ≡ word_of n f) × Stored ws k (past n f)
 
 -- What is remembered are the first of the spaces f; there are 32 words.
-pub record Told (ws : List ℕ) (v : Levels) (f : ℕ → XmlSpace) : Type 0 where
-  pub long : length ws ≡ 32
+pub record Told (v : Levels) (f : ℕ → XmlSpace) : Type 0 where
+  pub long : length v.words ≡ 32
   pub few : v.full ≤ 32
   pub many : ℕ
   pub top : v.top ≡ word_of many f
-  pub stored : Stored ws v.full (past many f)
+  pub stored : Stored v.words v.full (past many f)
 
 -- Nothing is remembered, of any spaces.
 abbrev pub Fresh : Levels → Type 0
-Fresh v = (ws : List ℕ) → length ws ≡ 32 → (f : ℕ → XmlSpace) → Told ws v f
+Fresh v = (f : ℕ → XmlSpace) → Told v f
 
 -- One space more.
-abbrev pub Pushed : List ℕ → Levels → XmlSpace → List ℕ → Levels → Type 0
-Pushed ws v s ws' r = (f : ℕ → XmlSpace) → s ≡ f 0 → Told ws v (behind f) → Told ws' r f
+abbrev pub Pushed : Levels → XmlSpace → Levels → Type 0
+Pushed v s r = (f : ℕ → XmlSpace) → s ≡ f 0 → Told v (behind f) → Told r f
 
 -- The lowest bit of a word with n spaces or more, and the others.
-abbrev pub SplitFit : ℕ → ℕ → declared.XmlSpace × Levels → Type 0
-SplitFit top full x =
-    (n : ℕ) (f : ℕ → XmlSpace) → top ≡ word_of (suc n) f → (space_in x.0 ≡ f 0) × (x.1.top ≡ word_of n (behind f)) × (x.1.full ≡ full)
+abbrev pub SplitFit : ℕ → declared.XmlSpace × ℕ → Type 0
+SplitFit top x = (n : ℕ) (f : ℕ → XmlSpace) → top ≡ word_of (suc n) f → (space_in x.0 ≡ f 0) × (x.1 ≡ word_of n (behind f))
 
 -- One space less.
-abbrev pub AboveFit : List ℕ → Levels → Option (declared.XmlSpace × Levels) → Type 0
-AboveFit ws v (Some x) = (f : ℕ → XmlSpace) → Told ws v f → (space_in x.0 ≡ f 0) × Told ws x.1 (behind f)
-AboveFit ws v None = Unit {0}
+abbrev pub AboveFit : Levels → Option declared.XmlSpace → Levels → Type 0
+AboveFit v (Some s) r = (f : ℕ → XmlSpace) → Told v f → (space_in s ≡ f 0) × Told r (behind f)
+AboveFit v None r = Unit {0}
 
 -- THE NODES ABOVE
 
@@ -68,5 +67,5 @@ abbrev pub space_above : List ℕ → Tree → ℕ → ℕ → XmlSpace
 space_above chars t p j = space_of chars t (node_above t p j)
 
 -- What is remembered are the spaces of the nodes above p.
-abbrev pub Recalled : List ℕ → Tree → List ℕ → ℕ → Levels → Type 0
-Recalled chars t ws p v = Told ws v (space_above chars t p)
+abbrev pub Recalled : List ℕ → Tree → ℕ → Levels → Type 0
+Recalled chars t p v = Told v (space_above chars t p)

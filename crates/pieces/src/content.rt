@@ -13,23 +13,11 @@ pub fn code_of(name: u8) -> u32
 }
 
 // Is it a link, a tspan or a tref, or a textPath directly under the text element?
+#[tactic(auto, unfolding(model::specs::Base::among))]
 fn is_content_name(code: u32, direct: bool) -> bool
     ensures { result ≡ is_content_name code direct }
 {
-    if code == eid::A {
-        return true;
-    }
-    if code == eid::TSPAN {
-        return true;
-    }
-    if code == eid::TREF {
-        return true;
-    }
-    let is_deeper = !direct;
-    if is_deeper {
-        return false;
-    }
-    code == eid::TEXT_PATH
+    code == eid::A || code == eid::TSPAN || code == eid::TREF || direct && code == eid::TEXT_PATH
 }
 
 // Is an element of that name and namespace read inside a text element?
@@ -40,15 +28,13 @@ pub fn is_text_content(name: u8, space: u8, direct: bool) -> bool
 }
 
 // Its name in the tree: a link and a tref are tspans.
+#[tactic(auto, unfolding(model::specs::Base::among))]
 pub fn text_tag_of(name: u32) -> u32
     ensures { result ≡ tag_in name }
 {
-    if name == eid::A {
-        return eid::TSPAN;
+    if name == eid::A || name == eid::TREF {
+        eid::TSPAN
+    } else {
+        name
     }
-    let is_tref = name == eid::TREF;
-    if is_tref {
-        return eid::TSPAN;
-    }
-    name
 }

@@ -11,6 +11,7 @@ ghost use Rattle.pieces.specs.Quotes.{texts_from, Quotable, quote_in};
 
 use refusal::Refusal;
 use script::cursor::Cursor;
+use script::drawing::Drawing;
 use text::trim::trim_text;
 use text::{Trimmed, XmlSpace};
 use tree::room::{node_room, text_room};
@@ -19,14 +20,14 @@ use tree::{Counts, Kind, NewNode};
 use walk::node::next_text;
 
 // How many bytes the texts inside an element have together, from its inside on.
-fn quoted_size(script: &[u8], characters: &[u8], from: Cursor) -> usize
-    requires { Fit script.now from }
-    ensures { result ≡ total_size (texts_from script.now characters.now from) }
+fn quoted_size(drawing: &Drawing, from: Cursor) -> usize
+    requires { Fit drawing.now from }
+    ensures { result ≡ total_size (texts_from drawing.now from) }
 {
     let mut c = from;
     let mut level: usize = 0;
     let mut sum: usize = 0;
-    while let Some(t) = next_text(script, characters, c, level) {
+    while let Some(t) = next_text(drawing, c, level) {
         sum += t.len as usize;
         c = t.behind;
         level = t.open_elements;
@@ -55,26 +56,19 @@ fn put_more(
 
 // The texts inside an element one after another, trimmed as one, put at the beginning of the node's place. The answer is how many bytes
 // they are then.
-fn put_quoted(
-    script: &[u8],
-    characters: &[u8],
-    place: &mut [u8],
-    from: Cursor,
-    space: XmlSpace,
-) -> usize
-    requires quotable { Quotable script.now characters.now from }
-    requires from_in_bounds { total_size (texts_from script.now characters.now from) ≤ length place.old }
-    ensures size { result ≡ length (trim_text (space_in space)
-        (joined characters.now (texts_from script.now characters.now from))) }
+fn put_quoted(drawing: &Drawing, place: &mut [u8], from: Cursor, space: XmlSpace) -> usize
+    requires quotable { Quotable drawing.now from }
+    requires from_in_bounds { total_size (texts_from drawing.now from) ≤ length place.old }
+    ensures size { result ≡ length (trim_text (space_in space) (joined drawing.now.characters.now (texts_from drawing.now from))) }
     ensures place { place.new ≡ sets place.old 0 (trim_text (space_in space)
-        (joined characters.now (texts_from script.now characters.now from))) }
+        (joined drawing.now.characters.now (texts_from drawing.now from))) }
 {
     let mut c = from;
     let mut level: usize = 0;
     let mut done = Trimmed { size: 0, prev: 48 };
-    while let Some(t) = next_text(script, characters, c, level) {
+    while let Some(t) = next_text(drawing, c, level) {
         let start = t.own.chars;
-        done = put_more(characters, place, start, t.len, space, done);
+        done = put_more(drawing.characters, place, start, t.len, space, done);
         c = t.behind;
         level = t.open_elements;
     }
@@ -83,25 +77,23 @@ fn put_quoted(
 
 // The same at the place of a new text node in the text table. The answer is where they end.
 fn put_place(
-    script: &[u8],
-    characters: &[u8],
+    drawing: &Drawing,
     text: &mut [u8],
     first: u32,
     size: u32,
     from: Cursor,
     space: XmlSpace,
 ) -> u32
-    requires quotable { Quotable script.now characters.now from }
-    requires size_value { size ≡ total_size (texts_from script.now characters.now from) }
+    requires quotable { Quotable drawing.now from }
+    requires size_value { size ≡ total_size (texts_from drawing.now from) }
     requires size_bound { (first + size ≤ 4294967295) × (first + size ≤ length text.old) }
-    ensures end { result ≡ first + length (trim_text (space_in space)
-        (joined characters.now (texts_from script.now characters.now from))) }
+    ensures end { result ≡ first + length (trim_text (space_in space) (joined drawing.now.characters.now (texts_from drawing.now from))) }
     ensures text { text.new ≡ sets text.old first (trim_text (space_in space)
-        (joined characters.now (texts_from script.now characters.now from))) }
+        (joined drawing.now.characters.now (texts_from drawing.now from))) }
 {
     let at = first as usize;
     let to = at + size as usize;
-    let bytes = put_quoted(script, characters, &mut text[at..to], from, space);
+    let bytes = put_quoted(drawing, &mut text[at..to], from, space);
     let n = bytes as u32;
     first + n
 }
@@ -109,8 +101,7 @@ fn put_place(
 // A text node below p made from all texts inside an element, where `space` is handed down to p: text bytes lacking is 24, no record left
 // 22. There is none for nothing.
 pub fn append_quoted(
-    script: &[u8],
-    characters: &[u8],
+    drawing: &Drawing,
     nodes: &mut [u32],
     text: &mut [u8],
     counts: Counts,
@@ -118,13 +109,13 @@ pub fn append_quoted(
     from: Cursor,
     space: XmlSpace,
 ) -> Result<Counts, Refusal>
-    requires quotable { Quotable script.now characters.now from }
+    requires quotable { Quotable drawing.now from }
     requires appendable { Appendable (tree_of nodes.old [] text.old counts) p }
-    ensures { out_of nodes.new [] text.new result ≡ quote_in (space_in space) characters.now
-        (texts_from script.now characters.now from) p
+    ensures { out_of nodes.new [] text.new result ≡ quote_in (space_in space) drawing.now.characters.now
+        (texts_from drawing.now from) p
         (tree_of nodes.old [] text.old counts) }
 {
-    let total = quoted_size(script, characters, from);
+    let total = quoted_size(drawing, from);
     let is_empty = total == 0;
     if is_empty {
         return Ok(counts);
@@ -137,7 +128,7 @@ pub fn append_quoted(
         return Err(Refusal::NodesFull);
     }
     let size = total as u32;
-    let end = put_place(script, characters, text, counts.text, size, from, space);
+    let end = put_place(drawing, text, counts.text, size, from, space);
     let node = NewNode {
         kind: Kind::Text,
         code: 0,

@@ -10,13 +10,6 @@ use text::XmlSpace;
 // The highest bit of a word.
 const HIGHEST: u64 = 1 << 63;
 
-// Nothing is remembered.
-pub fn nothing() -> Levels
-    ensures { Fresh result }
-{
-    Levels { top: 1, full: 0 }
-}
-
 fn bit_of(space: XmlSpace) -> u64
     ensures { result ≡ bit_of (space_in space) }
 {
@@ -26,60 +19,72 @@ fn bit_of(space: XmlSpace) -> u64
     }
 }
 
-// One level more, that hands down `space`.
-pub fn push(words: &mut [u64; 32], levels: Levels, space: XmlSpace) -> Levels
-    requires { levels.full ≤ 32 }
-    ensures { Pushed words.old levels (space_in space) words.new result }
-{
-    let bit = bit_of(space);
-    let top = levels.top;
-    let full = levels.full;
-    if top < HIGHEST {
-        return Levels {
-            top: top * 2 + bit,
-            full,
-        };
-    }
-    if full < 32 {
-        words[full] = top;
-        return Levels {
-            top: 2 + bit,
-            full: full + 1,
-        };
-    }
-    Levels {
-        top: 2 + bit,
-        full: 0,
-    }
-}
-
-// The space in the lowest bit of a word, and the others, before the word `full`.
-fn split(top: u64, full: usize) -> (XmlSpace, Levels)
+// The space in the lowest bit of a word, and the others.
+fn split(top: u64) -> (XmlSpace, u64)
     requires { 2 ≤ top }
-    ensures { SplitFit top full result }
+    ensures { SplitFit top result }
 {
-    let rest = Levels { top: top / 2, full };
-    if top % 2 == 0 {
-        (XmlSpace::Default, rest)
+    let space = if top % 2 == 0 {
+        XmlSpace::Default
     } else {
-        (XmlSpace::Preserve, rest)
-    }
+        XmlSpace::Preserve
+    };
+    (space, top / 2)
 }
 
-// One level less: the nearest of the spaces that are remembered, and the others.
-pub fn pop(words: &[u64; 32], levels: Levels) -> Option<(XmlSpace, Levels)>
-    requires { levels.full ≤ 32 }
-    ensures { AboveFit words.now levels result }
-{
-    let top = levels.top;
-    let full = levels.full;
-    if top >= 2 {
-        return Some(split(top, full));
+impl Levels {
+    // Nothing is remembered.
+    pub fn nothing() -> Levels
+        ensures { Fresh result }
+    {
+        Levels {
+            words: [0; 32],
+            top: 1,
+            full: 0,
+        }
     }
-    let last = full.checked_sub(1)?;
-    let word = words[last];
-    if word >= 2 {
-        return Some(split(word, last));
+
+    // One level more, that hands down `space`.
+    pub fn push(&mut self, space: XmlSpace)
+        requires { self.old.full ≤ 32 }
+        ensures { Pushed self.old (space_in space) self.new }
+    {
+        let bit = bit_of(space);
+        let top = self.top;
+        if top < HIGHEST {
+            self.top = top * 2 + bit;
+            return;
+        }
+        let full = self.full;
+        if full < 32 {
+            self.words[full] = top;
+            self.top = 2 + bit;
+            self.full = full + 1;
+            return;
+        }
+        self.top = 2 + bit;
+        self.full = 0;
     }
-    None
+
+    // One level less: the nearest of the spaces that are remembered, and the others are left.
+    pub fn pop(&mut self) -> Option<XmlSpace>
+        requires { self.old.full ≤ 32 }
+        ensures { AboveFit self.old result self.new }
+    {
+        let top = self.top;
+        if top >= 2 {
+            let (space, rest) = split(top);
+            self.top = rest;
+            return Some(space);
+        }
+        let last = self.full.checked_sub(1)?;
+        let word = self.words[last];
+        if word >= 2 {
+            let (space, rest) = split(word);
+            self.top = rest;
+            self.full = last;
+            return Some(space);
+        }
+        None
+    }
 }

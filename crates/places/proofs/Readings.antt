@@ -17,7 +17,8 @@ use Rattle.model.specs.Drawing.{Command, opening, attribute, declaration, readin
 use Rattle.model.specs.Drawing.{attributes_at}
 use Rattle.model.specs.Drawing.{declarations_at, element_at, events_from, events, commands, values_in, readings_of}
 use Rattle.script.specs.declared.cursor.Cursor.{Cursor}
-use Rattle.script.specs.Step.{commands_at, mark_of, is_broken, at_start, place_from, place_of}
+use Rattle.script.specs.declared.drawing.Drawing.{Drawing}
+use Rattle.script.specs.Step.{commands_at, mark_of, is_broken, at_start, place_from, place_of, Checked, document}
 use Rattle.script.proofs.Commands.{Stands, nothing-there, broken-there, there, what-stands, unbroken}
 use Rattle.places.specs.Seeks.{readings_next, readings_here}
 
@@ -190,55 +191,55 @@ module _ (chars : List ℕ) where
   over-value n m closing cs h = refl
   over-value n m (broken b) cs h = refl
 
-  module _ (s : List ℕ) where
-    -- Where no whole command stands there is no value.
-    no-command : (d : Cursor) (n : ℕ) → commands_at s d ≡ []
-        → readings_here s chars d ≡ readings_of n (values_from (mark_of d) (commands_at s d))
-    unfolding values_from readings_of readings_next
-    no-command d n z = ap (readings_next chars (mark_of d)) z ∙ sym (ap (λ cs. readings_of n (values_from (mark_of d) cs)) z)
+module _ (drawing : Drawing) where
+  -- Where no whole command stands there is no value.
+  no-command : (d : Cursor) (n : ℕ) → commands_at drawing d ≡ []
+      → readings_here drawing d ≡ readings_of n (values_from drawing.characters.now (mark_of d) (commands_at drawing d))
+  unfolding values_from readings_of readings_next
+  no-command d n z = ap (readings_next drawing.characters.now (mark_of d)) z ∙ sym (ap (λ cs. readings_of n (values_from drawing.characters.now (mark_of d) cs)) z)
 
-    no_whole : (d : Cursor) (n b : ℕ) → commands_at s d ≡ broken b ∷ []
-        → readings_here s chars d ≡ readings_of n (values_from (mark_of d) (commands_at s d))
-    unfolding values_from readings_of readings_next
-    no_whole d n b z = ap (readings_next chars (mark_of d)) z ∙ sym (ap (λ cs. readings_of n (values_from (mark_of d) cs)) z)
+  no_whole : (d : Cursor) (n b : ℕ) → commands_at drawing d ≡ broken b ∷ []
+      → readings_here drawing d ≡ readings_of n (values_from drawing.characters.now (mark_of d) (commands_at drawing d))
+  unfolding values_from readings_of readings_next
+  no_whole d n b z = ap (readings_next drawing.characters.now (mark_of d)) z ∙ sym (ap (λ cs. readings_of n (values_from drawing.characters.now (mark_of d) cs)) z)
 
-    at_place : (k : ℕ) (d : Cursor)
-        → readings_here s chars (place_from k d (commands_at s d))
-        ≡ readings_of (d.number + k + 1) (values_from (mark_of d) (commands_at s d))
-    unfolding place_from
-    at_place zero d = next-value (mark_of d) (commands_at s d)
-        ∙ ap (λ n. readings_of n (values_from (mark_of d) (commands_at s d))) (let z : d.number + 1 ≡ d.number + 0 + 1 = omega arith in z)
-    at_place (suc k) d = go (what-stands s d) (at_place k)
-      where
-        go : Stands s d → ((m : Cursor)
-            → readings_here s chars (place_from k m (commands_at s m))
-            ≡ readings_of (m.number + k + 1) (values_from (mark_of m) (commands_at s m)))
-            → readings_here s chars (place_from (suc k) d (commands_at s d))
-            ≡ readings_of (d.number + suc k + 1) (values_from (mark_of d) (commands_at s d))
-        go (nothing-there z) ih = ap (λ cs. readings_here s chars (place_from (suc k) d cs)) z ∙ no-command d (d.number + suc k + 1) z
-        go (broken-there b z) ih = ap (λ cs. readings_here s chars (place_from (suc k) d cs)) z ∙ no_whole d (d.number + suc k + 1) b z
-        go (there x m w) ih =
-            let p : d.number + suc k + 1 ≡ m.number + k + 1 = omega (arith, ap (λ (v : Cursor). v.number) w.next) in
-            rw (w.more, unbroken x w, ← w.next)
-            (ih m ∙ ap (λ n. readings_of n (values_from (mark_of m) (commands_at s m))) (sym p)
-            ∙ ap (λ (c : Cursor). readings_of (d.number + suc k + 1) (values_from (mark_of c) (commands_at s m))) w.next
-            ∙ sym (over-value (d.number + suc k + 1) (mark_of d) x (commands_at s m) (omega arith) ∙ rw (unbroken x w)))
+  at_place : (k : ℕ) (d : Cursor)
+      → readings_here drawing (place_from k d (commands_at drawing d))
+      ≡ readings_of (d.number + k + 1) (values_from drawing.characters.now (mark_of d) (commands_at drawing d))
+  unfolding place_from
+  at_place zero d = next-value drawing.characters.now (mark_of d) (commands_at drawing d)
+      ∙ ap (λ n. readings_of n (values_from drawing.characters.now (mark_of d) (commands_at drawing d))) (let z : d.number + 1 ≡ d.number + 0 + 1 = omega arith in z)
+  at_place (suc k) d = go (what-stands drawing d) (at_place k)
+    where
+      go : Stands drawing d → ((m : Cursor)
+          → readings_here drawing (place_from k m (commands_at drawing m))
+          ≡ readings_of (m.number + k + 1) (values_from drawing.characters.now (mark_of m) (commands_at drawing m)))
+          → readings_here drawing (place_from (suc k) d (commands_at drawing d))
+          ≡ readings_of (d.number + suc k + 1) (values_from drawing.characters.now (mark_of d) (commands_at drawing d))
+      go (nothing-there z) ih = ap (λ cs. readings_here drawing (place_from (suc k) d cs)) z ∙ no-command d (d.number + suc k + 1) z
+      go (broken-there b z) ih = ap (λ cs. readings_here drawing (place_from (suc k) d cs)) z ∙ no_whole d (d.number + suc k + 1) b z
+      go (there x m w) ih =
+          let p : d.number + suc k + 1 ≡ m.number + k + 1 = omega (arith, ap (λ (v : Cursor). v.number) w.next) in
+          rw (w.more, unbroken x w, ← w.next)
+          (ih m ∙ ap (λ n. readings_of n (values_from drawing.characters.now (mark_of m) (commands_at drawing m))) (sym p)
+          ∙ ap (λ (c : Cursor). readings_of (d.number + suc k + 1) (values_from drawing.characters.now (mark_of c) (commands_at drawing m))) w.next
+          ∙ sym (over-value drawing.characters.now (d.number + suc k + 1) (mark_of d) x (commands_at drawing m) (omega arith) ∙ rw (unbroken x w)))
 
 -- What stands behind k commands of a drawing that check takes is what the document has of the command numbered k + 1.
-pub checked-readings : (s chars : List ℕ) → check.check s chars ≡ 0 → (k : ℕ)
-    → readings_here s chars (place_of s k) ≡ readings_of (k + 1) (values_in (events s chars))
+pub checked-readings : (drawing : Drawing) → Checked drawing → (k : ℕ)
+    → readings_here drawing (place_of drawing k) ≡ readings_of (k + 1) (values_in (document drawing))
 unfolding check.check events place_of commands_at starting
-checked-readings s chars h k =
-    at_place chars s k at_start
-    ∙ ap (λ n. readings_of n (values_from chars start (commands s))) (let z : 0 + k + 1 ≡ k + 1 = omega arith in z)
+checked-readings drawing h k =
+    at_place drawing k at_start
+    ∙ ap (λ n. readings_of n (values_from drawing.characters.now start (commands drawing.script.now))) (let z : 0 + k + 1 ≡ k + 1 = omega arith in z)
     ∙ ap (readings_of (k + 1)) (sym
-    (all-values chars (length chars) (commands s) starting check.children start refl
-    (go (or (ltb most_bytes (length s)) (ltb most_bytes (length chars))) h)))
+    (all-values drawing.characters.now (length drawing.characters.now) (commands drawing.script.now) starting check.children start refl
+    (go (or (ltb most_bytes (length drawing.script.now)) (ltb most_bytes (length drawing.characters.now))) h)))
   where
     start : Mark
     start = record { number = 0; at = 0; texts = 0 }
 
-    go : (t : Bool) → pick t (λ u. 1) (λ u. check_from chars (length chars) starting (commands s)) ≡ 0
-        → check_from chars (length chars) starting (commands s) ≡ 0
+    go : (t : Bool) → pick t (λ u. 1) (λ u. check_from drawing.characters.now (length drawing.characters.now) starting (commands drawing.script.now)) ≡ 0
+        → check_from drawing.characters.now (length drawing.characters.now) starting (commands drawing.script.now) ≡ 0
     go true e = absurd (omega arith)
     go false e = e

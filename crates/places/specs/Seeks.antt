@@ -6,6 +6,7 @@ use Rattle.model.specs.Base.{pick}
 use Rattle.model.specs.EId
 use Rattle.model.specs.Drawing.{Command, opening, attribute, declaration, reading, closing, broken, Mark}
 use Rattle.model.specs.Drawing.{Reading, Source, source_at, readings_at}
+use Rattle.script.specs.declared.drawing.Drawing.{Drawing}
 use Rattle.script.specs.declared.cursor.Cursor.{Cursor}
 use Rattle.script.specs.Step.{Fit, Here, commands_at, mark_of, place_from}
 use Rattle.walk.specs.Values.{readings_in}
@@ -22,9 +23,9 @@ style_of (Some t) = t.in_style
 style_of None = false
 
 -- Its place is one of the script.
-abbrev pub FoundFit : List ℕ → Option FoundText → Type 0
-FoundFit script (Some t) = Fit script t.own
-FoundFit script None = Unit {0}
+abbrev pub FoundFit : Drawing → Option FoundText → Type 0
+FoundFit drawing (Some t) = Fit drawing t.own
+FoundFit drawing None = Unit {0}
 
 -- How many elements are open from the outermost style on, behind the open of an element of that code.
 abbrev pub style_level : ℕ → ℕ → ℕ
@@ -43,22 +44,22 @@ readings_next chars m (closing ∷ cs) = []
 readings_next chars m (broken b ∷ cs) = []
 
 -- The readings of the value whose command stands at the cursor.
-abbrev pub readings_here : List ℕ → List ℕ → Cursor → List Reading
-readings_here script chars c = readings_next chars (mark_of c) (commands_at script c)
+abbrev pub readings_here : Drawing → Cursor → List Reading
+readings_here drawing c = readings_next drawing.characters.now (mark_of c) (commands_at drawing c)
 
 -- The value whose command stands at c has the readings from n on.
-pub record ReadFrom (script chars : List ℕ) (c n : Cursor) : Type 0 where
-  pub fit : Fit script n
-  pub same : readings_here script chars c ≡ readings_in script chars c.chars n
+pub record ReadFrom (drawing : Drawing) (c n : Cursor) : Type 0 where
+  pub fit : Fit drawing n
+  pub same : readings_here drawing c ≡ readings_in drawing c.chars n
 
 -- A COMMAND AT A CURSOR
 
 -- A command stands at c, and n is the cursor behind it.
-pub record Passed (script : List ℕ) (c n : Cursor) : Type 0 where
+pub record Passed (drawing : Drawing) (c n : Cursor) : Type 0 where
   pub command : Command
-  pub here : Here script c command n
-  pub fit : Fit script n
+  pub here : Here drawing c command n
+  pub fit : Fit drawing n
 
 -- No whole command stands at c: there is no place further on.
-abbrev pub IsLast : List ℕ → Cursor → Type 0
-IsLast script c = (j : ℕ) → place_from j c (commands_at script c) ≡ c
+abbrev pub IsLast : Drawing → Cursor → Type 0
+IsLast drawing c = (j : ℕ) → place_from j c (commands_at drawing c) ≡ c

@@ -6,6 +6,7 @@ ghost use Rattle.places.specs.Marks.{Marked};
 
 use crate::seek::seek;
 use script::cursor::Cursor;
+use script::drawing::Drawing;
 
 // The places of 256 commands, and how many commands lie between two of them, 0 where none is set.
 #[derive(Drop)]
@@ -29,10 +30,10 @@ impl Marks {
 }
 
 // A place from which to look for the command behind that many: the hint, or a mark that is nearer.
-fn near(script: &[u8], marks: &Marks, number: usize, hint: Cursor) -> Cursor
-    requires fit { Fit script.now hint }
-    requires marked { Marked script.now marks.now }
-    ensures { Fit script.now result }
+fn near(drawing: &Drawing, marks: &Marks, number: usize, hint: Cursor) -> Cursor
+    requires fit { Fit drawing.now hint }
+    requires marked { Marked drawing.now marks.now }
+    ensures { Fit drawing.now result }
 {
     let stride = marks.stride;
     if stride == 0 {
@@ -49,44 +50,38 @@ fn near(script: &[u8], marks: &Marks, number: usize, hint: Cursor) -> Cursor
 }
 
 // The cursor behind that many commands; where there are fewer, behind the last whole one. Hint and marks only save time.
-pub fn seek_near(
-    script: &[u8],
-    characters: &[u8],
-    marks: &Marks,
-    number: usize,
-    hint: Cursor,
-) -> Cursor
-    requires fit_2 { Fit script.now hint }
-    requires marked { Marked script.now marks.now }
-    ensures same { result ≡ place_of script.now number }
-    ensures fit { Fit script.now result }
+pub fn seek_near(drawing: &Drawing, marks: &Marks, number: usize, hint: Cursor) -> Cursor
+    requires fit_2 { Fit drawing.now hint }
+    requires marked { Marked drawing.now marks.now }
+    ensures same { result ≡ place_of drawing.now number }
+    ensures fit { Fit drawing.now result }
 {
-    let from = near(script, marks, number, hint);
-    seek(script, characters, number, from)
+    let from = near(drawing, marks, number, hint);
+    seek(drawing, number, from)
 }
 
 // How many commands lie between two marks, so that they reach to the last.
-fn stride_of(script: &[u8], characters: &[u8]) -> usize
-    requires { length script.now ≤ most_bytes }
+fn stride_of(drawing: &Drawing) -> usize
+    requires { length drawing.now.script.now ≤ most_bytes }
     ensures { (0 < result) × (result ≤ 4112) }
 {
     let c = Cursor::start();
-    let last = seek(script, characters, script.len(), c);
+    let last = seek(drawing, drawing.script.len(), c);
     last.number / 256 + 16
 }
 
 // All marks of a script, in one walk behind the one that counts its commands.
-pub fn set_marks(script: &[u8], characters: &[u8], marks: &mut Marks)
-    requires { Marked script.now marks.old }
-    ensures { Marked script.now marks.new }
+pub fn set_marks(drawing: &Drawing, marks: &mut Marks)
+    requires { Marked drawing.now marks.old }
+    ensures { Marked drawing.now marks.new }
 {
-    let stride = stride_of(script, characters);
+    let stride = stride_of(drawing);
     marks.stride = stride;
     let mut c = Cursor::start();
     let mut number = 0;
-    for k in 0..256 {
-        c = seek(script, characters, number, c);
-        marks.places[k] = c;
+    for place in &mut marks.places {
+        c = seek(drawing, number, c);
+        *place = c;
         if c.number < number {
             return;
         }

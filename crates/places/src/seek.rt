@@ -2,14 +2,15 @@
 ghost use Rattle.std.specs.Prelude.{◌≡◌, ◌≤◌, [], IfSome, IfNone, leb, length};
 ghost use Rattle.model.specs.Base.{pick};
 ghost use Rattle.model.specs.Check.{most_bytes};
-ghost use Rattle.model.specs.Drawing.{events, text_numbered, is_in_style, reading_of};
+ghost use Rattle.model.specs.Drawing.{text_numbered, is_in_style, reading_of};
 ghost use Rattle.model.specs.Repair.{any_reading};
-ghost use Rattle.script.specs.Step.{Fit, at_start, place_of};
+ghost use Rattle.script.specs.Step.{Fit, at_start, place_of, document};
 ghost use Rattle.walk.specs.Values.{part_of, PartFit};
 ghost use Rattle.places.specs.Seeks.{source_of, style_of, FoundFit, style_level, Passed, IsLast, ReadFrom, readings_here};
 
 use names::eid;
 use script::cursor::{Cursor, Step};
+use script::drawing::Drawing;
 use walk::node::{Item, next_item};
 use walk::value::{Part, any_reading, reading_of};
 
@@ -37,17 +38,16 @@ fn style_level(level: usize, name: u8) -> usize
 }
 
 // The text with that number, and whether it stands inside an element named style.
-pub fn find_text(script: &[u8], characters: &[u8], number: usize) -> Option<FoundText>
-    requires { length script.now ≤ most_bytes }
-    ensures text { source_of characters.now result
-        ≡ text_numbered number (events script.now characters.now) }
-    ensures style { style_of result ≡ is_in_style number 0 (events script.now characters.now) }
-    ensures fit { FoundFit script.now result }
+pub fn find_text(drawing: &Drawing, number: usize) -> Option<FoundText>
+    requires { length drawing.now.script.now ≤ most_bytes }
+    ensures text { source_of drawing.now.characters.now result ≡ text_numbered number (document drawing.now) }
+    ensures style { style_of result ≡ is_in_style number 0 (document drawing.now) }
+    ensures fit { FoundFit drawing.now result }
 {
     let mut c = Cursor::start();
     let mut level: usize = 0;
     loop {
-        match next_item(script, characters, c) {
+        match next_item(drawing, c) {
             Item::Begin(e) => {
                 level = style_level(level, e.name);
                 c = e.inside;
@@ -80,12 +80,12 @@ fn nearest(number: usize, hint: Cursor) -> Cursor
 }
 
 // The cursor behind the command that stands at the cursor, if a whole one does.
-fn behind_command(script: &[u8], characters: &[u8], c: Cursor) -> Option<Cursor>
-    requires { Fit script.now c }
-    ensures some { IfSome result (Passed script.now c) }
-    ensures none { IfNone result (IsLast script.now c) }
+fn behind_command(drawing: &Drawing, c: Cursor) -> Option<Cursor>
+    requires { Fit drawing.now c }
+    ensures some { IfSome result (Passed drawing.now c) }
+    ensures none { IfNone result (IsLast drawing.now c) }
 {
-    match c.next(script, characters) {
+    match c.next(drawing) {
         Step::Open(_, _, n)
         | Step::Attribute(_, _, _, n)
         | Step::Declaration(_, _, _, n)
@@ -98,14 +98,14 @@ fn behind_command(script: &[u8], characters: &[u8], c: Cursor) -> Option<Cursor>
 }
 
 // The cursor behind that many commands; where there are fewer, behind the last whole one. The hint only saves time.
-pub fn seek(script: &[u8], characters: &[u8], number: usize, hint: Cursor) -> Cursor
-    requires { Fit script.now hint }
-    ensures same { result ≡ place_of script.now number }
-    ensures fit { Fit script.now result }
+pub fn seek(drawing: &Drawing, number: usize, hint: Cursor) -> Cursor
+    requires { Fit drawing.now hint }
+    ensures same { result ≡ place_of drawing.now number }
+    ensures fit { Fit drawing.now result }
 {
     let mut c = nearest(number, hint);
     while c.number != number
-        && let Some(n) = behind_command(script, characters, c)
+        && let Some(n) = behind_command(drawing, c)
     {
         c = n;
     }
@@ -113,35 +113,35 @@ pub fn seek(script: &[u8], characters: &[u8], number: usize, hint: Cursor) -> Cu
 }
 
 // The cursor behind the command that stands at the cursor, where that is an attribute or a declaration: the readings of its value follow.
-pub fn behind_value(script: &[u8], characters: &[u8], c: Cursor) -> Option<Cursor>
-    requires { Fit script.now c }
-    ensures some { IfSome result (ReadFrom script.now characters.now c) }
-    ensures none { IfNone result (readings_here script.now characters.now c ≡ []) }
+pub fn behind_value(drawing: &Drawing, c: Cursor) -> Option<Cursor>
+    requires { Fit drawing.now c }
+    ensures some { IfSome result (ReadFrom drawing.now c) }
+    ensures none { IfNone result (readings_here drawing.now c ≡ []) }
 {
-    match c.next(script, characters) {
+    match c.next(drawing) {
         Step::Attribute(_, _, _, n) | Step::Declaration(_, _, _, n) => Some(n),
         _ => None,
     }
 }
 
 // The first reading of a kind, of the value whose command stands at the cursor.
-pub fn reading_at(script: &[u8], characters: &[u8], c: Cursor, kind: u8) -> Option<Part>
-    requires { Fit script.now c }
-    ensures same { part_of characters.now result
-        ≡ reading_of kind (readings_here script.now characters.now c) }
+pub fn reading_at(drawing: &Drawing, c: Cursor, kind: u8) -> Option<Part>
+    requires { Fit drawing.now c }
+    ensures same { part_of drawing.now.characters.now result ≡ reading_of kind (readings_here drawing.now c) }
     ensures fit { PartFit result }
 {
-    let behind = behind_value(script, characters, c)?;
-    reading_of(script, characters, behind, c.chars, kind)
+    let behind = behind_value(drawing, c)?;
+    reading_of(drawing, behind, c.chars, kind)
 }
 
 // Has that value a reading of that kind with these bytes?
-pub fn any_reading_at(script: &[u8], characters: &[u8], c: Cursor, kind: u8, id: &[u8]) -> bool
-    requires { Fit script.now c }
-    ensures { result ≡ any_reading kind id.now (readings_here script.now characters.now c) }
+pub fn any_reading_at(drawing: &Drawing, c: Cursor, kind: u8, id: &[u8]) -> bool
+    requires { Fit drawing.now c }
+    ensures { result ≡ any_reading kind id.now (readings_here drawing.now c) }
 {
-    match behind_value(script, characters, c) {
-        Some(behind) => any_reading(script, characters, behind, c.chars, kind, id),
+    // No is_some_and: of a closure that holds a drawing the check knows no equation.
+    match behind_value(drawing, c) {
+        Some(behind) => any_reading(drawing, behind, c.chars, kind, id),
         None => false,
     }
 }

@@ -10,6 +10,7 @@ use tree::word::{has_kind, node_link};
 use tree::{Kind, word};
 
 // `parent_element`: the nearest element above node i.
+#[tactic(auto, using(tree::proofs::Climbs::climbs))]
 pub fn parent_element(nodes: &[u32], i: u32) -> Option<u32>
     requires { (k : ℕ) → k ≤ i → Placed nodes.now k }
     ensures found { plus_one result ≡ element_from (nodes_read nodes.now) i (parent_of (nodes_read nodes.now) i) }
@@ -43,6 +44,7 @@ fn self_or_parent(nodes: &[u32], attributes: &[u32], i: u32, a: u32) -> Option<u
 }
 
 // `find_attribute_impl`: the node that has the attribute.
+#[tactic(auto, unfolding(model::specs::Questions::find_attribute_impl))]
 pub fn find_attribute_impl(nodes: &[u32], attributes: &[u32], i: u32, a: u32) -> Option<u32>
     requires { Climbable (read_of nodes.now attributes.now) i }
     ensures found { plus_one result ≡ find_attribute_impl (read_of nodes.now attributes.now) i a }

@@ -28,8 +28,7 @@ fn question_fault(
     node: u32,
     name: u32,
 ) -> Result<(), Refusal>
-    ensures { answer_of result ≡ question_fault characters.now
-        (tree_of nodes.now attributes.now text.now counts) node name }
+    ensures { answer_of result ≡ question_fault characters.now (tree_of nodes.now attributes.now text.now counts) node name }
 {
     if !is_sound(nodes, attributes, text, characters, counts) {
         return Err(Refusal::UnsoundTables);
@@ -44,6 +43,7 @@ fn question_fault(
 }
 
 // The attribute question: the entry that `attribute` reads.
+#[tactic(auto, unfolding(model::specs::Questions::attribute_question))]
 pub fn attribute(
     nodes: &[u32],
     attributes: &[u32],
@@ -53,14 +53,14 @@ pub fn attribute(
     node: u32,
     name: u32,
 ) -> Result<Option<u32>, Refusal>
-    ensures { A.answer_of result ≡ attribute_question characters.now
-        (tree_of nodes.now attributes.now text.now counts) node name }
+    ensures { A.answer_of result ≡ attribute_question characters.now (tree_of nodes.now attributes.now text.now counts) node name }
 {
     question_fault(nodes, attributes, text, characters, counts, node, name)?;
     Ok(attribute_of(nodes, attributes, characters, node, name))
 }
 
 // The find attribute question: the node that `find_attribute_impl` finds, and then its `attribute`.
+#[tactic(auto, unfolding(model::specs::Questions::find_attribute_question))]
 pub fn find_attribute(
     nodes: &[u32],
     attributes: &[u32],
@@ -70,8 +70,7 @@ pub fn find_attribute(
     node: u32,
     name: u32,
 ) -> Result<Option<u32>, Refusal>
-    ensures { A.answer_of result ≡ find_attribute_question characters.now
-        (tree_of nodes.now attributes.now text.now counts) node name }
+    ensures { A.answer_of result ≡ find_attribute_question characters.now (tree_of nodes.now attributes.now text.now counts) node name }
 {
     question_fault(nodes, attributes, text, characters, counts, node, name)?;
     let Some(holder) = find_attribute_impl(nodes, attributes, node, name) else {
@@ -81,6 +80,7 @@ pub fn find_attribute(
 }
 
 // The id question: the last element with that id.
+#[tactic(auto, unfolding(model::specs::Check::first_of, model::specs::Questions::element_by_id_question))]
 pub fn element_by_id(
     nodes: &[u32],
     attributes: &[u32],
@@ -89,8 +89,7 @@ pub fn element_by_id(
     counts: Counts,
     id: &[u8],
 ) -> Result<Option<u32>, Refusal>
-    ensures { A.answer_of result ≡ element_by_id_question characters.now
-        (tree_of nodes.now attributes.now text.now counts) id.now }
+    ensures { A.answer_of result ≡ element_by_id_question characters.now (tree_of nodes.now attributes.now text.now counts) id.now }
 {
     if !is_sound(nodes, attributes, text, characters, counts) {
         return Err(Refusal::UnsoundTables);
@@ -129,6 +128,7 @@ fn text_at(nodes: &[u32], i: u32) -> Option<Part>
 }
 
 // Where the text of a node lies in the text table: empty where the tables are broken or the node is past the end.
+#[tactic(auto, unfolding(model::specs::Questions::text_question))]
 pub fn text_part(
     nodes: &[u32],
     attributes: &[u32],
@@ -137,8 +137,7 @@ pub fn text_part(
     counts: Counts,
     node: u32,
 ) -> Part
-    ensures { result ≡ parted (text_question characters.now
-        (tree_of nodes.now attributes.now text.now counts) node) }
+    ensures { result ≡ parted (text_question characters.now (tree_of nodes.now attributes.now text.now counts) node) }
 {
     let empty = Part { start: 0, size: 0 };
     if !is_sound(nodes, attributes, text, characters, counts) || counts.nodes <= node {
@@ -148,6 +147,7 @@ pub fn text_part(
 }
 
 // The text question: that part of the caller's text table.
+#[tactic(auto, using(tree::proofs::Entries::part_of))]
 pub fn text<'a>(
     nodes: &[u32],
     attributes: &[u32],
@@ -156,8 +156,7 @@ pub fn text<'a>(
     counts: Counts,
     node: u32,
 ) -> &'a [u8]
-    ensures { result.now ≡ bytes_of (text_question characters.now
-        (tree_of nodes.now attributes.now text.now counts) node) text.now }
+    ensures { result.now ≡ bytes_of (text_question characters.now (tree_of nodes.now attributes.now text.now counts) node) text.now }
 {
     let part = text_part(nodes, attributes, text, characters, counts, node);
     let from = part.start as usize;

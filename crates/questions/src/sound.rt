@@ -28,13 +28,12 @@ fn is_placed(nodes: &[u32], i: u32) -> bool
     requires { 8 * i + 7 < length nodes.now }
     ensures { result ≡ is_placed (nodes_read nodes.now) i }
 {
-    let parent = node_word(nodes, i, word::PARENT);
-    if i == 0 {
-        return has_kind(nodes, i, Kind::Root) && parent == 0;
+    match node_link(nodes, i, word::PARENT) {
+        None => i == 0 && has_kind(nodes, i, Kind::Root),
+        Some(parent) => {
+            parent < i && (has_kind(nodes, i, Kind::Element) || has_kind(nodes, i, Kind::Text))
+        }
     }
-    (has_kind(nodes, i, Kind::Element) || has_kind(nodes, i, Kind::Text))
-        && 1 <= parent
-        && parent <= i
 }
 
 // A sibling or child of node i: none, or larger than i within the count.
@@ -101,13 +100,12 @@ fn are_nodes(nodes: &[u32], counts: Counts) -> bool
 fn is_entry(e: Entry, size: usize) -> bool
     ensures { result ≡ is_entry size (entry_of e) }
 {
-    if !is_attribute(e.name) {
-        return false;
-    }
-    if e.command != 0 {
-        return e.start as usize + e.size as usize <= size;
-    }
-    1 <= e.start && e.start <= FIXED_VALUES && e.size == 0
+    is_attribute(e.name)
+        && if e.command == 0 {
+            1 <= e.start && e.start <= FIXED_VALUES && e.size == 0
+        } else {
+            e.start as usize + e.size as usize <= size
+        }
 }
 
 fn are_entries(attributes: &[u32], size: usize, count: u32) -> bool
@@ -126,8 +124,7 @@ pub fn is_sound(
     characters: &[u8],
     counts: Counts,
 ) -> bool
-    ensures { result ≡ is_sound characters.now
-        (tree_of nodes.now attributes.now text.now counts) }
+    ensures { result ≡ is_sound characters.now (tree_of nodes.now attributes.now text.now counts) }
 {
     counts_fit(nodes, attributes, text, counts)
         && are_nodes(nodes, counts)

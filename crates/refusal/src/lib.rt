@@ -2,7 +2,7 @@
 #![tactic(auto)]
 
 ghost use Rattle.std.specs.Prelude.{◌≡◌};
-ghost use Rattle.refusal.specs.Number.{number_of};
+ghost use Rattle.refusal.specs.Number.{number_of, answer_of};
 
 // The causes, each with its number in docs/MANUAL.md.
 #[derive(Clone, Copy, PartialEq, Eq, Debug)]
@@ -35,5 +35,15 @@ impl From<Refusal> for u32 {
 
     fn from(r: Refusal) -> u32 {
         r as u32
+    }
+}
+
+// The number of an answer that has nothing but its refusal: 0 where nothing is refused.
+pub fn answer_number(answer: Result<(), Refusal>) -> u32
+    ensures { result ≡ answer_of answer }
+{
+    match answer {
+        Ok(()) => 0,
+        Err(refusal) => refusal.into(),
     }
 }

@@ -4,14 +4,12 @@ use mathlib.Core.Bool.{Bool, true, false, true≢false}
 use mathlib.Core.List.{List, [], ◌∷◌}
 use Prim.Native.Nat.{ℕ, zero, suc, ◌+◌, ◌-◌, ◌<◌, ◌≤◌}
 use native.Mathlib.Omega.{arith}
-use native.Mathlib.Decide.{ℕ_discrete}
 use borrow.Author.Tests.{le-leb}
 use lib.Dec.{eqb}
-use lib.ListN.{length, get_or, replicate, length-replicate}
+use lib.ListN.{length, get_or, length-replicate}
 use Rattle.model.specs.Base.{pick, or}
 use Rattle.model.specs.EId
-use Rattle.model.specs.Check.{check}
-use Rattle.model.specs.Drawing.{Value, events}
+use Rattle.model.specs.Drawing.{Value}
 use Rattle.model.specs.Tables.{Tree, is_named, entry_at, attribute_id, set_none}
 use Rattle.model.specs.Repair.{up_from, all_named, Cut, cut_name, apply_cut, applied, repairs, repaired}
 use Rattle.model.proofs.Theorems.Unused.{replicate-zero}
@@ -21,8 +19,10 @@ use Rattle.model.specs.Theorems.Kept.{KeptNode, Tidy}
 use Rattle.model.specs.Theorems.GoingOn.{element_of, pairs_of, going_on}
 use Rattle.model.specs.Theorems.Images.{images_on, pass_on, passes_on}
 use Rattle.model.proofs.Theorems.Images.{repairs-going-on, values-bare}
+use Rattle.ids.specs.declared.heads.Heads.{Heads}
+use Rattle.script.specs.declared.drawing.Drawing.{Drawing}
 use Rattle.script.specs.declared.cursor.Cursor.{Cursor}
-use Rattle.script.specs.Step.{Fit, at_start}
+use Rattle.script.specs.Step.{Fit, at_start, Checked, document}
 use Rattle.places.specs.declared.marks.Marks.{Marks}
 use Rattle.places.specs.Marks.{Marked}
 use Rattle.tree.specs.declared.Counts.{Counts}
@@ -133,19 +133,19 @@ tidy-seen size ns es bs c g = record {
 -- ONE PASS AFTER ANOTHER
 
 -- Before the passes ks: what they leave is what all passes leave of the tables at first.
-pub record Before (script chars : List ℕ) (marks : Marks) (heads ns : List ℕ) (c : Counts) (ks es₀ es : List ℕ) (hint : Cursor) : Type 0 where
-  pub mendable : Mendable script chars marks heads ns es c hint
+pub record Before (drawing : Drawing) (marks : Marks) (heads : Heads) (ns : List ℕ) (c : Counts) (ks es₀ es : List ℕ) (hint : Cursor) : Type 0 where
+  pub mendable : Mendable drawing marks heads ns es c hint
   pub long : length es ≡ length es₀
-  pub same : applied (seen_of ns es c) (passes_on chars (values_of script chars) ks (seen_of ns es c))
-      ≡ applied (seen_of ns es₀ c) (passes_on chars (values_of script chars) (1 ∷ 2 ∷ 3 ∷ 4 ∷ 5 ∷ 6 ∷ []) (seen_of ns es₀ c))
+  pub same : applied (seen_of ns es c) (passes_on drawing.characters.now (values_of drawing) ks (seen_of ns es c))
+      ≡ applied (seen_of ns es₀ c) (passes_on drawing.characters.now (values_of drawing) (1 ∷ 2 ∷ 3 ∷ 4 ∷ 5 ∷ 6 ∷ []) (seen_of ns es₀ c))
 
-module _ (script chars : List ℕ) (marks : Marks) (heads ns : List ℕ) (c : Counts) (es₀ : List ℕ) where
-  pub before-all : check script chars ≡ 0 → Marked script marks → Tidy (length chars) (seen_of ns es₀ c)
-      → Indexed chars (read_of ns es₀) heads c.nodes → (start : Cursor)
-      → start ≡ at_start → Before script chars marks heads ns c (1 ∷ 2 ∷ 3 ∷ 4 ∷ 5 ∷ 6 ∷ []) es₀ es₀ start
+module _ (drawing : Drawing) (marks : Marks) (heads : Heads) (ns : List ℕ) (c : Counts) (es₀ : List ℕ) where
+  pub before-all : Checked drawing → Marked drawing marks → Tidy (length drawing.characters.now) (seen_of ns es₀ c)
+      → Indexed drawing.characters.now (read_of ns es₀) heads c.nodes → (start : Cursor)
+      → start ≡ at_start → Before drawing marks heads ns c (1 ∷ 2 ∷ 3 ∷ 4 ∷ 5 ∷ 6 ∷ []) es₀ es₀ start
   before-all h m g k start e = record {
     mendable = record {
-      drawn = record { checked = h; marked = m; fit = start-fit script chars h start e };
+      drawn = record { checked = h; marked = m; fit = start-fit drawing h start e };
       tidy = g;
       indexed = k;
     };
@@ -153,54 +153,54 @@ module _ (script chars : List ℕ) (marks : Marks) (heads ns : List ℕ) (c : Co
     same = refl;
   }
 
-  pub before-next : (k : ℕ) (ks es : List ℕ) (hint : Cursor) → Before script chars marks heads ns c (k ∷ ks) es₀ es hint
+  pub before-next : (k : ℕ) (ks es : List ℕ) (hint : Cursor) → Before drawing marks heads ns c (k ∷ ks) es₀ es hint
       → (es' : List ℕ) (n : Cursor)
-      → seen_of ns es' c ≡ applied (seen_of ns es c) (pass_on chars (values_of script chars) k (seen_of ns es c)) → Fit script n
-      → Before script chars marks heads ns c ks es₀ es' n
+      → seen_of ns es' c ≡ applied (seen_of ns es c) (pass_on drawing.characters.now (values_of drawing) k (seen_of ns es c)) → Fit drawing n
+      → Before drawing marks heads ns c ks es₀ es' n
   unfolding passes_on
   before-next k ks es hint q es' n e f =
       let t : Tree = seen_of ns es c in
-      let vs : List Value = values_of script chars in
-      let cs : List Cut = pass_on chars vs k t in
+      let vs : List Value = values_of drawing in
+      let cs : List Cut = pass_on drawing.characters.now vs k t in
       record {
-        mendable = mend-on script chars marks heads ns es c cs es' e hint q.mendable n f;
-        long = long-on script chars marks heads ns es c cs es' e ∙ q.long;
+        mendable = mend-on drawing marks heads ns es c cs es' e hint q.mendable n f;
+        long = long-on drawing marks heads ns es c cs es' e ∙ q.long;
         same =
-            ap (λ (u : Tree). applied u (passes_on chars vs ks u)) e
-            ∙ sym (applied-more t cs (passes_on chars vs ks (applied t cs)))
+            ap (λ (u : Tree). applied u (passes_on drawing.characters.now vs ks u)) e
+            ∙ sym (applied-more t cs (passes_on drawing.characters.now vs ks (applied t cs)))
             ∙ q.same;
       }
 
   -- The passes from one on, in a loop.
-  pub before-first : check script chars ≡ 0 → Marked script marks → Tidy (length chars) (seen_of ns es₀ c)
-      → Indexed chars (read_of ns es₀) heads c.nodes → Before script chars marks heads ns c (up_from 1 6) es₀ es₀ at_start
+  pub before-first : Checked drawing → Marked drawing marks → Tidy (length drawing.characters.now) (seen_of ns es₀ c)
+      → Indexed drawing.characters.now (read_of ns es₀) heads c.nodes → Before drawing marks heads ns c (up_from 1 6) es₀ es₀ at_start
   unfolding up_from
   before-first h m g k = before-all h m g k at_start refl
 
-  pub before-turn : (i : ℕ) (es : List ℕ) → i < 6 → Before script chars marks heads ns c (up_from (i + 1) (6 - i)) es₀ es at_start
+  pub before-turn : (i : ℕ) (es : List ℕ) → i < 6 → Before drawing marks heads ns c (up_from (i + 1) (6 - i)) es₀ es at_start
       → (k : ℕ) → k ≡ i + 1 → (es' : List ℕ)
-      → seen_of ns es' c ≡ applied (seen_of ns es c) (pass_on chars (values_of script chars) k (seen_of ns es c))
-      → Before script chars marks heads ns c (up_from (i + 1 + 1) (6 - (i + 1))) es₀ es' at_start
+      → seen_of ns es' c ≡ applied (seen_of ns es c) (pass_on drawing.characters.now (values_of drawing) k (seen_of ns es c))
+      → Before drawing marks heads ns c (up_from (i + 1 + 1) (6 - (i + 1))) es₀ es' at_start
   unfolding up_from
   before-turn i es l q k d es' e =
       let n : 6 - i ≡ suc (6 - (i + 1)) = omega arith in
       before-next (i + 1) (up_from (i + 1 + 1) (6 - (i + 1))) es at_start
-      (subst (λ (m : ℕ). Before script chars marks heads ns c (up_from (i + 1) m) es₀ es at_start) n q) es' at_start (rw d at e)
+      (subst (λ (m : ℕ). Before drawing marks heads ns c (up_from (i + 1) m) es₀ es at_start) n q) es' at_start (rw d at e)
       q.mendable.drawn.fit
 
-  pub before-none : (es : List ℕ) (hint : Cursor) → Before script chars marks heads ns c [] es₀ es hint
-      → seen_of ns es c ≡ applied (seen_of ns es₀ c) (all_passes chars (values_of script chars) (seen_of ns es₀ c))
+  pub before-none : (es : List ℕ) (hint : Cursor) → Before drawing marks heads ns c [] es₀ es hint
+      → seen_of ns es c ≡ applied (seen_of ns es₀ c) (all_passes drawing.characters.now (values_of drawing) (seen_of ns es₀ c))
   unfolding passes_on applied
   before-none es hint q = q.same
 
   -- The last one is left.
-  pub before_last : (i : ℕ) (es : List ℕ) → 5 ≤ i → i ≤ 5 → Before script chars marks heads ns c (up_from (i + 1) (6 - i)) es₀ es at_start
-      → (es' : List ℕ) → seen_of ns es' c ≡ applied (seen_of ns es c) (pass_on chars (values_of script chars) 6 (seen_of ns es c))
-      → Before script chars marks heads ns c [] es₀ es' at_start
+  pub before_last : (i : ℕ) (es : List ℕ) → 5 ≤ i → i ≤ 5 → Before drawing marks heads ns c (up_from (i + 1) (6 - i)) es₀ es at_start
+      → (es' : List ℕ) → seen_of ns es' c ≡ applied (seen_of ns es c) (pass_on drawing.characters.now (values_of drawing) 6 (seen_of ns es c))
+      → Before drawing marks heads ns c [] es₀ es' at_start
   unfolding up_from
   before_last i es l h q es' e =
       let d : i ≡ 5 = omega arith in
-      before-turn 5 es (omega arith) (subst (λ (x : ℕ). Before script chars marks heads ns c (up_from (x + 1) (6 - x)) es₀ es at_start) d q)
+      before-turn 5 es (omega arith) (subst (λ (x : ℕ). Before drawing marks heads ns c (up_from (x + 1) (6 - x)) es₀ es at_start) d q)
       6 refl es' e
 
 -- THE LIST OF PASSES
@@ -215,17 +215,17 @@ pass-at (suc (suc (suc (suc (suc i))))) d l = absurd (omega arith)
 
 -- THE REPAIRS
 
-module _ (script chars ns es₀ es : List ℕ) (c : Counts) (h : check script chars ≡ 0) (g : Tidy (length chars) (seen_of ns es₀ c)) where
+module _ (drawing : Drawing) (ns es₀ es : List ℕ) (c : Counts) (h : Checked drawing) (g : Tidy (length drawing.characters.now) (seen_of ns es₀ c)) where
   -- What all passes leave are the repairs, with any text.
-  pub mended : seen_of ns es c ≡ applied (seen_of ns es₀ c) (all_passes chars (values_of script chars) (seen_of ns es₀ c)) → (bs : List ℕ)
-      → tree_of ns es bs c ≡ repaired chars (values_of script chars) (tree_of ns es₀ bs c)
+  pub mended : seen_of ns es c ≡ applied (seen_of ns es₀ c) (all_passes drawing.characters.now (values_of drawing) (seen_of ns es₀ c)) → (bs : List ℕ)
+      → tree_of ns es bs c ≡ repaired drawing.characters.now (values_of drawing) (tree_of ns es₀ bs c)
   unfolding repaired
   mended q bs =
       let t : Tree = seen_of ns es₀ c in
-      let vs : List Value = values_of script chars in
-      let bare = values-bare (length chars) (events script chars) (all-inside script chars h) in
-      ap (with_text bs) (q ∙ ap (applied t) (sym (repairs-going-on (length chars) chars vs bare t g)))
-      ∙ sym (repaired-text bs chars vs t)
+      let vs : List Value = values_of drawing in
+      let bare = values-bare (length drawing.characters.now) (document drawing) (all-inside drawing.script.now drawing.characters.now h) in
+      ap (with_text bs) (q ∙ ap (applied t) (sym (repairs-going-on (length drawing.characters.now) drawing.characters.now vs bare t g)))
+      ∙ sym (repaired-text bs drawing.characters.now vs t)
 
 -- NOTHING TO REPAIR
 
@@ -238,18 +238,6 @@ none_named t code (suc n) a h =
 neither : (a b : Bool) → or a b ≡ false → (a ≡ false) × (b ≡ false)
 neither true b e = absurd (true≢false e)
 neither false b e = (refl, e)
-
--- The nodes before i are looked at by no pass.
-pub record Unlinked (t : Tree) (count i : ℕ) : Type 0 where
-  pub high : i ≤ count
-  pub none : (m : ℕ) → m < i → is_linked t m ≡ false
-
-pub unlinked-more : (t : Tree) (count i : ℕ) → Unlinked t count i → i < count → is_linked t i ≡ false → Unlinked t count (i + 1)
-unlinked-more t count i w l e = record { high = omega arith; none = λ m h. go m h (ℕ_discrete m i) }
-  where
-    go : (m : ℕ) → m < i + 1 → Dec (m ≡ i) → is_linked t m ≡ false
-    go m h (yes d) = ap (is_linked t) d ∙ e
-    go m h (no d) = w.none m (omega arith)
 
 module _ (chars : List ℕ) (values : List Value) (t : Tree) where
   pass-bare : (k : ℕ) → k ≤ 5 → all_named t (element_of k) (up_from 0 t.node_count) ≡ [] → pass_on chars values k t ≡ []
@@ -297,10 +285,3 @@ unlinked chars values t h =
 
     none : (code : ℕ) → ((i : ℕ) → i < t.node_count → is_named t code i ≡ false) → all_named t code (up_from 0 t.node_count) ≡ []
     none code k = none_named t code t.node_count 0 (λ m x y. k m (omega arith))
-
--- Heads that are all 0: nothing is chained.
-pub heads-none : (length {A = ℕ} (replicate 2049 0) ≡ 2049) × ((b : ℕ) → ◌≡◌ {A = ℕ} (get_or (replicate 2049 0) b 0) 0)
-heads-none = (length-replicate {A = ℕ} 2049 0, replicate-zero 2049)
-
-pub indexed-none : (chars : List ℕ) (t : Tree) (n : ℕ) → Indexed chars t (replicate 2049 0) n
-indexed-none chars t n = record { chained = λ z. absurd (z (replicate-zero 2049 2048)) }

@@ -4,22 +4,23 @@ use mathlib.Core.Bool.{Bool, true, false}
 use mathlib.Core.List.{List, [], ◌∷◌}
 use Prim.Native.Nat.{ℕ, ◌+◌, ◌-◌, ◌<◌, ◌≤◌}
 use native.Mathlib.Omega.{arith}
-use borrow.Author.Tests.{eqb-true, ne_eqb, le-leb}
+use borrow.Author.Tests.{ne_eqb, le-leb}
 use lib.Dec.{eqb}
 use lib.ListN.{length}
 use Rattle.model.specs.Base.{pick, and, Pair}
 use Rattle.model.specs.EId
-use Rattle.model.specs.Drawing.{Value, events}
-use Rattle.model.specs.Tables.{Tree, ELEMENT, word, kind_of, is_named, attribute_id, set_none}
+use Rattle.model.specs.Drawing.{Value}
+use Rattle.model.specs.Tables.{Tree, ELEMENT, word, is_named, attribute_id, set_none}
 use Rattle.model.specs.Repair.{up_from, all_named, descendants, recursive_fe_image, Cut, cut_name, cut_entry, cut_at, apply_cut, applied}
-use Rattle.model.proofs.Theorems.Sim.{and_left}
 use Rattle.model.proofs.Theorems.Cuts as cuts
 use Rattle.model.specs.Theorems.GoingOn.{with_each, pairs_of, going_on, element_of}
 use Rattle.model.proofs.Theorems.Inside.{all-inside}
 use Rattle.model.specs.Theorems.Images.{images_on, pass_on}
 use Rattle.model.proofs.Theorems.Images.{values-bare}
+use Rattle.ids.specs.declared.heads.Heads.{Heads}
+use Rattle.script.specs.declared.drawing.Drawing.{Drawing}
 use Rattle.script.specs.declared.cursor.Cursor.{Cursor}
-use Rattle.script.specs.Step.{Fit, at_start}
+use Rattle.script.specs.Step.{Fit, at_start, document}
 use Rattle.places.specs.declared.marks.Marks.{Marks}
 use Rattle.tree.specs.declared.Counts.{Counts}
 use Rattle.leads.specs.Links.{values_of}
@@ -108,9 +109,6 @@ module _ (chars : List ℕ) (values : List Value) (k : ℕ) (t : Tree) (code : �
 
 -- FEIMAGE
 
-pub named-kind : (t : Tree) (code i : ℕ) → is_named t code i ≡ true → kind_of t i ≡ ELEMENT
-named-kind t code i e = eqb-true _ _ (and_left _ _ e)
-
 module _ (chars : List ℕ) (values : List Value) where
   images-first : (t : Tree) (i : ℕ) (is : List ℕ) → applied t (images_on chars values t (i ∷ is))
       ≡ (let u : Tree = applied t (images_on chars values t (i ∷ [])) in applied u (images_on chars values u is))
@@ -175,45 +173,35 @@ module _ (chars : List ℕ) (values : List Value) where
 -- THE LOOP
 
 -- In the middle of the nodes: i is next, and what is still to do leaves what all of it leaves.
-pub record Pass (script chars : List ℕ) (marks : Marks) (heads ns : List ℕ) (c : Counts) (f : Tree → List ℕ → List Cut) (es₀ es : List ℕ) (i : ℕ) (hint : Cursor)
+pub record Pass (drawing : Drawing) (marks : Marks) (heads : Heads) (ns : List ℕ) (c : Counts) (f : Tree → List ℕ → List Cut) (es₀ es : List ℕ) (i : ℕ) (hint : Cursor)
     : Type 0 where
-  pub mendable : Mendable script chars marks heads ns es c hint
+  pub mendable : Mendable drawing marks heads ns es c hint
   pub long : length es ≡ length es₀
   pub same : applied (seen_of ns es c) (f (seen_of ns es c) (up_from i (c.nodes - i)))
       ≡ applied (seen_of ns es₀ c) (f (seen_of ns es₀ c) (up_from 0 c.nodes))
 
-module _ (script chars : List ℕ) (marks : Marks) (heads ns : List ℕ) (c : Counts) (f : Tree → List ℕ → List Cut) where
-  pub pass-start : (es : List ℕ) (hint : Cursor) → Mendable script chars marks heads ns es c hint
-      → Pass script chars marks heads ns c f es es 0 hint
-  pass-start es hint g =
-      let e : c.nodes - 0 ≡ c.nodes = omega arith in
+module _ (drawing : Drawing) (marks : Marks) (heads : Heads) (ns : List ℕ) (c : Counts) (f : Tree → List ℕ → List Cut) (o : OneByOne f)
+    (es₀ es : List ℕ) (i : ℕ) (hint : Cursor) (q : Pass drawing marks heads ns c f es₀ es i hint) where
+  pub pass-turn : i < c.nodes → (es' : List ℕ) (n : Cursor)
+      → seen_of ns es' c ≡ applied (seen_of ns es c) (f (seen_of ns es c) (i ∷ [])) → Fit drawing n
+      → Pass drawing marks heads ns c f es₀ es' (i + 1) n
+  pass-turn l es' n e g =
+      let t : Tree = seen_of ns es c in
+      let cs : List Cut = f t (i ∷ []) in
       record {
-        mendable = g;
-        long = refl;
-        same = ap (λ (n : ℕ). applied (seen_of ns es c) (f (seen_of ns es c) (up_from 0 n))) e;
+        mendable = mend-on drawing marks heads ns es c cs es' e hint q.mendable n g;
+        long = long-on drawing marks heads ns es c cs es' e ∙ q.long;
+        same =
+            sym (o.more t (seen_of ns es' c) refl refl i (up_from (i + 1) (c.nodes - (i + 1))) e)
+            ∙ ap (λ (is : List ℕ). applied t (f t is)) (sym (up_step i c.nodes l))
+            ∙ q.same;
       }
 
-  module _ (o : OneByOne f) (es₀ es : List ℕ) (i : ℕ) (hint : Cursor) (q : Pass script chars marks heads ns c f es₀ es i hint) where
-    pub pass-turn : i < c.nodes → (es' : List ℕ) (n : Cursor)
-        → seen_of ns es' c ≡ applied (seen_of ns es c) (f (seen_of ns es c) (i ∷ [])) → Fit script n
-        → Pass script chars marks heads ns c f es₀ es' (i + 1) n
-    pass-turn l es' n e g =
-        let t : Tree = seen_of ns es c in
-        let cs : List Cut = f t (i ∷ []) in
-        record {
-          mendable = mend-on script chars marks heads ns es c cs es' e hint q.mendable n g;
-          long = long-on script chars marks heads ns es c cs es' e ∙ q.long;
-          same =
-              sym (o.more t (seen_of ns es' c) refl refl i (up_from (i + 1) (c.nodes - (i + 1))) e)
-              ∙ ap (λ (is : List ℕ). applied t (f t is)) (sym (up_step i c.nodes l))
-              ∙ q.same;
-        }
-
-    pub pass-done : c.nodes ≤ i → seen_of ns es c ≡ applied (seen_of ns es₀ c) (f (seen_of ns es₀ c) (up_from 0 c.nodes))
-    pass-done l =
-        sym (o.none (seen_of ns es c))
-        ∙ sym (ap (λ (is : List ℕ). applied (seen_of ns es c) (f (seen_of ns es c) is)) (up_none i c.nodes l))
-        ∙ q.same
+  pub pass-done : c.nodes ≤ i → seen_of ns es c ≡ applied (seen_of ns es₀ c) (f (seen_of ns es₀ c) (up_from 0 c.nodes))
+  pass-done l =
+      sym (o.none (seen_of ns es c))
+      ∙ sym (ap (λ (is : List ℕ). applied (seen_of ns es c) (f (seen_of ns es c) is)) (up_none i c.nodes l))
+      ∙ q.same
 
 -- THE MARKS
 
@@ -248,18 +236,18 @@ links-same ns es es' c a i h =
     go xs = with-same (seen_of ns es c) (seen_of ns es' c) a h xs
 
 -- Cuts keep the marks.
-module _ (script chars : List ℕ) (marks : Marks) (heads ns es : List ℕ) (c : Counts) (g : Mendable script chars marks heads ns es c at_start) (cs : List Cut)
+module _ (drawing : Drawing) (marks : Marks) (heads : Heads) (ns es : List ℕ) (c : Counts) (g : Mendable drawing marks heads ns es c at_start) (cs : List Cut)
     (es' : List ℕ) (e : seen_of ns es' c ≡ applied (seen_of ns es c) cs) where
-  pub sought-on : (k : ℕ) → 1 ≤ k → k ≤ 5 → Sought chars (values_of script chars) (seen_of ns es c) k
-      → Sought chars (values_of script chars) (seen_of ns es' c) k
+  pub sought-on : (k : ℕ) → 1 ≤ k → k ≤ 5 → Sought drawing.characters.now (values_of drawing) (seen_of ns es c) k
+      → Sought drawing.characters.now (values_of drawing) (seen_of ns es' c) k
   sought-on k f l s i m n h =
       let same = links-same ns es es' c (cut_name k) i
       (λ x. ap (λ (u : Tree). attribute_id u x (cut_name k)) e ∙ ids-cuts cs (seen_of ns es c) x (cut_name k)) in
-      subst (Targeted chars (values_of script chars) k) (sym e)
-      (targeted-applied (length chars) chars (values_of script chars)
-      (values-bare (length chars) (events script chars) (all-inside script chars g.drawn.checked)) k f l (seen_of ns es c) g.tidy
+      subst (Targeted drawing.characters.now (values_of drawing) k) (sym e)
+      (targeted-applied (length drawing.characters.now) drawing.characters.now (values_of drawing)
+      (values-bare (length drawing.characters.now) (document drawing) (all-inside drawing.script.now drawing.characters.now g.drawn.checked)) k f l (seen_of ns es c) g.tidy
       (s i m n (sym same ∙ h)) cs)
 
-  pub resolved-on : Resolved chars (values_of script chars) (seen_of ns es c) 6
-      → Resolved chars (values_of script chars) (seen_of ns es' c) 6
+  pub resolved-on : Resolved drawing.characters.now (values_of drawing) (seen_of ns es c) 6
+      → Resolved drawing.characters.now (values_of drawing) (seen_of ns es' c) 6
   resolved-on r = record { sought = λ k f l. sought-on k f (omega arith) (r.sought k f l) }

@@ -1,18 +1,20 @@
 -- Chains and marks before the passes. Assumes nothing.
-use mathlib.Core.Path.{◌≡◌, sym, ap, ◌∙◌}
+use mathlib.Core.Path.{◌≡◌, sym, ◌∙◌}
 use mathlib.Core.Bool.{true, false, true≢false}
 use mathlib.Core.List.{List}
 use Prim.Native.Nat.{ℕ, ◌+◌, ◌<◌, ◌≤◌}
 use native.Mathlib.Omega.{arith}
 use native.Mathlib.Decide.{ℕ_discrete}
 use Rattle.model.specs.Drawing.{Value}
-use Rattle.model.specs.Tables.{Tree, is_named}
+use Rattle.model.specs.Tables.{is_named}
 use Rattle.model.specs.Repair.{cut_name}
 use Rattle.model.specs.Theorems.GoingOn.{element_of}
+use Rattle.ids.specs.declared.heads.Heads.{Heads}
+use Rattle.script.specs.declared.drawing.Drawing.{Drawing}
 use Rattle.tree.specs.declared.Counts.{Counts}
 use Rattle.tree.specs.Lent.{read_of}
 use Rattle.ids.specs.Chains.{Like, Indexed}
-use Rattle.ids.proofs.Likeness.{like-itself, like-id}
+use Rattle.ids.proofs.Likeness.{like-id}
 use Rattle.leads.specs.Links.{values_of}
 use Rattle.targets.specs.Targets.{seen_of, Targeted}
 use Rattle.cuts.specs.Seen.{has_links}
@@ -27,17 +29,6 @@ like-on n es₀ es es' a b = record {
   important = λ j. b.important j ∙ a.important j;
   behind = λ q l. b.behind q l ∙ a.behind q l;
 }
-
--- No node before i is an element with that code and with links.
-pub record Unsought (t : Tree) (code a i : ℕ) : Type 0 where
-  pub none : (m : ℕ) → m < i → is_sought t code a m ≡ false
-
-pub unsought-more : (t : Tree) (code a i : ℕ) → Unsought t code a i → is_sought t code a i ≡ false → Unsought t code a (i + 1)
-unsought-more t code a i w e = record { none = λ m h. go m h (ℕ_discrete m i) }
-  where
-    go : (m : ℕ) → m < i + 1 → Dec (m ≡ i) → is_sought t code a m ≡ false
-    go m h (yes d) = ap (is_sought t code a) d ∙ e
-    go m h (no d) = w.none m (omega arith)
 
 -- One pass more: it looks at no element with links, or its marks were stored.
 module _ (chars : List ℕ) (values : List Value) (ns es : List ℕ) (c : Counts) (k : ℕ)
@@ -68,34 +59,9 @@ module _ (chars : List ℕ) (values : List Value) (ns es : List ℕ) (c : Counts
           h p f (omega arith) e (r.sought p f (omega arith) i m x (sym same ∙ y))
 
 -- In the middle of the passes: pass k is next.
-pub record Resolving (script chars heads ns es₀ : List ℕ) (c : Counts) (es : List ℕ) (k : ℕ) : Type 0 where
+pub record Resolving (drawing : Drawing) (heads : Heads) (ns es₀ : List ℕ) (c : Counts) (es : List ℕ) (k : ℕ) : Type 0 where
   pub low : 1 ≤ k
   pub high : k ≤ 6
   pub like : Like c.attributes es₀ es
-  pub indexed : Indexed chars (read_of ns es) heads c.nodes
-  pub resolved : Resolved chars (values_of script chars) (seen_of ns es c) k
-
-module _ (script chars heads ns es₀ : List ℕ) (c : Counts) where
-  pub resolving-first : Indexed chars (read_of ns es₀) heads c.nodes → Resolving script chars heads ns es₀ c es₀ 1
-  resolving-first x = record {
-    low = omega arith;
-    high = omega arith;
-    like = like-itself c.attributes es₀;
-    indexed = x;
-    resolved = record { sought = λ k f l. absurd (omega arith) };
-  }
-
-  pub resolving-more : (es : List ℕ) (k : ℕ) → Resolving script chars heads ns es₀ c es k → k ≤ 5 → (es' : List ℕ)
-      → Like c.attributes es es' → Indexed chars (read_of ns es') heads c.nodes
-      → Resolved chars (values_of script chars) (seen_of ns es' c) (k + 1) → Resolving script chars heads ns es₀ c es' (k + 1)
-  resolving-more es k q l es' a x r = record {
-    low = omega arith;
-    high = omega arith;
-    like = like-on c.attributes es₀ es es' q.like a;
-    indexed = x;
-    resolved = r;
-  }
-
-  pub resolving-done : (es : List ℕ) (k : ℕ) → Resolving script chars heads ns es₀ c es k → 5 < k
-      → Resolved chars (values_of script chars) (seen_of ns es c) 6
-  resolving-done es k q l = let e : k ≡ 6 = omega (arith, q.high) in rw e at q.resolved
+  pub indexed : Indexed drawing.characters.now (read_of ns es) heads c.nodes
+  pub resolved : Resolved drawing.characters.now (values_of drawing) (seen_of ns es c) k

@@ -1,5 +1,5 @@
 -- What a pass cuts at a list of nodes, and what all of them cut.
-use Rattle.std.specs.Prelude.{◌≡◌, ℕ, ◌<◌, ◌≤◌, Bool, true, List, [], ◌∷◌, get_or}
+use Rattle.std.specs.Prelude.{◌≡◌, ℕ, ◌<◌, ◌≤◌, Bool, true, List, [], ◌∷◌}
 use Rattle.model.specs.Base.{and, or}
 use Rattle.model.specs.EId
 use Rattle.model.specs.Drawing.{Value}
@@ -7,6 +7,8 @@ use Rattle.model.specs.Tables.{Tree, is_named}
 use Rattle.model.specs.Repair.{all_named, Cut, cut_name}
 use Rattle.model.specs.Theorems.GoingOn.{element_of, pairs_of, going_on}
 use Rattle.model.specs.Theorems.Images.{images_on, passes_on}
+use Rattle.ids.specs.declared.heads.Heads.{Heads}
+use Rattle.script.specs.declared.drawing.Drawing.{Drawing}
 use Rattle.script.specs.Step.{at_start}
 use Rattle.places.specs.declared.marks.Marks.{Marks}
 use Rattle.tree.specs.declared.Counts.{Counts}
@@ -46,6 +48,6 @@ pub record Resolved (chars : List ℕ) (values : List Value) (t : Tree) (n : ℕ
   pub sought : (k : ℕ) → 1 ≤ k → k < n → Sought chars values t k
 
 -- What pass k asks, one of the passes 1 to 5: what the repairs ask, and the marks, if the word behind the heads says so.
-pub record Passable (script chars : List ℕ) (marks : Marks) (heads ns es : List ℕ) (c : Counts) (k : ℕ) : Type 0 where
-  pub mendable : Mendable script chars marks heads ns es c at_start
-  pub sought : (get_or heads 2048 0 ≡ 0 → ⊥) → Sought chars (values_of script chars) (seen_of ns es c) k
+pub record Passable (drawing : Drawing) (marks : Marks) (heads : Heads) (ns es : List ℕ) (c : Counts) (k : ℕ) : Type 0 where
+  pub mendable : Mendable drawing marks heads ns es c at_start
+  pub sought : (heads.is_whole ≡ true) → Sought drawing.characters.now (values_of drawing) (seen_of ns es c) k

@@ -9,11 +9,13 @@ ghost use Rattle.targets.specs.Targets.{seen_of};
 ghost use Rattle.cuts.specs.Seen.{Mendable};
 
 use ids::find::find_id;
+use ids::heads::Heads;
 use leads::filter::has_filter;
 use leads::link::link_of;
 use names::aid;
 use places::marks::Marks;
 use script::cursor::Cursor;
+use script::drawing::Drawing;
 use tree::read::attribute_id;
 use tree::word::node_word;
 use tree::{Counts, word};
@@ -28,35 +30,24 @@ pub struct Image {
 
 // The node that the feImage i leads to, where one of that node's filters leads to i's parent.
 pub fn image_of(
-    script: &[u8],
-    characters: &[u8],
+    drawing: &Drawing,
     marks: &Marks,
-    heads: &[u32; 2049],
+    heads: &Heads,
     nodes: &[u32],
     attributes: &[u32],
     counts: Counts,
     i: u32,
     hint: Cursor,
 ) -> Image
-    requires mendable { Mendable script.now characters.now marks.now heads.now nodes.now attributes.now counts hint }
+    requires mendable { Mendable drawing.now marks.now heads.now nodes.now attributes.now counts hint }
     requires i_lt_nodes { i < counts.nodes }
     requires i_value { word nodes.now i 0 ≡ ELEMENT }
-    ensures same { plus_one result.node ≡ recursive_fe_image characters.now (values_of script.now characters.now)
+    ensures same { plus_one result.node ≡ recursive_fe_image drawing.now.characters.now (values_of drawing.now)
         (seen_of nodes.now attributes.now counts) i }
     ensures within { IfSome result.node (λ w. w < counts.nodes) }
-    ensures fit { Fit script.now result.hint }
+    ensures fit { Fit drawing.now result.hint }
 {
-    let found = link_of(
-        script,
-        characters,
-        marks,
-        nodes,
-        attributes,
-        i,
-        aid::HREF,
-        1,
-        hint,
-    );
+    let found = link_of(drawing, marks, nodes, attributes, i, aid::HREF, 1, hint);
     let nothing = Image {
         node: None,
         hint: found.hint,
@@ -64,15 +55,20 @@ pub fn image_of(
     let Some(p) = found.part else {
         return nothing;
     };
-    let target = part_at(characters, p.start, p.len);
-    let Some(w) = find_id(nodes, attributes, characters, heads, target, counts.nodes) else {
+    let target = part_at(drawing.characters, p.start, p.len);
+    let Some(w) = find_id(
+        nodes,
+        attributes,
+        drawing.characters,
+        heads,
+        target,
+        counts.nodes,
+    ) else {
         return nothing;
     };
     let parent = node_word(nodes, i, word::PARENT) - 1;
     let id = attribute_id(nodes, attributes, parent, aid::ID);
-    let filtered = has_filter(
-        script, characters, marks, nodes, attributes, w, id, found.hint,
-    );
+    let filtered = has_filter(drawing, marks, nodes, attributes, w, id, found.hint);
     if filtered.back {
         return Image {
             node: Some(w),

@@ -11,38 +11,37 @@ ghost use Rattle.repair.specs.Passes.{image_cuts};
 use crate::image::image_of;
 use crate::pass::is_named;
 use cuts::cut::cut;
+use ids::heads::Heads;
 use names::eid;
 use places::marks::Marks;
 use script::cursor::Cursor;
+use script::drawing::Drawing;
 use targets::name::Pass;
 use tree::Counts;
 
 // Node i, where it is a feImage: the filter of the node that it leads to is cut, if it leads back.
 fn cut_image(
-    script: &[u8],
-    characters: &[u8],
+    drawing: &Drawing,
     marks: &Marks,
-    heads: &[u32; 2049],
+    heads: &Heads,
     nodes: &[u32],
     attributes: &mut [u32],
     counts: Counts,
     i: u32,
     hint: Cursor,
 ) -> Cursor
-    requires mendable { Mendable script.now characters.now marks.now heads.now nodes.now attributes.old counts hint }
+    requires mendable { Mendable drawing.now marks.now heads.now nodes.now attributes.old counts hint }
     requires i_lt_nodes { i < counts.nodes }
     ensures tables { seen_of nodes.now attributes.new counts
         ≡ applied (seen_of nodes.now attributes.old counts)
-        (image_cuts characters.now (values_of script.now characters.now)
+        (image_cuts drawing.now.characters.now (values_of drawing.now)
         (seen_of nodes.now attributes.old counts) (i ∷ [])) }
-    ensures fit { Fit script.now result }
+    ensures fit { Fit drawing.now result }
 {
     if !is_named(nodes, eid::FE_IMAGE, i) {
         return hint;
     }
-    let image = image_of(
-        script, characters, marks, heads, nodes, attributes, counts, i, hint,
-    );
+    let image = image_of(drawing, marks, heads, nodes, attributes, counts, i, hint);
     if let Some(node) = image.node {
         cut(nodes, attributes, Pass::FeImage, node);
     }
@@ -51,27 +50,24 @@ fn cut_image(
 
 // Pass 6.
 pub fn cut_images(
-    script: &[u8],
-    characters: &[u8],
+    drawing: &Drawing,
     marks: &Marks,
-    heads: &[u32; 2049],
+    heads: &Heads,
     nodes: &[u32],
     attributes: &mut [u32],
     counts: Counts,
     hint: Cursor,
 ) -> Cursor
-    requires { Mendable script.now characters.now marks.now heads.now nodes.now attributes.old counts hint }
+    requires { Mendable drawing.now marks.now heads.now nodes.now attributes.old counts hint }
     ensures tables { seen_of nodes.now attributes.new counts
         ≡ applied (seen_of nodes.now attributes.old counts)
-        (pass_on characters.now (values_of script.now characters.now) 6
+        (pass_on drawing.now.characters.now (values_of drawing.now) 6
         (seen_of nodes.now attributes.old counts)) }
-    ensures fit { Fit script.now result }
+    ensures fit { Fit drawing.now result }
 {
     let mut c = hint;
     for i in 0..counts.nodes {
-        c = cut_image(
-            script, characters, marks, heads, nodes, attributes, counts, i, c,
-        );
+        c = cut_image(drawing, marks, heads, nodes, attributes, counts, i, c);
     }
     c
 }

@@ -23,10 +23,5 @@ pub fn any_linked(nodes: &[u32], count: u32) -> bool
     requires { 8 * count ≤ length nodes.now }
     ensures { result ≡ false → (i : ℕ) → i < count → is_linked (nodes_read nodes.now) i ≡ false }
 {
-    for i in 0..count {
-        if is_linked(nodes, i) {
-            return true;
-        }
-    }
-    false
+    (0..count).any(|i| is_linked(nodes, i))
 }

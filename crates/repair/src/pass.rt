@@ -14,8 +14,10 @@ ghost use Rattle.repair.specs.Passes.{link_cuts, is_sought, Passable};
 use cuts::Aim;
 use cuts::below::has_links;
 use cuts::pair::cut_element;
+use ids::heads::Heads;
 use names::eid;
 use places::marks::Marks;
+use script::drawing::Drawing;
 use targets::name::{Pass, cut_name};
 use tree::word::{has_kind, node_word};
 use tree::{Counts, Kind, word};
@@ -59,10 +61,9 @@ pub fn is_sought(
 
 // Node i, where it is an element that the pass looks at, with links at or below it. What is known was found for an element before it.
 fn cut_named(
-    script: &[u8],
-    characters: &[u8],
+    drawing: &Drawing,
     marks: &Marks,
-    heads: &[u32; 2049],
+    heads: &Heads,
     quiet: &mut [u32; 4096],
     nodes: &[u32],
     attributes: &mut [u32],
@@ -72,52 +73,50 @@ fn cut_named(
     known: Option<Aim>,
     i: u32,
 ) -> Option<Aim>
-    requires passable { Passable script.now characters.now marks.now heads.now nodes.now attributes.old counts (pass_number pass) }
+    requires passable { Passable drawing.now marks.now heads.now nodes.now attributes.old counts (pass_number pass) }
     requires pass_bound { pass_number pass ≤ 5 }
     requires code_value { code ≡ element_of (pass_number pass) }
     requires i_lt_nodes { i < counts.nodes }
-    requires known_2 { Known characters.now (values_of script.now characters.now) (pass_number pass)
+    requires known_2 { Known drawing.now.characters.now (values_of drawing.now) (pass_number pass)
         (seen_of nodes.now attributes.old counts) known quiet.old }
     ensures tables { seen_of nodes.now attributes.new counts
         ≡ applied (seen_of nodes.now attributes.old counts)
-        (link_cuts characters.now (values_of script.now characters.now) (pass_number pass) code
+        (link_cuts drawing.now.characters.now (values_of drawing.now) (pass_number pass) code
         (seen_of nodes.now attributes.old counts) (i ∷ [])) }
-    ensures known { Known characters.now (values_of script.now characters.now) (pass_number pass)
+    ensures known { Known drawing.now.characters.now (values_of drawing.now) (pass_number pass)
         (seen_of nodes.now attributes.new counts) result quiet.new }
 {
     if !is_sought(nodes, attributes, counts, code, cut_name(pass), i) {
         return known;
     }
     cut_element(
-        script, characters, marks, heads, quiet, nodes, attributes, counts, pass, known, i,
+        drawing, marks, heads, quiet, nodes, attributes, counts, pass, known, i,
     )
 }
 
 // One of the passes 1 to 5.
 pub fn cut_pass(
-    script: &[u8],
-    characters: &[u8],
+    drawing: &Drawing,
     marks: &Marks,
-    heads: &[u32; 2049],
+    heads: &Heads,
     quiet: &mut [u32; 4096],
     nodes: &[u32],
     attributes: &mut [u32],
     counts: Counts,
     pass: Pass,
 )
-    requires passable { Passable script.now characters.now marks.now heads.now nodes.now attributes.old counts (pass_number pass) }
+    requires passable { Passable drawing.now marks.now heads.now nodes.now attributes.old counts (pass_number pass) }
     requires pass_bound { pass_number pass ≤ 5 }
     ensures { seen_of nodes.now attributes.new counts
         ≡ applied (seen_of nodes.now attributes.old counts)
-        (pass_on characters.now (values_of script.now characters.now) (pass_number pass)
+        (pass_on drawing.now.characters.now (values_of drawing.now) (pass_number pass)
         (seen_of nodes.now attributes.old counts)) }
 {
     let code = element_code(pass);
     let mut known = None;
     for i in 0..counts.nodes {
         known = cut_named(
-            script, characters, marks, heads, quiet, nodes, attributes, counts, pass, code, known,
-            i,
+            drawing, marks, heads, quiet, nodes, attributes, counts, pass, code, known, i,
         );
     }
 }

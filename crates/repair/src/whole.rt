@@ -1,8 +1,8 @@
 // The repairs, all six passes in their order.
-ghost use Rattle.std.specs.Prelude.{◌≡◌, List, ℕ, length, get_or};
-ghost use Rattle.model.specs.Check.{check};
+ghost use Rattle.std.specs.Prelude.{◌≡◌, true, List, ℕ, length, get_or};
 ghost use Rattle.model.specs.Repair.{applied, repaired};
 ghost use Rattle.model.specs.Theorems.Kept.{Tidy};
+ghost use Rattle.script.specs.Step.{Checked};
 ghost use Rattle.places.specs.Marks.{Marked};
 ghost use Rattle.tree.specs.Lent.{tree_of, read_of};
 ghost use Rattle.ids.specs.Chains.{Indexed};
@@ -15,41 +15,41 @@ use crate::images::cut_images;
 use crate::linked::any_linked;
 use crate::pass::cut_pass;
 use crate::prepare::{has_room, prepare};
+use ids::heads::Heads;
 use ids::plain::unchain;
 use places::marks::{Marks, set_marks};
 use script::cursor::Cursor;
+use script::drawing::Drawing;
 use tree::Counts;
 
 // The passes.
 fn mend(
-    script: &[u8],
-    characters: &[u8],
+    drawing: &Drawing,
     marks: &Marks,
-    heads: &[u32; 2049],
+    heads: &Heads,
     quiet: &mut [u32; 4096],
     nodes: &[u32],
     attributes: &mut [u32],
     counts: Counts,
 )
-    requires characters_value { check script.now characters.now ≡ 0 }
-    requires marked { Marked script.now marks.now }
-    requires tidy { Tidy (length characters.now) (seen_of nodes.now attributes.old counts) }
-    requires indexed { Indexed characters.now (read_of nodes.now attributes.old) heads.now counts.nodes }
-    requires resolved { (get_or heads.now 2048 0 ≡ 0 → ⊥)
-        → Resolved characters.now (values_of script.now characters.now) (seen_of nodes.now attributes.old counts) 6 }
+    requires characters_value { Checked drawing.now }
+    requires marked { Marked drawing.now marks.now }
+    requires tidy { Tidy (length drawing.now.characters.now) (seen_of nodes.now attributes.old counts) }
+    requires indexed { Indexed drawing.now.characters.now (read_of nodes.now attributes.old) heads.now counts.nodes }
+    requires resolved { heads.now.is_whole ≡ true
+        → Resolved drawing.now.characters.now (values_of drawing.now) (seen_of nodes.now attributes.old counts) 6 }
     ensures { seen_of nodes.now attributes.new counts
         ≡ applied (seen_of nodes.now attributes.old counts)
-        (all_passes characters.now (values_of script.now characters.now)
+        (all_passes drawing.now.characters.now (values_of drawing.now)
         (seen_of nodes.now attributes.old counts)) }
 {
     for pass in LINK_PASSES {
         cut_pass(
-            script, characters, marks, heads, quiet, nodes, attributes, counts, pass,
+            drawing, marks, heads, quiet, nodes, attributes, counts, pass,
         );
     }
     cut_images(
-        script,
-        characters,
+        drawing,
         marks,
         heads,
         nodes,
@@ -61,37 +61,29 @@ fn mend(
 
 // The attributes with the repairs, whatever the text table has: no repair reads it. Where no element has links to repair, the nodes are
 // looked through once, and nothing else is done. Where there is no room behind the words of importance nothing is prepared.
-pub fn repair(
-    script: &[u8],
-    characters: &[u8],
-    nodes: &[u32],
-    attributes: &mut [u32],
-    counts: Counts,
-)
-    requires characters_value { check script.now characters.now ≡ 0 }
-    requires tidy { Tidy (length characters.now) (seen_of nodes.now attributes.old counts) }
+pub fn repair(drawing: &Drawing, nodes: &[u32], attributes: &mut [u32], counts: Counts)
+    requires characters_value { Checked drawing.now }
+    requires tidy { Tidy (length drawing.now.characters.now) (seen_of nodes.now attributes.old counts) }
     ensures { (bs : List ℕ) → tree_of nodes.now attributes.new bs counts
-        ≡ repaired characters.now (values_of script.now characters.now)
+        ≡ repaired drawing.now.characters.now (values_of drawing.now)
         (tree_of nodes.now attributes.old bs counts) }
 {
     if !any_linked(nodes, counts.nodes) {
         return;
     }
     let mut marks = Marks::new();
-    set_marks(script, characters, &mut marks);
-    let mut heads: [u32; 2049] = [0; 2049];
+    set_marks(drawing, &mut marks);
+    let mut heads = Heads::new();
     let mut quiet: [u32; 4096] = [0; 4096];
     if !has_room(attributes, counts) {
         mend(
-            script, characters, &marks, &heads, &mut quiet, nodes, attributes, counts,
+            drawing, &marks, &heads, &mut quiet, nodes, attributes, counts,
         );
         return;
     }
-    prepare(
-        script, characters, &marks, &mut heads, nodes, attributes, counts,
-    );
+    prepare(drawing, &marks, &mut heads, nodes, attributes, counts);
     mend(
-        script, characters, &marks, &heads, &mut quiet, nodes, attributes, counts,
+        drawing, &marks, &heads, &mut quiet, nodes, attributes, counts,
     );
     unchain(attributes, counts.attributes);
 }

@@ -14,6 +14,7 @@ use Rattle.model.specs.Base.{pick, and}
 use Rattle.model.specs.Utf8.{is_utf8}
 use Rattle.model.specs.Drawing.{Command, opening, attribute, declaration, reading, text, other, closing}
 use Rattle.model.specs.Check.{◌if◌, first_of, string_tests, tests_of, tests_at_end, stepped, check_from, starting, check}
+use Rattle.script.specs.declared.drawing.Drawing.{Drawing}
 use Rattle.script.specs.declared.cursor.Cursor.{Cursor}
 use Rattle.script.specs.declared.check.Stage.TheVariants.{Attributes, Declarations, Children}
 use Rattle.script.specs.declared.check.LastValue.{LastValue}
@@ -98,68 +99,68 @@ reading-kind chars s at ks k o l e = hit 3 _ e
 
 -- A TURN
 
-module _ (script chars : List ℕ) (s : State) (c : Cursor) (ks : List ℕ) where
-  opened : (x : Command) (cs : List Command) → commands_at script c ≡ x ∷ cs
-      → check_at script chars s c ks ≡ pick (eqb (test_of chars s c.chars ks x) 0)
-      (λ u. check_from chars (length chars) (stepped chars (length chars) (state_of s c.chars ks) x) cs)
-      (λ u. test_of chars s c.chars ks x)
+module _ (drawing : Drawing) (s : State) (c : Cursor) (ks : List ℕ) where
+  opened : (x : Command) (cs : List Command) → commands_at drawing c ≡ x ∷ cs
+      → check_at drawing s c ks ≡ pick (eqb (test_of drawing.characters.now s c.chars ks x) 0)
+      (λ u. check_from drawing.characters.now (length drawing.characters.now) (stepped drawing.characters.now (length drawing.characters.now) (state_of s c.chars ks) x) cs)
+      (λ u. test_of drawing.characters.now s c.chars ks x)
   unfolding check_from
   opened x cs e = rw e
 
-  pub stops : (x : Command) (cs : List Command) (r : Refusal) → commands_at script c ≡ x ∷ cs
-      → number_of r ≡ test_of chars s c.chars ks x → number_of r ≡ check_at script chars s c ks
+  pub stops : (x : Command) (cs : List Command) (r : Refusal) → commands_at drawing c ≡ x ∷ cs
+      → number_of r ≡ test_of drawing.characters.now s c.chars ks x → number_of r ≡ check_at drawing s c ks
   stops x cs r e f =
-      f ∙ sym (opened x cs e ∙ rw (ne_eqb (test_of chars s c.chars ks x) 0 (λ g. number_nonzero r (f ∙ g))))
+      f ∙ sym (opened x cs e ∙ rw (ne_eqb (test_of drawing.characters.now s c.chars ks x) 0 (λ g. number_nonzero r (f ∙ g))))
 
-  pub turned : (x : Command) (n : Cursor) (j : Result State Refusal) → Here script c x n → Fit script n → Judged chars s c.chars ks x j
-      → Turned script chars s c ks (onward_of j n)
-  turned x n (Err t) h f g = stops x (commands_at script n) t h.more g
+  pub turned : (x : Command) (n : Cursor) (j : Result State Refusal) → Here drawing c x n → Fit drawing n → Judged drawing.characters.now s c.chars ks x j
+      → Turned drawing s c ks (onward_of j n)
+  turned x n (Err t) h f g = stops x (commands_at drawing n) t h.more g
   turned x n (Ok s') h f g = record {
     kinds = g.kinds;
     held = g.held;
     inside = g.inside;
     fit = f;
     further = h.further;
-    same = ap (λ (k : Cursor). check_from chars (length chars) (state_of s' k.chars g.kinds) (commands_at script n)) h.next
-        ∙ ap (λ v. check_from chars (length chars) v (commands_at script n)) g.state
-        ∙ sym (opened x (commands_at script n) h.more ∙ rw (eq-eqb (test_of chars s c.chars ks x) 0 g.none));
+    same = ap (λ (k : Cursor). check_from drawing.characters.now (length drawing.characters.now) (state_of s' k.chars g.kinds) (commands_at drawing n)) h.next
+        ∙ ap (λ v. check_from drawing.characters.now (length drawing.characters.now) v (commands_at drawing n)) g.state
+        ∙ sym (opened x (commands_at drawing n) h.more ∙ rw (eq-eqb (test_of drawing.characters.now s c.chars ks x) 0 g.none));
   }
 
-  pub turning : (x : Command) (n : Cursor) (j : Result State Refusal) (r : Result (Option (State × Cursor)) Refusal) → Here script c x n → Fit script n
-      → Judged chars s c.chars ks x j → r ≡ onward_of j n → Turned script chars s c ks r
-  turning x n j r h f g e = subst (Turned script chars s c ks) (sym e) (turned x n j h f g)
+  pub turning : (x : Command) (n : Cursor) (j : Result State Refusal) (r : Result (Option (State × Cursor)) Refusal) → Here drawing c x n → Fit drawing n
+      → Judged drawing.characters.now s c.chars ks x j → r ≡ onward_of j n → Turned drawing s c ks r
+  turning x n j r h f g e = subst (Turned drawing s c ks) (sym e) (turned x n j h f g)
 
-  pub ends : (n : ℕ) → commands_at script c ≡ [] → n ≡ first_of (tests_at_end chars (length chars) (state_of s c.chars ks))
-      → n ≡ check_at script chars s c ks
+  pub ends : (n : ℕ) → commands_at drawing c ≡ [] → n ≡ first_of (tests_at_end drawing.characters.now (length drawing.characters.now) (state_of s c.chars ks))
+      → n ≡ check_at drawing s c ks
   unfolding check_from
   ends n e f = f ∙ sym (rw e)
 
 -- THE LOOP
 
-pub record Checking (script chars : List ℕ) (s : State) (c : Cursor) : Type 0 where
+pub record Checking (drawing : Drawing) (s : State) (c : Cursor) : Type 0 where
   pub kinds : List ℕ
   pub held : Held s.last kinds
-  pub inside : Inside chars s.last
-  pub fit : Fit script c
-  pub same : check_at script chars s c kinds ≡ check script chars
+  pub inside : Inside drawing.characters.now s.last
+  pub fit : Fit drawing c
+  pub same : check_at drawing s c kinds ≡ check drawing.script.now drawing.characters.now
 
-pub checking : (script chars : List ℕ) (s : State) (c : Cursor) → length script ≤ 1048576 → length chars ≤ 1048576
+pub checking : (drawing : Drawing) (s : State) (c : Cursor) → length drawing.script.now ≤ 1048576 → length drawing.characters.now ≤ 1048576
     → s ≡ record { depth = 0; stage = Children; begun = false; last = None } → c ≡ record { at = 0; chars = 0; number = 0; texts = 0 }
-    → Checking script chars s c
+    → Checking drawing s c
 unfolding check starting commands_at
-checking script chars s c h l e f =
-    subst (λ s. Checking script chars s c) (sym e)
-    (subst (λ c. Checking script chars (record { depth = 0; stage = Children; begun = false; last = None }) c) (sym f) (record {
+checking drawing s c h l e f =
+    subst (λ s. Checking drawing s c) (sym e)
+    (subst (λ c. Checking drawing (record { depth = 0; stage = Children; begun = false; last = None }) c) (sym f) (record {
       kinds = [];
       held = tt;
       inside = tt;
-      fit = placed_first script at_start refl h;
-      same = sym (rw (le-ltb 1048576 (length script) h, le-ltb 1048576 (length chars) l));
+      fit = placed_first drawing at_start refl h;
+      same = sym (rw (le-ltb 1048576 (length drawing.script.now) h, le-ltb 1048576 (length drawing.characters.now) l));
     }))
 
-pub checking-on : (script chars : List ℕ) (s : State) (c : Cursor) (g : Checking script chars s c) (s' : State) (c' : Cursor)
-    → Onward script chars s c g.kinds s' c' → Checking script chars s' c'
-checking-on script chars s c g s' c' o = record {
+pub checking-on : (drawing : Drawing) (s : State) (c : Cursor) (g : Checking drawing s c) (s' : State) (c' : Cursor)
+    → Onward drawing s c g.kinds s' c' → Checking drawing s' c'
+checking-on drawing s c g s' c' o = record {
   kinds = o.kinds;
   held = o.held;
   inside = o.inside;
@@ -168,10 +169,13 @@ checking-on script chars s c g s' c' o = record {
       ∙ g.same;
 }
 
-pub too_long : (script chars : List ℕ) → 1048576 < length script → 1 ≡ check script chars
+pub too_long : (drawing : Drawing) → 1048576 < length drawing.script.now → 1 ≡ check drawing.script.now drawing.characters.now
 unfolding check
-too_long script chars h = rw (lt-ltb 1048576 (length script) h)
+too_long drawing h = rw (lt-ltb 1048576 (length drawing.script.now) h)
 
-pub too_many : (script chars : List ℕ) → length script ≤ 1048576 → 1048576 < length chars → 1 ≡ check script chars
+pub too_many : (drawing : Drawing) → length drawing.script.now ≤ 1048576 → 1048576 < length drawing.characters.now → 1 ≡ check drawing.script.now drawing.characters.now
 unfolding check
-too_many script chars h l = rw (le-ltb 1048576 (length script) h, lt-ltb 1048576 (length chars) l)
+too_many drawing h l = rw (le-ltb 1048576 (length drawing.script.now) h, lt-ltb 1048576 (length drawing.characters.now) l)
+
+-- Check, command by command.
+pub ruleset checks = (checking, checking-on, too_long, too_many)

@@ -4,6 +4,7 @@ use Rattle.model.specs.Base.{among}
 use Rattle.model.specs.Check as model
 use Rattle.model.specs.Check.{check_from, first_of, tests_of, stepped}
 use Rattle.model.specs.Drawing.{Command, taken}
+use Rattle.script.specs.declared.drawing.Drawing.{Drawing}
 use Rattle.script.specs.declared.cursor.Cursor.{Cursor}
 use Rattle.script.specs.declared.check.Stage.{Stage}
 use Rattle.script.specs.declared.check.Stage.TheVariants.{Attributes, Declarations, Children}
@@ -67,20 +68,20 @@ onward_of (Ok s) c = Ok (Some (s, c))
 onward_of (Err r) c = Err r
 
 -- What check gives from the cursor on.
-abbrev pub check_at : List ℕ → List ℕ → State → Cursor → List ℕ → ℕ
-check_at script chars s c ks = check_from chars (length chars) (state_of s c.chars ks) (commands_at script c)
+abbrev pub check_at : Drawing → State → Cursor → List ℕ → ℕ
+check_at drawing s c ks = check_from drawing.characters.now (length drawing.characters.now) (state_of s c.chars ks) (commands_at drawing c)
 
 -- A turn that goes on.
-pub record Onward (script chars : List ℕ) (s : State) (c : Cursor) (ks : List ℕ) (s' : State) (c' : Cursor) : Type 0 where
+pub record Onward (drawing : Drawing) (s : State) (c : Cursor) (ks : List ℕ) (s' : State) (c' : Cursor) : Type 0 where
   pub kinds : List ℕ
   pub held : Held s'.last kinds
-  pub inside : Inside chars s'.last
-  pub fit : Fit script c'
+  pub inside : Inside drawing.characters.now s'.last
+  pub fit : Fit drawing c'
   pub further : c.at < c'.at
-  pub same : check_at script chars s' c' kinds ≡ check_at script chars s c ks
+  pub same : check_at drawing s' c' kinds ≡ check_at drawing s c ks
 
 -- A turn, rightly taken.
-abbrev pub Turned : List ℕ → List ℕ → State → Cursor → List ℕ → Result (Option (State × Cursor)) Refusal → Type 0
-Turned script chars s c ks (Ok (Some x)) = Onward script chars s c ks x.0 x.1
-Turned script chars s c ks (Ok None) = 0 ≡ check_at script chars s c ks
-Turned script chars s c ks (Err r) = number_of r ≡ check_at script chars s c ks
+abbrev pub Turned : Drawing → State → Cursor → List ℕ → Result (Option (State × Cursor)) Refusal → Type 0
+Turned drawing s c ks (Ok (Some x)) = Onward drawing s c ks x.0 x.1
+Turned drawing s c ks (Ok None) = 0 ≡ check_at drawing s c ks
+Turned drawing s c ks (Err r) = number_of r ≡ check_at drawing s c ks

@@ -1,7 +1,7 @@
 -- The commands of a script as the code has them: a cursor, and the step at it.
 use Rattle.std.specs.Prelude.{◌≡◌, ℕ, zero, suc, ◌+◌, ◌*◌, ◌^◌, ◌<◌, ◌≤◌, Bool, true, false, List, [], ◌∷◌, length, drop}
 use Rattle.model.specs.Base.{pick}
-use Rattle.model.specs.Check.{most_bytes}
+use Rattle.model.specs.Check.{most_bytes, check}
 use Rattle.model.specs.Drawing.{
   Command,
   opening,
@@ -16,7 +16,10 @@ use Rattle.model.specs.Drawing.{
   Mark,
   taken,
   counted,
+  Event,
+  events,
 }
+use Rattle.script.specs.declared.drawing.Drawing.{Drawing}
 use Rattle.script.specs.declared.cursor.Cursor.{Cursor}
 use Rattle.script.specs.declared.cursor.Step.{Step}
 use Rattle.script.specs.declared.cursor.Step.TheVariants.{Open, Attribute, Declaration, Reading, Text, Other, Close, Broken, End}
@@ -29,9 +32,17 @@ most_place = 2 ^ 52
 abbrev pub most_start : ℕ
 most_start = 2 ^ 53
 
+-- The nodes of a drawing's document.
+abbrev pub document : Drawing → List Event
+document drawing = events drawing.script.now drawing.characters.now
+
+-- check takes the drawing.
+abbrev pub Checked : Drawing → Type 0
+Checked drawing = check drawing.script.now drawing.characters.now ≡ 0
+
 -- The commands from the cursor on.
-unfoldable pub commands_at : List ℕ → Cursor → List Command
-commands_at script c = commands (drop c.at script)
+unfoldable pub commands_at : Drawing → Cursor → List Command
+commands_at drawing c = commands (drop c.at drawing.script.now)
 
 -- The decoding at the cursor.
 abbrev pub mark_of : Cursor → Mark
@@ -76,21 +87,21 @@ place_from (suc n) c [] = c
 place_from (suc n) c (x ∷ cs) = pick (is_broken x) (λ u. c) (λ u. place_from n (moved c x) cs)
 
 -- The cursor behind the first n commands of a script: the command numbered n + 1 stands there.
-unfoldable pub place_of : List ℕ → ℕ → Cursor
-place_of script n = place_from n at_start (commands script)
+unfoldable pub place_of : Drawing → ℕ → Cursor
+place_of drawing n = place_from n at_start (commands drawing.script.now)
 
 -- A cursor of a script of at most 1,048,576 bytes: it stands behind as many commands as its number says, and keeps every sum small.
-pub record Fit (script : List ℕ) (c : Cursor) : Type 0 where
-  pub size : length script ≤ most_bytes
-  pub at : c.at ≤ length script
+pub record Fit (drawing : Drawing) (c : Cursor) : Type 0 where
+  pub size : length drawing.script.now ≤ most_bytes
+  pub at : c.at ≤ length drawing.script.now
   pub chars : c.chars ≤ c.at * 2 ^ 32
   pub number : c.number ≤ c.at
   pub texts : c.texts ≤ c.at
-  pub placed : c ≡ place_of script c.number
+  pub placed : c ≡ place_of drawing c.number
 
 -- The command x stands at the cursor c, and n is the cursor behind it.
-pub record Here (script : List ℕ) (c : Cursor) (x : Command) (n : Cursor) : Type 0 where
-  pub more : commands_at script c ≡ x ∷ commands_at script n
+pub record Here (drawing : Drawing) (c : Cursor) (x : Command) (n : Cursor) : Type 0 where
+  pub more : commands_at drawing c ≡ x ∷ commands_at drawing n
   pub next : n ≡ moved c x
   pub further : c.at < n.at
 
@@ -112,17 +123,17 @@ step_of [] c = End
 step_of (x ∷ xs) c = to_step x (moved c x)
 
 -- The step at a cursor.
-unfoldable pub step_at : List ℕ → Cursor → Step
-step_at script c = step_of (commands_at script c) c
+unfoldable pub step_at : Drawing → Cursor → Step
+step_at drawing c = step_of (commands_at drawing c) c
 
 -- The cursor of a step is in range.
-abbrev pub Going : List ℕ → Step → Type 0
-Going s (Open c n k) = Fit s k
-Going s (Attribute a n l k) = Fit s k
-Going s (Declaration a i l k) = Fit s k
-Going s (Reading r o l k) = Fit s k
-Going s (Text l k) = Fit s k
-Going s (Other k) = Fit s k
-Going s (Close k) = Fit s k
-Going s (Broken b) = Unit {0}
-Going s End = Unit {0}
+abbrev pub Going : Drawing → Step → Type 0
+Going drawing (Open c n k) = Fit drawing k
+Going drawing (Attribute a n l k) = Fit drawing k
+Going drawing (Declaration a i l k) = Fit drawing k
+Going drawing (Reading r o l k) = Fit drawing k
+Going drawing (Text l k) = Fit drawing k
+Going drawing (Other k) = Fit drawing k
+Going drawing (Close k) = Fit drawing k
+Going drawing (Broken b) = Unit {0}
+Going drawing End = Unit {0}

@@ -12,6 +12,7 @@ ghost use Rattle.script.specs.Step.{Fit, most_place};
 ghost use Rattle.script.specs.Known.{stage_of, bit, Kinds, last_of, Held, Inside, state_of, test_of, Judged, onward_of, Turned};
 
 use super::cursor::{Cursor, Step};
+use super::drawing::Drawing;
 use names::{is_attribute, is_element};
 use refusal::Refusal;
 use utf8::is_utf8;
@@ -385,18 +386,14 @@ fn onward(judged: Result<State, Refusal>, c: Cursor) -> Result<Option<(State, Cu
 }
 
 // One command, with what is known behind it; nothing at the end.
-fn advance(
-    script: &[u8],
-    characters: &[u8],
-    s: State,
-    c: Cursor,
-) -> Result<Option<(State, Cursor)>, Refusal>
-    requires fit { Fit script.now c }
-    requires inside { Inside characters.now s.last }
-    ensures { (ks : List ℕ) → Held s.last ks → Turned script.now characters.now s c ks result }
+fn advance(drawing: &Drawing, s: State, c: Cursor) -> Result<Option<(State, Cursor)>, Refusal>
+    requires fit { Fit drawing.now c }
+    requires inside { Inside drawing.now.characters.now s.last }
+    ensures { (ks : List ℕ) → Held s.last ks → Turned drawing.now s c ks result }
 {
+    let characters = drawing.characters;
     let at = c.chars;
-    match c.next(script, characters) {
+    match c.next(drawing) {
         Step::Open(name, space, n) => onward(judge_open(s, name, space), n),
         Step::Attribute(name, space, len, n) => onward(
             judge_attribute(characters, s, at, name, space, len),
@@ -422,19 +419,20 @@ fn advance(
 }
 
 // Are a script and its characters accepted? If not, the first rule that they break.
-pub fn check(script: &[u8], characters: &[u8]) -> Result<(), Refusal>
-    ensures { answer_of result ≡ check script.now characters.now }
+#[tactic(auto, using(crate::proofs::Judging::checks))]
+pub fn check(drawing: &Drawing) -> Result<(), Refusal>
+    ensures { answer_of result ≡ check drawing.now.script.now drawing.now.characters.now }
 {
-    if MOST_BYTES < script.len() {
+    if MOST_BYTES < drawing.script.len() {
         return Err(Refusal::TooLong);
     }
-    let is_long = MOST_BYTES < characters.len();
+    let is_long = MOST_BYTES < drawing.characters.len();
     if is_long {
         return Err(Refusal::TooLong);
     }
     let mut s = State::start();
     let mut c = Cursor::start();
-    while let Some((next, n)) = advance(script, characters, s, c)? {
+    while let Some((next, n)) = advance(drawing, s, c)? {
         s = next;
         c = n;
     }

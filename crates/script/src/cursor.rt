@@ -4,6 +4,8 @@ ghost use Rattle.model.specs.Check.{most_bytes};
 ghost use Rattle.model.specs.Drawing.{operands, word_at};
 ghost use Rattle.script.specs.Step.{Fit, at_start, step_at, Going};
 
+use super::drawing::Drawing;
+
 // A place between two commands: in the script, in the characters, and the commands and texts so far.
 #[derive(Clone, Copy)]
 pub struct Cursor {
@@ -81,13 +83,14 @@ impl Cursor {
         }
     }
 
-    // The command at the cursor, with the cursor behind it. The drawing is lent whole. Every walk calls it in its loop.
+    // The command at the cursor, with the cursor behind it. Every walk calls it in its loop.
     #[inline(always)]
-    pub fn next(self, script: &[u8], characters: &[u8]) -> Step
-        requires { Fit script.now self }
-        ensures step { result ≡ step_at script.now self }
-        ensures going { Going script.now result }
+    pub fn next(self, drawing: &Drawing) -> Step
+        requires { Fit drawing.now self }
+        ensures step { result ≡ step_at drawing.now self }
+        ensures going { Going drawing.now result }
     {
+        let script = drawing.script;
         let at = self.at;
         if script.len() <= at {
             return Step::End;

@@ -11,6 +11,8 @@ ghost use Rattle.build.specs.Results.{result_of};
 
 use build::Built;
 use questions::{Answer, Part, question};
+use refusal::answer_number;
+use script::drawing::Drawing;
 use tree::Counts;
 
 // One number for a script and its characters, 0 if they are accepted.
@@ -18,10 +20,7 @@ use tree::Counts;
 pub extern "C" fn svgtree_check(script: &[u8], characters: &[u8]) -> u32
     ensures { result ≡ check script.now characters.now }
 {
-    match script::check::check(script, characters) {
-        Ok(()) => 0,
-        Err(refusal) => refusal.into(),
-    }
+    answer_number(script::check::check(&Drawing { script, characters }))
 }
 
 // A drawing in the three tables. Every refusal clears them and gives counts of 0.
@@ -37,7 +36,7 @@ pub extern "C" fn svgtree_build(
         ≡ build script.now characters.now (length nodes.old) (length attributes.old)
         (length text.old) }
 {
-    build::whole::build(script, characters, nodes, attributes, text).into()
+    build::whole::build(&Drawing { script, characters }, nodes, attributes, text).into()
 }
 
 // The text with that number becomes these bytes, and the tables are built anew. 1 to 9 and 30 to 33 touch nothing; 20 to 24 leave the
@@ -70,8 +69,7 @@ pub extern "C" fn svgtree_attribute(
     node: u32,
     name: u32,
 ) -> Answer
-    ensures { result ≡ answered (attribute_question characters.now
-        (tree_of nodes.now attributes.now text.now counts) node name) }
+    ensures { result ≡ answered (attribute_question characters.now (tree_of nodes.now attributes.now text.now counts) node name) }
 {
     question::attribute(nodes, attributes, text, characters, counts, node, name).into()
 }
@@ -87,8 +85,7 @@ pub extern "C" fn svgtree_find_attribute(
     node: u32,
     name: u32,
 ) -> Answer
-    ensures { result ≡ answered (find_attribute_question characters.now
-        (tree_of nodes.now attributes.now text.now counts) node name) }
+    ensures { result ≡ answered (find_attribute_question characters.now (tree_of nodes.now attributes.now text.now counts) node name) }
 {
     question::find_attribute(nodes, attributes, text, characters, counts, node, name).into()
 }
@@ -103,8 +100,7 @@ pub extern "C" fn svgtree_element_by_id(
     counts: Counts,
     id: &[u8],
 ) -> Answer
-    ensures { result ≡ answered (element_by_id_question characters.now
-        (tree_of nodes.now attributes.now text.now counts) id.now) }
+    ensures { result ≡ answered (element_by_id_question characters.now (tree_of nodes.now attributes.now text.now counts) id.now) }
 {
     question::element_by_id(nodes, attributes, text, characters, counts, id).into()
 }
@@ -119,8 +115,7 @@ pub extern "C" fn svgtree_text(
     counts: Counts,
     node: u32,
 ) -> Part
-    ensures { result ≡ parted (text_question characters.now
-        (tree_of nodes.now attributes.now text.now counts) node) }
+    ensures { result ≡ parted (text_question characters.now (tree_of nodes.now attributes.now text.now counts) node) }
 {
     question::text_part(nodes, attributes, text, characters, counts, node)
 }

@@ -3,7 +3,7 @@ use mathlib.Core.Path.{◌≡◌, refl, sym, ap, ◌∙◌}
 use mathlib.Core.Bool.{Bool, true, false}
 use mathlib.Core.List.{List, []}
 use mathlib.Core.Option.{Option, none, some}
-use Prim.Native.Nat.{ℕ, ◌+◌, ◌-◌, ◌*◌, ◌/◌, ◌<◌, ◌≤◌}
+use Prim.Native.Nat.{ℕ, ◌+◌, ◌-◌, ◌/◌, ◌<◌, ◌≤◌}
 use native.Mathlib.Omega.{arith}
 use borrow.Author.Tests.{ne_eqb, ltb-false}
 use lib.Dec.{eqb, ltb}
@@ -12,13 +12,14 @@ use lib.ListN.{length}
 use Rattle.model.specs.Base.{pick, or, given}
 use Rattle.model.specs.Check.{check, check_from, starting, most_bytes}
 use Rattle.model.specs.Drawing.{Part, Value, commands, reading_of, readings_of}
-use Rattle.model.specs.Tables.{Tree, to_of, entry_at, entry_word, attribute_id, last_with_id, element_by_id}
+use Rattle.model.specs.Tables.{Tree, entry_at, entry_word, attribute_id, last_with_id, element_by_id}
 use Rattle.model.specs.Repair.{readings_of_attribute, link_of, cut_name}
+use Rattle.script.specs.declared.drawing.Drawing.{Drawing}
 use Rattle.script.specs.declared.cursor.Cursor.{Cursor}
-use Rattle.script.specs.Step.{Fit, at_start}
+use Rattle.script.specs.Step.{Fit, at_start, Checked}
 use Rattle.script.proofs.Commands.{placed_first}
 use Rattle.tree.specs.declared.Counts.{Counts}
-use Rattle.tree.specs.Lent.{read_of, Readable, HeldBy}
+use Rattle.tree.specs.Lent.{read_of}
 use Rattle.tree.proofs.Entries.{taken, one-less}
 use Rattle.tree.proofs.Alike.{id_same, attribute-same, last-same}
 use Rattle.targets.specs.Targets.{seen_of, pass_kind, mark_for, mark_of, stored_mark, Targeted}
@@ -27,19 +28,19 @@ use Rattle.targets.proofs.Marks.{for_some}
 -- THE START
 
 -- What check says of the script's length.
-pub small : (script chars : List ℕ) → check script chars ≡ 0 → length script ≤ most_bytes
+pub small : (drawing : Drawing) → Checked drawing → length drawing.script.now ≤ most_bytes
 unfolding check
-small script chars h = go (ltb most_bytes (length script)) refl h
+small drawing h = go (ltb most_bytes (length drawing.script.now)) refl h
   where
-    go : (b : Bool) → ltb most_bytes (length script) ≡ b
-        → pick (or b (ltb most_bytes (length chars))) (λ u. 1) (λ u. check_from chars (length chars) starting (commands script)) ≡ 0
-        → length script ≤ most_bytes
+    go : (b : Bool) → ltb most_bytes (length drawing.script.now) ≡ b
+        → pick (or b (ltb most_bytes (length drawing.characters.now))) (λ u. 1) (λ u. check_from drawing.characters.now (length drawing.characters.now) starting (commands drawing.script.now)) ≡ 0
+        → length drawing.script.now ≤ most_bytes
     go true p q = let z : ◌≡◌ {A = ℕ} 1 0 = q in absurd (omega arith)
     go false p q = ltb-false _ _ p
 
 -- The cursor at the start of a script that check takes.
-pub start-fit : (script chars : List ℕ) → check script chars ≡ 0 → (c : Cursor) → c ≡ at_start → Fit script c
-start-fit script chars h c e = placed_first script c e (small script chars h)
+pub start-fit : (drawing : Drawing) → Checked drawing → (c : Cursor) → c ≡ at_start → Fit drawing c
+start-fit drawing h c e = placed_first drawing c e (small drawing h)
 
 -- THE MARK OF AN ID
 
@@ -104,12 +105,6 @@ module _ (chars : List ℕ) (values : List Value) (ns es : List ℕ) (c : Counts
   mark-nowhere e = by-link none e
 
 -- A MARK THAT IS STORED
-
--- The entry of an attribute stands in the table.
-pub held-inside : (t : Tree) (i j : ℕ) → Readable t i → HeldBy t i j → 5 * j + 4 < length t.attributes
-held-inside t i j r h =
-    let n : 5 * to_of t i ≤ length t.attributes = r.range h.element in
-    omega (arith, h.inside)
 
 -- Node m's attribute a, looked for.
 module _ (t : Tree) (a m : ℕ) where

@@ -6,7 +6,7 @@ use Prim.Native.Nat.{ℕ, ◌+◌, ◌-◌, ◌*◌, ◌/◌}
 use native.Mathlib.Omega.{arith}
 use borrow.Author.Tests.{ne_eqb}
 use lib.Dec.{eqb}
-use lib.ListN.{get_or, set}
+use lib.ListN.{get_or}
 use Rattle.model.specs.Base.{pick, and, given, same_bytes}
 use Rattle.model.specs.Drawing.{Reading, Value, readings_of, reading_of}
 use Rattle.model.specs.Names.{is_possible_none, fixed_bytes}
@@ -18,10 +18,6 @@ use Rattle.tree.proofs.Alike.{id_same}
 use Rattle.tree.proofs.Entries.{one-less}
 use Rattle.targets.specs.Targets.{seen_of, pass_kind, mark_for, mark_of, stored_mark}
 use Rattle.targets.specs.Storing.{StoredBefore, SameValue, Twin}
-
--- A slot is written.
-pub slot-set : (xs : List ℕ) (i j x : ℕ) → i ≡ j → set xs i x ≡ set xs j x
-slot-set xs i j x e = ap (λ (k : ℕ). set xs k x) e
 
 -- THE SAME MARK
 

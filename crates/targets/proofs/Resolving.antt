@@ -10,8 +10,7 @@ use lib.ListN.{length, get_or, replicate}
 use lib.Seq.{get_or-set_same, get_or-set_other}
 use Rattle.model.specs.Base.{pick, given}
 use Rattle.model.specs.AId
-use Rattle.model.specs.Check.{check}
-use Rattle.model.specs.Drawing.{Value, events, readings_of, reading_of}
+use Rattle.model.specs.Drawing.{Value, readings_of, reading_of}
 use Rattle.model.specs.Tables.{Tree, entry_at, entry_word, attribute_id, attribute_of}
 use Rattle.model.specs.Repair.{readings_of_attribute, cut_name}
 use Rattle.model.proofs.Theorems.Inside.{all-inside}
@@ -19,8 +18,10 @@ use Rattle.model.proofs.Theorems.Images.{values-bare}
 use Rattle.model.specs.Theorems.Kept.{Tidy}
 use Rattle.model.proofs.Theorems.Kept.{attribute-any}
 use Rattle.model.proofs.Theorems.Cuts.{attribute-there, one-owner}
+use Rattle.ids.specs.declared.heads.Heads.{Heads}
+use Rattle.script.specs.declared.drawing.Drawing.{Drawing}
 use Rattle.script.specs.declared.cursor.Cursor.{Cursor}
-use Rattle.script.specs.Step.{Fit}
+use Rattle.script.specs.Step.{Fit, Checked, document}
 use Rattle.tree.specs.declared.Counts.{Counts}
 use Rattle.tree.specs.Lent.{read_of}
 use Rattle.tree.proofs.Alike.{id_same}
@@ -136,12 +137,12 @@ module _ (size : ℕ) (ns es : List ℕ) (c : Counts) (g : Tidy size (seen_of ns
           rw (ne_eqb _ 0 z) (ap (λ (y : ℕ). y / 2) same ∙ half (get_or es (5 * e + 1) 0))
 
   -- Ids stay in their chains.
-  set-indexed : (a ≡ AId.Id → ⊥) → (chars hs : List ℕ) (n : ℕ) → Indexed chars (read_of ns es) hs n → Indexed chars (read_of ns es') hs n
+  set-indexed : (a ≡ AId.Id → ⊥) → (chars : List ℕ) (hs : Heads) (n : ℕ) → Indexed chars (read_of ns es) hs n → Indexed chars (read_of ns es') hs n
   set-indexed other chars hs n k = record {
     chained = λ z. chained_same chars (read_of ns es) (read_of ns es')
         (λ i. id_same u i AId.Id ∙ set-id i AId.Id ∙ sym (id_same t i AId.Id))
         (λ i. like-element c.attributes es es' set-like ns [] (record { nodes = 0; attributes = 0; text = 0 }) chars i)
-        hs n
+        hs.last n
         (λ i l y. let s = id_same t i AId.Id in
         ap (λ (j : ℕ). entry_word u (j - 1) 1) s ∙ word_kept i AId.Id (λ o. y (s ∙ o)) (λ p q. other (sym q))
         ∙ ap (λ (j : ℕ). entry_word t (j - 1) 1) (sym s))
@@ -151,20 +152,20 @@ module _ (size : ℕ) (ns es : List ℕ) (c : Counts) (g : Tidy size (seen_of ns
 -- THE LOOP
 
 -- In the middle: the marks of the first i nodes are stored.
-pub record Resolving (script chars heads ns : List ℕ) (c : Counts) (k : ℕ) (es₀ es : List ℕ) (i : ℕ) (hint : Cursor) : Type 0 where
+pub record Resolving (drawing : Drawing) (heads : Heads) (ns : List ℕ) (c : Counts) (k : ℕ) (es₀ es : List ℕ) (i : ℕ) (hint : Cursor) : Type 0 where
   pub high : i ≤ c.nodes
   pub like : Like c.attributes es₀ es
-  pub indexed : Indexed chars (read_of ns es) heads c.nodes
+  pub indexed : Indexed drawing.characters.now (read_of ns es) heads c.nodes
   pub marks : (m : ℕ) → m < i
-      → stored_mark (seen_of ns es c) (cut_name k) m ≡ mark_of chars (values_of script chars) k (seen_of ns es c) m
-  pub others : (j : ℕ) → 1 ≤ j → j ≤ 5 → (j ≡ k → ⊥) → Targeted chars (values_of script chars) j (seen_of ns es₀ c)
-      → Targeted chars (values_of script chars) j (seen_of ns es c)
-  pub fit : Fit script hint
+      → stored_mark (seen_of ns es c) (cut_name k) m ≡ mark_of drawing.characters.now (values_of drawing) k (seen_of ns es c) m
+  pub others : (j : ℕ) → 1 ≤ j → j ≤ 5 → (j ≡ k → ⊥) → Targeted drawing.characters.now (values_of drawing) j (seen_of ns es₀ c)
+      → Targeted drawing.characters.now (values_of drawing) j (seen_of ns es c)
+  pub fit : Fit drawing hint
 
 -- No node is looked at yet.
-pub resolving-first : (script chars heads ns : List ℕ) (c : Counts) (k : ℕ) (es : List ℕ) (hint : Cursor)
-    → Indexed chars (read_of ns es) heads c.nodes → Fit script hint → Resolving script chars heads ns c k es es 0 hint
-resolving-first script chars heads ns c k es hint h f = record {
+pub resolving-first : (drawing : Drawing) (heads : Heads) (ns : List ℕ) (c : Counts) (k : ℕ) (es : List ℕ) (hint : Cursor)
+    → Indexed drawing.characters.now (read_of ns es) heads c.nodes → Fit drawing hint → Resolving drawing heads ns c k es es 0 hint
+resolving-first drawing heads ns c k es hint h f = record {
   high = omega arith;
   like = like-itself c.attributes es;
   indexed = h;
@@ -174,41 +175,41 @@ resolving-first script chars heads ns c k es hint h f = record {
 }
 
 -- In the middle of pass k, of a drawing that check takes and tables that were tidy.
-module _ (script chars heads ns : List ℕ) (c : Counts) (k : ℕ) (first : 1 ≤ k) (last : k ≤ 5) (checked : check script chars ≡ 0)
-    (es₀ : List ℕ) (g : Tidy (length chars) (seen_of ns es₀ c)) (es : List ℕ) (i : ℕ) (hint : Cursor)
-    (w : Resolving script chars heads ns c k es₀ es i hint) where
+module _ (drawing : Drawing) (heads : Heads) (ns : List ℕ) (c : Counts) (k : ℕ) (first : 1 ≤ k) (last : k ≤ 5) (checked : Checked drawing)
+    (es₀ : List ℕ) (g : Tidy (length drawing.characters.now) (seen_of ns es₀ c)) (es : List ℕ) (i : ℕ) (hint : Cursor)
+    (w : Resolving drawing heads ns c k es₀ es i hint) where
   -- The values of the drawing.
   abbrev values : List Value
-  values = values_of script chars
+  values = values_of drawing
 
   -- The tree as it is.
   abbrev now : Tree
   now = seen_of ns es c
 
   -- The tables are tidy all the time.
-  pub resolving-tidy : Tidy (length chars) now
-  resolving-tidy = like-tidy (length chars) es₀ es ns (replicate c.text 0) c w.like g
+  pub resolving-tidy : Tidy (length drawing.characters.now) now
+  resolving-tidy = like-tidy (length drawing.characters.now) es₀ es ns (replicate c.text 0) c w.like g
 
   -- A fixed value has no readings.
   bare : readings_of 0 values ≡ []
-  bare = values-bare (length chars) (events script chars) (all-inside script chars checked)
+  bare = values-bare (length drawing.characters.now) (document drawing) (all-inside drawing.script.now drawing.characters.now checked)
 
   -- The next node.
-  pub resolving-next : i < c.nodes → (es' : List ℕ) (n : Cursor) → Stored ns es (cut_name k) i (mark_of chars values k now i) es'
-      → Fit script n → Resolving script chars heads ns c k es₀ es' (i + 1) n
+  pub resolving-next : i < c.nodes → (es' : List ℕ) (n : Cursor) → Stored ns es (cut_name k) i (mark_of drawing.characters.now values k now i) es'
+      → Fit drawing n → Resolving drawing heads ns c k es₀ es' (i + 1) n
   resolving-next l es' n s f = go (ℕ_discrete (attribute_id (read_of ns es) i (cut_name k)) 0)
     where
       a : ℕ
       a = cut_name k
 
       x : ℕ
-      x = mark_of chars values k now i
+      x = mark_of drawing.characters.now values k now i
 
       same : attribute_id (read_of ns es) i a ≡ attribute_id now i a
       same = id_same now i a
 
-      go : Dec (attribute_id (read_of ns es) i a ≡ 0) → Resolving script chars heads ns c k es₀ es' (i + 1) n
-      go (yes z) = subst (λ (r : List ℕ). Resolving script chars heads ns c k es₀ r (i + 1) n) (sym (s.none z)) (record {
+      go : Dec (attribute_id (read_of ns es) i a ≡ 0) → Resolving drawing heads ns c k es₀ es' (i + 1) n
+      go (yes z) = subst (λ (r : List ℕ). Resolving drawing heads ns c k es₀ r (i + 1) n) (sym (s.none z)) (record {
         high = omega arith;
         like = w.like;
         indexed = w.indexed;
@@ -217,24 +218,24 @@ module _ (script chars heads ns : List ℕ) (c : Counts) (k : ℕ) (first : 1 �
         fit = f;
       })
         where
-          at : (m : ℕ) → m < i + 1 → Dec (m ≡ i) → stored_mark now a m ≡ mark_of chars values k now m
+          at : (m : ℕ) → m < i + 1 → Dec (m ≡ i) → stored_mark now a m ≡ mark_of drawing.characters.now values k now m
           at m h (no d) = w.marks m (omega arith)
           at m h (yes d) =
               let y : attribute_id now i a ≡ 0 = sym same ∙ z in
-              ap (stored_mark now a) d ∙ stored-none now a i y ∙ sym (mark-absent chars values bare k now i y)
-              ∙ ap (mark_of chars values k now) (sym d)
-      go (no z) = subst (λ (r : List ℕ). Resolving script chars heads ns c k es₀ r (i + 1) n) (sym behind) (record {
+              ap (stored_mark now a) d ∙ stored-none now a i y ∙ sym (mark-absent drawing.characters.now values bare k now i y)
+              ∙ ap (mark_of drawing.characters.now values k now) (sym d)
+      go (no z) = subst (λ (r : List ℕ). Resolving drawing heads ns c k es₀ r (i + 1) n) (sym behind) (record {
         high = omega arith;
         like = like-next c.attributes es₀ es w.like (attribute_id now i a - 1) x (inside size ns es c tidy i a x there)
             g.kept.fits.entries;
-        indexed = set-indexed size ns es c tidy i a x there (no-id k) chars heads c.nodes w.indexed;
+        indexed = set-indexed size ns es c tidy i a x there (no-id k) drawing.characters.now heads c.nodes w.indexed;
         marks = λ m h. at m h (ℕ_discrete m i);
         others = λ j p q d v. on j p q d (w.others j p q d v);
         fit = f;
       })
         where
           size : ℕ
-          size = length chars
+          size = length drawing.characters.now
 
           tidy : Tidy size now
           tidy = resolving-tidy
@@ -248,26 +249,21 @@ module _ (script chars heads ns : List ℕ) (c : Counts) (k : ℕ) (first : 1 �
           u : Tree
           u = seen_of ns (next_set es (attribute_id now i a - 1) x) c
 
-          mark : (j m : ℕ) → mark_of chars values j u m ≡ mark_of chars values j now m
+          mark : (j m : ℕ) → mark_of drawing.characters.now values j u m ≡ mark_of drawing.characters.now values j now m
           mark j m = like-mark c.attributes es (next_set es (attribute_id now i a - 1) x) (set-like size ns es c tidy i a x there) ns
-              (replicate c.text 0) c chars values j m
+              (replicate c.text 0) c drawing.characters.now values j m
 
-          at : (m : ℕ) → m < i + 1 → Dec (m ≡ i) → stored_mark u a m ≡ mark_of chars values k u m
+          at : (m : ℕ) → m < i + 1 → Dec (m ≡ i) → stored_mark u a m ≡ mark_of drawing.characters.now values k u m
           at m h (no d) = stored_other size ns es c tidy i a x there m a (λ p q. d p) ∙ w.marks m (omega arith) ∙ sym (mark k m)
           at m h (yes d) =
-              ap (stored_mark u a) d ∙ stored-own size ns es c tidy i a x there (mark-fixed chars values bare k now i) ∙ sym (mark k i)
-              ∙ ap (mark_of chars values k u) (sym d)
+              ap (stored_mark u a) d ∙ stored-own size ns es c tidy i a x there (mark-fixed drawing.characters.now values bare k now i) ∙ sym (mark k i)
+              ∙ ap (mark_of drawing.characters.now values k u) (sym d)
 
-          on : (j : ℕ) → 1 ≤ j → j ≤ 5 → (j ≡ k → ⊥) → Targeted chars values j now → Targeted chars values j u
+          on : (j : ℕ) → 1 ≤ j → j ≤ 5 → (j ≡ k → ⊥) → Targeted drawing.characters.now values j now → Targeted drawing.characters.now values j u
           on j p q d v = record {
             marks = λ m h. stored_other size ns es c tidy i a x there m (cut_name j) (λ y o. d (one-pass j k p q first last o))
                 ∙ v.marks m h ∙ sym (mark j m);
           }
-
--- No node is left.
-pub resolving-done : (script chars heads ns : List ℕ) (c : Counts) (k : ℕ) (es₀ es : List ℕ) (i : ℕ) (hint : Cursor)
-    → Resolving script chars heads ns c k es₀ es i hint → c.nodes ≤ i → Targeted chars (values_of script chars) k (seen_of ns es c)
-resolving-done script chars heads ns c k es₀ es i hint w l = record { marks = λ m h. w.marks m (omega (arith, h, l)) }
 
 -- ONE TURN
 
@@ -276,10 +272,6 @@ module _ (ns es : List ℕ) (k m name x : ℕ) (a : name ≡ cut_name k) where
   -- It is the one that the pass cuts.
   own : (w : ℕ) → w ≡ attribute_id (read_of ns es) m name → w ≡ attribute_id (read_of ns es) m (cut_name k)
   own w e = e ∙ ap (attribute_id (read_of ns es) m) a
-
-  -- It is not there, and nothing is written.
-  pub turn-none : 0 ≡ attribute_id (read_of ns es) m name → Stored ns es (cut_name k) m x es
-  turn-none e = record { none = λ y. refl; some = λ y. absurd (y (sym (own 0 e))) }
 
   -- It is there, and what was found is stored.
   pub turn-some : (j : ℕ) → j + 1 ≡ attribute_id (read_of ns es) m name → (y : ℕ) → y ≡ x → (es' : List ℕ) → es' ≡ next_set es j y

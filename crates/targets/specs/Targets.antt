@@ -5,7 +5,14 @@ use Rattle.model.specs.Drawing.{Value}
 use Rattle.model.specs.Tables.{Tree, entry_word, attribute_id, element_by_id}
 use Rattle.model.specs.Repair.{link_of, cut_name}
 use Rattle.tree.specs.declared.Counts.{Counts}
-use Rattle.tree.specs.Lent.{tree_of}
+use Rattle.model.specs.Theorems.Kept.{Tidy}
+use Rattle.script.specs.declared.drawing.Drawing.{Drawing}
+use Rattle.script.specs.Step.{Checked}
+use Rattle.places.specs.declared.marks.Marks.{Marks}
+use Rattle.places.specs.Marks.{Marked}
+use Rattle.tree.specs.Lent.{tree_of, read_of}
+use Rattle.ids.specs.declared.heads.Heads.{Heads}
+use Rattle.ids.specs.Chains.{Indexed}
 
 -- The tables, with as many zeros as there are bytes of text: the repairs read no text.
 abbrev pub seen_of : List ℕ → List ℕ → Counts → Tree
@@ -35,3 +42,12 @@ stored_mark t a m =
 -- For every node that is the mark of its link in pass k.
 pub record Targeted (chars : List ℕ) (values : List Value) (k : ℕ) (t : Tree) : Type 0 where
   pub marks : (m : ℕ) → m < t.node_count → stored_mark t (cut_name k) m ≡ mark_of chars values k t m
+
+-- What setting marks asks: a drawing that check takes, marks of its script, tables that are tidy beside its characters, heads of the chains
+-- of their ids, and so few nodes that a mark has room behind a word of importance.
+pub record Markable (drawing : Drawing) (marks : Marks) (heads : Heads) (ns es : List ℕ) (c : Counts) : Type 0 where
+  pub checked : Checked drawing
+  pub marked : Marked drawing marks
+  pub tidy : Tidy (length drawing.characters.now) (seen_of ns es c)
+  pub indexed : Indexed drawing.characters.now (read_of ns es) heads c.nodes
+  pub few : c.nodes < 1073741824

@@ -1,8 +1,7 @@
 // The marks of links.
-ghost use Rattle.std.specs.Prelude.{◌≡◌, ◌+◌, ◌<◌, ◌≤◌, length, get_or};
-ghost use Rattle.model.specs.Check.{check};
+ghost use Rattle.std.specs.Prelude.{◌≡◌, true, ◌+◌, ◌<◌, ◌≤◌, length, get_or};
 ghost use Rattle.model.specs.Theorems.Kept.{Kept};
-ghost use Rattle.script.specs.Step.{Fit};
+ghost use Rattle.script.specs.Step.{Fit, Checked};
 ghost use Rattle.places.specs.Marks.{Marked};
 ghost use Rattle.tree.specs.Lent.{read_of, Readable};
 ghost use Rattle.ids.specs.Chains.{Indexed};
@@ -12,9 +11,11 @@ ghost use Rattle.targets.specs.Targets.{seen_of, mark_for, mark_of, stored_mark,
 
 use crate::name::{Pass, cut_name, pass_kind};
 use ids::find::find_id;
+use ids::heads::Heads;
 use leads::link::link_of;
 use places::marks::Marks;
 use script::cursor::Cursor;
+use script::drawing::Drawing;
 use tree::read::attribute_id;
 use tree::word::entry_word;
 use tree::{Counts, word};
@@ -32,14 +33,13 @@ fn mark_for(
     nodes: &[u32],
     attributes: &[u32],
     characters: &[u8],
-    heads: &[u32; 2049],
+    heads: &Heads,
     id: &[u8],
     counts: Counts,
 ) -> usize
     requires kept { Kept (length characters.now) (seen_of nodes.now attributes.now counts) }
     requires indexed { Indexed characters.now (read_of nodes.now attributes.now) heads.now counts.nodes }
-    ensures same { result
-        ≡ mark_for characters.now (seen_of nodes.now attributes.now counts) id.now }
+    ensures same { result ≡ mark_for characters.now (seen_of nodes.now attributes.now counts) id.now }
     ensures within { result ≤ counts.nodes + 1 }
 {
     match find_id(nodes, attributes, characters, heads, id, counts.nodes) {
@@ -50,10 +50,9 @@ fn mark_for(
 
 // The mark of node m's link in a pass: the link is read in the script and its element searched for.
 pub fn find_mark(
-    script: &[u8],
-    characters: &[u8],
+    drawing: &Drawing,
     marks: &Marks,
-    heads: &[u32; 2049],
+    heads: &Heads,
     nodes: &[u32],
     attributes: &[u32],
     counts: Counts,
@@ -61,28 +60,26 @@ pub fn find_mark(
     m: u32,
     hint: Cursor,
 ) -> FoundMark
-    requires drawn { Drawn script.now characters.now marks.now hint }
-    requires kept { Kept (length characters.now) (seen_of nodes.now attributes.now counts) }
-    requires indexed { Indexed characters.now (read_of nodes.now attributes.now) heads.now counts.nodes }
+    requires drawn { Drawn drawing.now marks.now hint }
+    requires kept { Kept (length drawing.now.characters.now) (seen_of nodes.now attributes.now counts) }
+    requires indexed { Indexed drawing.now.characters.now (read_of nodes.now attributes.now) heads.now counts.nodes }
     requires m_lt_nodes { m < counts.nodes }
     ensures same { result.mark
-        ≡ mark_of characters.now (values_of script.now characters.now) (pass_number pass)
+        ≡ mark_of drawing.now.characters.now (values_of drawing.now) (pass_number pass)
         (seen_of nodes.now attributes.now counts) m }
-    ensures fit { Fit script.now result.hint × (result.mark ≤ counts.nodes + 1) }
+    ensures fit { Fit drawing.now result.hint × (result.mark ≤ counts.nodes + 1) }
 {
     let name = cut_name(pass);
     let kind = pass_kind(pass);
-    let found = link_of(
-        script, characters, marks, nodes, attributes, m, name, kind, hint,
-    );
+    let found = link_of(drawing, marks, nodes, attributes, m, name, kind, hint);
     let Some(p) = found.part else {
         return FoundMark {
             mark: 0,
             hint: found.hint,
         };
     };
-    let id = part_at(characters, p.start, p.len);
-    let mark = mark_for(nodes, attributes, characters, heads, id, counts);
+    let id = part_at(drawing.characters, p.start, p.len);
+    let mark = mark_for(nodes, attributes, drawing.characters, heads, id, counts);
     FoundMark {
         mark,
         hint: found.hint,
@@ -105,31 +102,29 @@ fn stored_mark(nodes: &[u32], attributes: &[u32], m: u32, name: u32) -> u32
 
 // The mark of node m's link in a pass: as it is stored. Where the word behind the heads is 0 none is, and it is found.
 pub fn mark_of(
-    script: &[u8],
-    characters: &[u8],
+    drawing: &Drawing,
     marks: &Marks,
-    heads: &[u32; 2049],
+    heads: &Heads,
     nodes: &[u32],
     attributes: &[u32],
     counts: Counts,
     pass: Pass,
     m: u32,
 ) -> usize
-    requires characters_value { check script.now characters.now ≡ 0 }
-    requires marked { Marked script.now marks.now }
-    requires kept { Kept (length characters.now) (seen_of nodes.now attributes.now counts) }
-    requires indexed { Indexed characters.now (read_of nodes.now attributes.now) heads.now counts.nodes }
+    requires characters_value { Checked drawing.now }
+    requires marked { Marked drawing.now marks.now }
+    requires kept { Kept (length drawing.now.characters.now) (seen_of nodes.now attributes.now counts) }
+    requires indexed { Indexed drawing.now.characters.now (read_of nodes.now attributes.now) heads.now counts.nodes }
     requires m_lt_nodes { m < counts.nodes }
-    requires targeted { (get_or heads.now 2048 0 ≡ 0 → ⊥)
-        → Targeted characters.now (values_of script.now characters.now) (pass_number pass) (seen_of nodes.now attributes.now counts) }
+    requires targeted { heads.now.is_whole ≡ true
+        → Targeted drawing.now.characters.now (values_of drawing.now) (pass_number pass) (seen_of nodes.now attributes.now counts) }
     ensures { result
-        ≡ mark_of characters.now (values_of script.now characters.now) (pass_number pass)
+        ≡ mark_of drawing.now.characters.now (values_of drawing.now) (pass_number pass)
         (seen_of nodes.now attributes.now counts) m }
 {
-    if heads[2048] == 0 {
+    if !heads.is_whole {
         let found = find_mark(
-            script,
-            characters,
+            drawing,
             marks,
             heads,
             nodes,

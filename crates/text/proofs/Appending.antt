@@ -99,10 +99,6 @@ module _ (ns bs chars : List ℕ) (c : Counts) (w : XmlSpace) (p : ℕ) (s : mod
     no_bytes l = rw (lt-leb (c.text + total_size (s ∷ [])) (min (length bs) most) (omega (arith, one_size, room, h.room))) refl
 
     module _ (fits : s.size ≤ r - c.text) where
-      pub place-fits : (c.text + s.size ≤ most) × (c.text + s.size ≤ length bs)
-      unfolding text_room
-      place-fits = (omega (arith, room, h.room), omega (arith, room, h.room))
-
       enough : leb (c.text + total_size (s ∷ [])) (min (length bs) most) ≡ true
       unfolding text_room
       enough = le-leb (c.text + total_size (s ∷ [])) (min (length bs) most) (omega (arith, one_size, room, h.room))
@@ -125,3 +121,8 @@ module _ (ns bs chars : List ℕ) (c : Counts) (w : XmlSpace) (p : ℕ) (s : mod
           unfolding append_in text_room node_room add_text
           text-added ns' bs' end a b d =
               rw (enough, lt-ltb c.nodes (min (length ns / 8) most) (omega (arith, records)), one_size, one-joined, ← a, ← b, ← d) refl
+
+-- A text that is put, and one that is appended.
+pub ruleset puts = (put-size, put-most, put_back)
+
+pub ruleset appends = (no_bytes, no_record, record-fits, text-added)

@@ -8,12 +8,11 @@ use native.Mathlib.Omega.{arith}
 use borrow.Author.Tests.{eqb-true}
 use lib.Dec.{eqb}
 use lib.ListN.{length, get_or, take, set, length-set, length-append}
-use lib.Seq.{sets, slice, take-suc, take_all}
+use lib.Seq.{sets, slice, take-suc}
 use Rattle.model.specs.Base.{pick, and}
 use Rattle.model.specs.Drawing.{Source}
 use Rattle.model.specs.Text.{XmlSpace, default, preserve, SPACE, is_default, converted, trim_text_after, trim_text, joined}
-use Rattle.text.specs.declared.Trimmed.{Trimmed}
-use Rattle.text.specs.Spaces.{space_by, is_dropped, last_after, trimmed, trim_each}
+use Rattle.text.specs.Spaces.{space_by, is_dropped, last_after, trim_each}
 
 -- ONE PART AFTER ANOTHER
 
@@ -160,17 +159,3 @@ module _ (b : Bool) (source place₀ : List ℕ) (n₀ p₀ : ℕ) (place : List
         text = ap (λ l. set l n c) t.text ∙ ap (λ k. set (sets place₀ n₀ (trim_text_after (space_by b) p₀ seen)) k c) t.count
             ∙ sym (sets_more (trim_text_after (space_by b) p₀ seen) place₀ n₀ c) ∙ ap (sets place₀ n₀) (sym one);
       }
-
--- All of the source is read.
-pub trims-all : (b : Bool) (w : XmlSpace) (source place₀ : List ℕ) (begun : Trimmed) (place : List ℕ) (n p i : ℕ) → b ≡ is_default w →
-    Trims b source place₀ begun.size begun.prev place n p i → length source ≤ i →
-    (record { size = n; prev = p } ≡ trimmed w begun source) × (place ≡ sets place₀ begun.size (trim_text_after w begun.prev source))
-trims-all b w source place₀ begun place n p i d t h =
-    let all = take_all i source h in
-    let same : space_by b ≡ w = ap space_by d ∙ by_default w in (
-      whole (t.count ∙ rw (all, same) refl) (t.last ∙ ap (last_after begun.prev) all),
-      t.text ∙ rw (all, same) refl,
-    )
-  where
-    whole : {a b c d : ℕ} → a ≡ b → c ≡ d → ◌≡◌ {A = Trimmed} (record { size = a; prev = c }) (record { size = b; prev = d })
-    whole e f = rw (e, f) refl

@@ -15,6 +15,7 @@ use tree::write::append;
 use tree::{Counts, Kind, NewNode};
 
 // The text made from one source, put at the beginning of its place in the text table. The answer is where it ends.
+#[tactic(auto, using(crate::proofs::Appending::puts))]
 fn put_text(
     text: &mut [u8],
     characters: &[u8],
@@ -26,8 +27,7 @@ fn put_text(
     requires size_bound { (first + size ≤ 4294967295) × (first + size ≤ length text.old) }
     requires size_in_bounds { start + size ≤ length characters.now }
     ensures end { result ≡ first + length (trim_text (space_in space) (slice start (start + size) characters.now)) }
-    ensures text { text.new
-        ≡ sets text.old first (trim_text (space_in space) (slice start (start + size) characters.now)) }
+    ensures text { text.new ≡ sets text.old first (trim_text (space_in space) (slice start (start + size) characters.now)) }
 {
     let from = first as usize;
     let to = from + size as usize;
@@ -40,6 +40,7 @@ fn put_text(
 }
 
 // A text node below p, made from one text of the script, where `space` is handed down to p: text bytes lacking is 24, no record left 22.
+#[tactic(auto, using(crate::proofs::Appending::appends), unfolding(model::specs::Tables::text_room))]
 pub fn append_text(
     nodes: &mut [u32],
     text: &mut [u8],

@@ -19,6 +19,7 @@ pub fn is_default(space: XmlSpace) -> bool
 }
 
 // `get_xmlspace`: what node i says itself, else `space`.
+#[tactic(auto, unfolding(model::specs::Tables::entry_at, model::specs::Text::get_xmlspace))]
 pub fn get_xmlspace(
     nodes: &[u32],
     attributes: &[u32],
@@ -27,8 +28,7 @@ pub fn get_xmlspace(
     space: XmlSpace,
 ) -> XmlSpace
     requires { ReadableIn (length characters.now) (read_of nodes.now attributes.now) i }
-    ensures { space_in result
-        ≡ get_xmlspace characters.now (read_of nodes.now attributes.now) i (space_in space) }
+    ensures { space_in result ≡ get_xmlspace characters.now (read_of nodes.now attributes.now) i (space_in space) }
 {
     let Some(j) = attribute_id(nodes, attributes, i, aid::SPACE) else {
         return space;
@@ -37,6 +37,7 @@ pub fn get_xmlspace(
 }
 
 // The space that is handed down to node i: what the nearest of it and its ancestors says that says anything.
+#[tactic(auto, unfolding(model::specs::Text::space_of))]
 pub fn space_of(nodes: &[u32], attributes: &[u32], characters: &[u8], i: u32) -> XmlSpace
     requires climbable { Climbable (read_of nodes.now attributes.now) i }
     requires by_index { (k : ℕ) → k ≤ i → ReadableIn (length characters.now) (read_of nodes.now attributes.now) k }
@@ -71,8 +72,7 @@ pub fn is_default_at(
     requires i_nonzero { 0 < parent_of (read_of nodes.now attributes.now) i }
     requires readable_in { ReadableIn (length characters.now) (read_of nodes.now attributes.now)
         (parent_of (read_of nodes.now attributes.now) i - 1) }
-    ensures { result
-        ≡ is_default (space_at characters.now (read_of nodes.now attributes.now) (space_by default) i) }
+    ensures { result ≡ is_default (space_at characters.now (read_of nodes.now attributes.now) (space_by default) i) }
 {
     let parent = node_word(nodes, i, word::PARENT);
     is_default(get_xmlspace(nodes, attributes, characters, parent - 1, space_by(default)))

@@ -8,6 +8,7 @@ use crate::space::is_default;
 use crate::{Trimmed, XmlSpace};
 
 // Carriage return, newline and tab become a space. Each is tested alone: 9 and 10 in one pattern would make a range, with goals of its own.
+#[tactic(auto, unfolding(model::specs::Base::among, model::specs::Text::converted))]
 fn converted(b: u8) -> u8
     ensures { result ≡ converted b }
 {
@@ -36,8 +37,7 @@ fn is_dropped(default: bool, prev: u8, c: u8) -> bool
 pub fn trim_text(source: &[u8], place: &mut [u8], space: XmlSpace, begun: Trimmed) -> Trimmed
     requires { begun.size + length source.now ≤ length place.old }
     ensures answer { result ≡ trimmed (space_in space) begun source.now }
-    ensures place { place.new
-        ≡ sets place.old begun.size (trim_text_after (space_in space) begun.prev source.now) }
+    ensures place { place.new ≡ sets place.old begun.size (trim_text_after (space_in space) begun.prev source.now) }
 {
     let default = is_default(space);
     let mut n = begun.size;

@@ -6,6 +6,7 @@ use links::uses::next_use;
 use memo::fill::fill;
 use places::seek::seek;
 use script::cursor::Cursor;
+use script::drawing::Drawing;
 use walk::node::Opened;
 
 // The commands before an element that was found; 0 where none was.
@@ -22,11 +23,12 @@ pub extern "C" fn timing_first_use(script: &[u8], characters: &[u8]) -> usize {
     if 1048576 < script.len() {
         return 0;
     }
+    let drawing = &Drawing { script, characters };
     let mut slots: [u16; 32768] = [0; 32768];
-    fill(script, characters, &mut slots);
+    fill(drawing, &mut slots);
     let c = Cursor::start();
-    match next_use(script, characters, c, 0) {
-        Some(u) => number_in(use_target(script, characters, &slots, u.element, 0)),
+    match next_use(drawing, c, 0) {
+        Some(u) => number_in(use_target(drawing, &slots, u.element, 0)),
         None => 0,
     }
 }
@@ -37,13 +39,14 @@ pub extern "C" fn timing_every_use(script: &[u8], characters: &[u8]) -> usize {
     if 1048576 < script.len() {
         return 0;
     }
+    let drawing = &Drawing { script, characters };
     let mut slots: [u16; 32768] = [0; 32768];
-    fill(script, characters, &mut slots);
+    fill(drawing, &mut slots);
     let mut c = Cursor::start();
     let mut level: usize = 0;
     let mut last: usize = 0;
-    while let Some(u) = next_use(script, characters, c, level) {
-        last = number_in(use_target(script, characters, &slots, u.element, 0));
+    while let Some(u) = next_use(drawing, c, level) {
+        last = number_in(use_target(drawing, &slots, u.element, 0));
         level = u.open_elements;
         c = u.element.inside;
     }
@@ -56,9 +59,10 @@ pub extern "C" fn timing_seek(script: &[u8], characters: &[u8], n: usize) -> usi
     if 1048576 < script.len() {
         return 0;
     }
+    let drawing = &Drawing { script, characters };
     let mut c = Cursor::start();
     for i in 0..n {
-        c = seek(script, characters, i, c);
+        c = seek(drawing, i, c);
     }
     c.at
 }

@@ -77,17 +77,6 @@ held-value size t i j r h =
     let m : 5 * to_of t i ≤ length t.attributes = r.readable.range h.element in
     (omega (arith, h.inside), r.values h.element j h.inside)
 
--- What `attribute` finds, by what `attribute_id` finds and by the test of the value.
-pub attribute-none : (chars : List ℕ) (t : Tree) (i a : ℕ) → 0 ≡ attribute_id t i a → 0 ≡ attribute_of chars t i a
-unfolding attribute_of
-attribute-none chars t i a e = rw (sym e)
-
-pub attribute-some : (chars : List ℕ) (t : Tree) (i a j : ℕ) (b : Bool) → j + 1 ≡ attribute_id t i a
-    → b ≡ and (is_possible_none a) (same_bytes (value_of chars (entry_at t j)) (fixed_bytes 1))
-    → attribute_of chars t i a ≡ pick b (λ u. 0) (λ u. j + 1)
-unfolding attribute_of
-attribute-some chars t i a j b e d = rw (taken j e, one-less j e, sym e, sym d)
-
 -- Whether an element has the id, by what `attribute_id` finds.
 pub id-none : (chars : List ℕ) (t : Tree) (id : List ℕ) (i : ℕ) → 0 ≡ attribute_id t i 65 → false ≡ has_id_bytes chars t id i
 unfolding has_id_bytes

@@ -85,3 +85,6 @@ module _ (f : ℕ → Bool) (p : ℕ → ℕ) where
 -- Whether a node has the attribute, by what `attribute_id` finds there.
 pub has_attribute-by : (t : Tree) (i a : ℕ) (o : Option ℕ) → plus_one o ≡ attribute_id t i a → is_some o ≡ has_attribute t i a
 has_attribute-by t i a o e = there o ∙ ap (λ (n : ℕ). not (eqb n 0)) e
+
+-- A way up, at its beginning and at its end.
+pub ruleset climbs = (holder-climbs, climb-end)

@@ -5,7 +5,7 @@ use Rattle.std.specs.Option.{is_some}
 use Rattle.std.proofs.Common.{Option, Some, None}
 use Rattle.tree.specs.Lent.{plus_one}
 use mathlib.Core.List.{List, [], ◌∷◌}
-use Prim.Native.Nat.{ℕ, zero, suc, ◌+◌, ◌-◌, ◌<◌, ◌≤◌}
+use Prim.Native.Nat.{ℕ, zero, suc, ◌+◌, ◌-◌, ◌<◌}
 use native.Mathlib.Omega.{arith}
 use lib.ListN.{take, drop}
 use lib.Seq.{slice, take-nil}
@@ -18,10 +18,6 @@ pub find-step : (t : Tree) (a j to : ℕ) → j < to
     → find_entry t a j (to - j) ≡ pick (eqb (entry_word t j 0) a) (λ u. j + 1) (λ u. find_entry t a (j + 1) (to - (j + 1)))
 unfolding find_entry
 find-step t a j to h = let e : to - j ≡ suc (to - (j + 1)) = omega arith in ap (find_entry t a j) e
-
-pub find-end : (t : Tree) (a j to : ℕ) → to ≤ j → 0 ≡ find_entry t a j (to - j)
-unfolding find_entry
-find-end t a j to h = let e : to - j ≡ 0 = omega arith in sym (ap (find_entry t a j) e)
 
 -- The part of a list that the code takes is the slice of the definitions.
 pub part_slice : (f n : ℕ) (l : List ℕ) → take n (drop f l) ≡ slice f (f + n) l
@@ -39,12 +35,11 @@ there (Some i) = let e : eqb (i + 1) 0 ≡ false = ne_eqb (i + 1) 0 (λ z. omega
 pub taken : (i : ℕ) {v : ℕ} → i + 1 ≡ v → eqb v 0 ≡ false
 taken i {v} e = ne_eqb v 0 (λ z. omega arith)
 
-pub there-not : (o : Option ℕ) {v : ℕ} → plus_one o ≡ v → eqb v 0 ≡ not (is_some o)
-there-not None e = rw (sym e)
-there-not (Some i) e = taken i e
-
 pub one-less : (i : ℕ) {v : ℕ} → i + 1 ≡ v → v - 1 ≡ i
 one-less i e = omega arith
 
 pub part_of : (s n : ℕ) (l : List ℕ) → take (s + n - s) (drop s l) ≡ slice s (s + n) l
 part_of s n l = let e : s + n - s ≡ n = omega arith in ap (λ (k : ℕ). take k (drop s l)) e ∙ part_slice s n l
+
+-- A turn of the search for an entry.
+pub ruleset find_steps = (find-step)

@@ -9,6 +9,7 @@ use crate::{Entry, Kind, word};
 use names::{aid, is_fixed, is_possible_none, same};
 
 // The first entry of that name from `from` up to `to`.
+#[tactic(auto, using(crate::proofs::Entries::find_steps), unfolding(model::specs::Tables::find_entry))]
 pub fn find_entry(attributes: &[u32], a: u32, from: u32, to: u32) -> Option<u32>
     requires { 5 * to ≤ length attributes.now }
     ensures found { plus_one result ≡ find_entry (entries_of attributes.now) a from (to - from) }
@@ -23,6 +24,7 @@ pub fn find_entry(attributes: &[u32], a: u32, from: u32, to: u32) -> Option<u32>
 }
 
 // Entry j.
+#[tactic(auto, unfolding(model::specs::Tables::entry_at))]
 pub fn entry_at(attributes: &[u32], j: u32) -> Entry
     requires { 5 * j + 4 < length attributes.now }
     ensures { entry_of result ≡ entry_at (entries_of attributes.now) j }
@@ -37,6 +39,7 @@ pub fn entry_at(attributes: &[u32], j: u32) -> Entry
 }
 
 // `attribute_id`: the first attribute of that name of node i, which only an element has.
+#[tactic(auto, unfolding(model::specs::Tables::attribute_id))]
 pub fn attribute_id(nodes: &[u32], attributes: &[u32], i: u32, a: u32) -> Option<u32>
     requires { Readable (read_of nodes.now attributes.now) i }
     ensures found { plus_one result ≡ attribute_id (read_of nodes.now attributes.now) i a }
@@ -51,10 +54,10 @@ pub fn attribute_id(nodes: &[u32], attributes: &[u32], i: u32, a: u32) -> Option
 }
 
 // Does entry j have that value?
+#[tactic(auto, using(crate::proofs::Entries::part_of), unfolding(model::specs::Tables::entry_at, model::specs::Tables::value_of))]
 pub fn has_value(attributes: &[u32], characters: &[u8], j: u32, value: &[u8]) -> bool
     requires { (5 * j + 4 < length attributes.now) × Valued (length characters.now) (entry_at (entries_of attributes.now) j) }
-    ensures { result ≡
-        same_bytes (value_of characters.now (entry_at (entries_of attributes.now) j)) value.now }
+    ensures { result ≡ same_bytes (value_of characters.now (entry_at (entries_of attributes.now) j)) value.now }
 {
     let start = entry_word(attributes, j, word::START);
     if entry_word(attributes, j, word::COMMAND) == 0 {
@@ -66,6 +69,7 @@ pub fn has_value(attributes: &[u32], characters: &[u8], j: u32, value: &[u8]) ->
 }
 
 // `attribute`: for ten names the value none counts as absent.
+#[tactic(auto, unfolding(model::specs::Tables::attribute_of, model::specs::Tables::entry_at))]
 pub fn attribute_of(
     nodes: &[u32],
     attributes: &[u32],
@@ -85,6 +89,7 @@ pub fn attribute_of(
 }
 
 // The nearest node with the attribute, from node i up.
+#[tactic(auto, using(crate::proofs::Climbs::climbs))]
 pub fn holder_of(nodes: &[u32], attributes: &[u32], a: u32, i: u32) -> Option<u32>
     requires { Climbable (read_of nodes.now attributes.now) i }
     ensures found { plus_one result ≡ holder_of (read_of nodes.now attributes.now) a i }
@@ -102,18 +107,18 @@ pub fn holder_of(nodes: &[u32], attributes: &[u32], a: u32, i: u32) -> Option<u3
 }
 
 // Is node i an element with that id?
+#[tactic(auto, unfolding(model::specs::Tables::entry_at, model::specs::Tables::has_id_bytes))]
 pub fn has_id(nodes: &[u32], attributes: &[u32], characters: &[u8], i: u32, id: &[u8]) -> bool
     requires { ReadableIn (length characters.now) (read_of nodes.now attributes.now) i }
-    ensures { result ≡
-        has_id_bytes characters.now (read_of nodes.now attributes.now) id.now i }
+    ensures { result ≡ has_id_bytes characters.now (read_of nodes.now attributes.now) id.now i }
 {
-    match attribute_id(nodes, attributes, i, aid::ID) {
-        Some(j) => has_value(attributes, characters, j, id),
-        None => false,
-    }
+    attribute_id(nodes, attributes, i, aid::ID).is_some_and(|j| has_value(
+        attributes, characters, j, id,
+    ))
 }
 
 // The last of the first `count` nodes that is an element with that id.
+#[tactic(auto, unfolding(model::specs::Tables::last_with_id))]
 pub fn last_with_id(
     nodes: &[u32],
     attributes: &[u32],
@@ -122,8 +127,7 @@ pub fn last_with_id(
     count: u32,
 ) -> Option<u32>
     requires { (k : ℕ) → k < count → ReadableIn (length characters.now) (read_of nodes.now attributes.now) k }
-    ensures found { plus_one result ≡
-        last_with_id characters.now (read_of nodes.now attributes.now) id.now count }
+    ensures found { plus_one result ≡ last_with_id characters.now (read_of nodes.now attributes.now) id.now count }
     ensures within { IfSome result (λ k. k < count) }
 {
     for n in (0..count).rev() {

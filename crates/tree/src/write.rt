@@ -16,10 +16,10 @@ pub fn set_word(nodes: &mut [u32], i: u32, k: usize, value: u32)
 }
 
 // The record of the new node i below p, with no links to others but its parent.
+#[tactic(auto, using(crate::proofs::Stores::part_sets))]
 fn put_record(nodes: &mut [u32], i: u32, p: u32, node: NewNode)
     requires { (8 * i + 7 < length nodes.old) × (p < 4294967295) }
-    ensures { nodes.new ≡ sets nodes.old (8 * i)
-        (number_of_kind node.kind ∷ (p + 1) ∷ 0 ∷ 0 ∷ 0 ∷ node.code ∷ node.from ∷ node.to ∷ []) }
+    ensures { nodes.new ≡ sets nodes.old (8 * i) (number_of_kind node.kind ∷ (p + 1) ∷ 0 ∷ 0 ∷ 0 ∷ node.code ∷ node.from ∷ node.to ∷ []) }
 {
     let record = [
         u32::from(node.kind),
@@ -36,6 +36,7 @@ fn put_record(nodes: &mut [u32], i: u32, p: u32, node: NewNode)
 }
 
 // The node before the new node i, if there is one, gets it as its next sibling.
+#[tactic(auto, unfolding(model::specs::Tables::next_linked))]
 fn link_next(nodes: &mut [u32], before: Option<u32>, i: u32)
     requires { IfSome before (λ j. 8 * j + 7 < length nodes.old) × (i < 4294967295) }
     ensures { nodes.new ≡ next_linked nodes.old (plus_one before) i }
@@ -46,6 +47,7 @@ fn link_next(nodes: &mut [u32], before: Option<u32>, i: u32)
 }
 
 // A parent with no child yet gets the new node i as its first.
+#[tactic(auto, unfolding(model::specs::Tables::first_linked))]
 fn link_first(nodes: &mut [u32], p: u32, i: u32)
     requires { (8 * p + 7 < length nodes.old) × (i < 4294967295) }
     ensures { nodes.new ≡ first_linked nodes.old p i }
@@ -56,6 +58,7 @@ fn link_first(nodes: &mut [u32], p: u32, i: u32)
 }
 
 // The three links to the new node i below p.
+#[tactic(auto, unfolding(model::specs::Tables::linked))]
 fn link(nodes: &mut [u32], p: u32, i: u32)
     requires { (8 * i + 7 < length nodes.old) × (p < i) × (i < 4294967295) × (word nodes.old p 4 ≤ i) }
     ensures { nodes.new ≡ linked nodes.old p i }
@@ -67,6 +70,7 @@ fn link(nodes: &mut [u32], p: u32, i: u32)
 }
 
 // `append`: the new node i below p, with the links to it.
+#[tactic(auto, unfolding(model::specs::Tables::appended))]
 pub fn append(nodes: &mut [u32], node: NewNode, p: u32, i: u32)
     requires { (8 * i + 7 < length nodes.old) × (p < i) × (i < 4294967295) × (word nodes.old p 4 ≤ i) }
     ensures { nodes.new ≡ appended (number_of_kind node.kind) node.code node.from node.to nodes.old p i }
@@ -84,6 +88,7 @@ pub fn put_root(nodes: &mut [u32])
 }
 
 // Entry j.
+#[tactic(auto, using(crate::proofs::Stores::part_sets))]
 pub fn put_entry(attributes: &mut [u32], j: u32, e: Entry)
     requires { 5 * j + 4 < length attributes.old }
     ensures { attributes.new ≡ sets attributes.old (5 * j) (entry_words (entry_of e)) }
@@ -94,6 +99,7 @@ pub fn put_entry(attributes: &mut [u32], j: u32, e: Entry)
 }
 
 // Another value for entry j; its name and importance are kept.
+#[tactic(auto, using(crate::proofs::Stores::part_sets))]
 pub fn put_value(attributes: &mut [u32], j: u32, start: u32, size: u32, command: u32)
     requires { 5 * j + 4 < length attributes.old }
     ensures { attributes.new ≡ sets attributes.old (5 * j + 2) (start ∷ size ∷ command ∷ []) }
@@ -103,6 +109,7 @@ pub fn put_value(attributes: &mut [u32], j: u32, start: u32, size: u32, command:
 }
 
 // The value of entry j becomes none.
+#[tactic(auto, unfolding(model::specs::Tables::set_none))]
 pub fn set_none(attributes: &mut [u32], j: u32)
     requires { 5 * j + 4 < length attributes.old }
     ensures { attributes.new ≡ (set_none j (entries_of attributes.old)).attributes }
@@ -111,6 +118,7 @@ pub fn set_none(attributes: &mut [u32], j: u32)
 }
 
 // Zeros from `from` up to `to`.
+#[tactic(auto, using(crate::proofs::Stores::part_sets))]
 pub fn zero_bytes(text: &mut [u8], from: usize, to: usize)
     requires { to ≤ length text.old }
     ensures { text.new ≡ sets text.old from (replicate (to - from) 0) }
@@ -121,9 +129,9 @@ pub fn zero_bytes(text: &mut [u8], from: usize, to: usize)
 }
 
 // Other bounds for the text of node i; the bytes that it gives up become zero.
+#[tactic(auto, unfolding(model::specs::Tables::set_text))]
 pub fn set_text(nodes: &mut [u32], text: &mut [u8], i: u32, from: u32, to: u32)
-    requires { (8 * i + 7 < length nodes.old) × (from ≤ length text.old) ×
-        (to_of (texts_of nodes.old text.old) i ≤ length text.old) }
+    requires { (8 * i + 7 < length nodes.old) × (from ≤ length text.old) × (to_of (texts_of nodes.old text.old) i ≤ length text.old) }
     ensures nodes { nodes.new ≡ (set_text i from to (texts_of nodes.old text.old)).nodes }
     ensures text { text.new ≡ (set_text i from to (texts_of nodes.old text.old)).text }
 {

@@ -10,8 +10,9 @@ use lib.Dec.{eqb}
 use lib.ListN.{length}
 use Rattle.std.specs.Prelude.{Option, Some, None, SomeIff, IfSome, unwrap_or, is_some}
 use Rattle.model.specs.Base.{pick}
+use Rattle.model.specs.Utf8.{is_blank}
 use Rattle.model.specs.AId
-use Rattle.model.specs.Tables.{Tree, ELEMENT, TEXT, word, kind_of, entry_at, find_entry, attribute_id, value_at_entry}
+use Rattle.model.specs.Tables.{Tree, ELEMENT, TEXT, word, text_of, kind_of, entry_at, find_entry, attribute_id, value_at_entry}
 use Rattle.model.specs.Text.{XmlSpace, default, preserve, preserve_word, is_nil, get_xmlspace, text_nodes}
 use Rattle.model.specs.Text.{cut_text}
 use Rattle.model.specs.Base.{same_bytes}
@@ -21,7 +22,7 @@ use Rattle.edges.specs.declared.Pair.{Pair}
 use Rattle.trimming.specs.declared.Turn.{Turn}
 use Rattle.text.specs.Spaces.{space_at}
 use Rattle.edges.specs.Pairs.{Ranged, after_pair}
-use Rattle.trimming.specs.Nodes.{Fair, node_at, next_text, stands_by, pair_of}
+use Rattle.trimming.specs.Nodes.{Fair, node_at, next_text, stands_by, kept_behind, pair_of}
 use Rattle.trimming.proofs.Depths.{depth_same}
 use Rattle.edges.proofs.Steps.{cut-words, cut-long, cut-text-long, ranged-cut, keep_pair}
 use Rattle.trimming.proofs.Following.{pair_at}
@@ -32,10 +33,6 @@ pub next-step : (ns : List ℕ) (i to : ℕ) → i < to →
     next_text ns i (to - i) ≡ pick (eqb (word ns i 0) TEXT) (λ u. i) (λ u. next_text ns (i + 1) (to - (i + 1)))
 unfolding next_text
 next-step ns i to h = let z : to - i ≡ suc (to - (i + 1)) = omega arith in ap (next_text ns i) z
-
-pub next-end : (ns : List ℕ) (i to : ℕ) → to ≤ i → i ≡ next_text ns i (to - i)
-unfolding next_text
-next-end ns i to h = let z : to - i ≡ 0 = omega arith in sym (ap (next_text ns i) z)
 
 -- What is found.
 pub record Found (ns : List ℕ) (i n r : ℕ) : Type 0 where
@@ -269,3 +266,14 @@ module _ (chars ns₀ ns es : List ℕ) (s : Steady ns₀ ns) where
         space-steady w (stands_by ns k.a k.kept),
         space-steady w k.b,
       ) refl
+
+-- The next text, a node at a time.
+pub ruleset steps = (next-step)
+
+-- A text that is kept stays so behind a pair that it begins, whether it is blank or not.
+pub kept_same : (t : Tree) (c : ℕ) (kept : Option ℕ) → kept ≡ Some c → kept ≡ kept_behind t c kept
+kept_same t c kept e = go (is_blank (text_of t c))
+  where
+    go : (b : Bool) → kept ≡ pick b (λ u. kept) (λ u. Some c)
+    go true = refl
+    go false = e

@@ -21,7 +21,7 @@ use Rattle.text.proofs.Collapse.{by_default}
 use Rattle.trimming.proofs.Depths.{depth_same}
 use Rattle.text.proofs.Seen.{xmlspace-same, space-same}
 use Rattle.edges.proofs.Programs.{run_lent, run-single}
-use Rattle.trimming.proofs.Collected.{NextIn, next-in, texts-next, texts-here, texts-none}
+use Rattle.trimming.proofs.Collected.{fair-ranged, NextIn, next-in, texts-next, texts-here, texts-none}
 
 -- THE SAME THROUGH NODES AND ATTRIBUTES ALONE
 
@@ -160,3 +160,6 @@ module _ (chars ns es bs : List ℕ) (c : Counts) (e : ℕ) (h : Trimmable chars
           single-left l z ns' bs' q =
               left ns' bs' _ (alone l)
               (q ∙ sym (run-single (node_at chars (read_of ns es) (space_by d) e first) (texts_of ns bs)) ∙ rw z refl)
+
+-- What the texts of an element come to: none, a single one, several.
+pub ruleset ends = (all_fair, fair-ranged, first-most, first-text, none_left, single-preserved)

@@ -19,7 +19,7 @@ use Rattle.trimming.specs.declared.Turn.{Turn}
 use Rattle.edges.specs.Pairs.{after_pair}
 use Rattle.trimming.specs.Nodes.{IsTextOf, node_at, next_text, stands_by, pair_of, kept_behind}
 use Rattle.trimming.proofs.Following.{kept_node, pair_at, pairs-turn}
-use Rattle.trimming.proofs.Collected.{Held, held-pair, NextIn, next-in, texts-next, texts-here, texts-none}
+use Rattle.trimming.proofs.Collected.{Held, held-pair, NextIn, next-in, texts-next, texts-here}
 use Rattle.trimming.proofs.Collected.{texts-nil, pair-steady, fair-ranged, long-pair}
 use Rattle.trimming.proofs.Turning.{stands-text}
 
@@ -58,12 +58,6 @@ module _ (chars es : List ℕ) (w : XmlSpace) (e n : ℕ) where
     pub same : from ns₀ first a b kept (texts_of ns bs) ≡ whole ns₀ bs₀ first second
 
   module _ (first second : ℕ) (ns₀ bs₀ ns bs : List ℕ) (a b : ℕ) (kept : Option ℕ) (p : Paired first second ns₀ bs₀ ns bs a b kept) where
-    pub paired-done : n ≤ b → texts_of ns bs ≡ whole ns₀ bs₀ first second
-    unfolding pairs run
-    paired-done l =
-        sym (ap (λ (m : List TextNode). run (pairs (eqb a first) (kept_node chars (read_of ns₀ es) w e kept)
-        (node_at chars (read_of ns₀ es) w e a) m) (texts_of ns bs)) (texts-none chars (read_of ns₀ es) w e b n l)) ∙ p.same
-
     module _ (l : b < n) (next : ℕ) (found : next ≡ next_text ns (b + 1) (n - (b + 1))) (last : Bool) (ends : last ≡ eqb next n) where
       abbrev turn : Turn
       turn = record { a = a; b = b; kept = kept; first = eqb a first; last = last }

@@ -57,3 +57,6 @@ module _ (chars ns es : List ℕ) (w : XmlSpace) (e : ℕ) (k : Turn) where
 pub turn-ranged : (ns bs ns' bs' : List ℕ) (p : Pair) → texts_of ns' bs' ≡ after_pair p (texts_of ns bs) → Ranged (texts_of ns bs) p.node1 →
     Ranged (texts_of ns bs) p.node2 → Ranged (texts_of ns' bs') p.node1
 turn-ranged ns bs ns' bs' p f x y = rw f (both-pair p (texts_of ns bs) (x, y)).0
+
+-- One turn.
+pub ruleset turns = (pair-told, turn-tables)

@@ -15,8 +15,7 @@ pub fn is_deeper(nodes: &[u32], element: u32, count: u32, a: u32, b: u32) -> boo
     requires below { Below nodes.now element count }
     requires element_lt_a { (element < a) × (a < count) }
     requires element_lt_b { (element < b) × (b < count) }
-    ensures { result ≡
-        ltb (depth_below (nodes_read nodes.now) element a a) (depth_below (nodes_read nodes.now) element b b) }
+    ensures { result ≡ ltb (depth_below (nodes_read nodes.now) element a a) (depth_below (nodes_read nodes.now) element b b) }
 {
     let mut x = node_word(nodes, a, word::PARENT);
     let mut y = node_word(nodes, b, word::PARENT);

@@ -17,6 +17,7 @@ use tree::word::has_kind;
 use tree::{Counts, Kind};
 
 // The first text node from `from` up to `to`.
+#[tactic(auto, using(crate::proofs::Collected::steps), unfolding(crate::specs::Nodes::next_text))]
 fn next_text(nodes: &[u32], from: u32, to: u32) -> Option<u32>
     requires { (from ≤ to) × (8 * to ≤ length nodes.now) }
     ensures { SomeIff result (next_text nodes.now from (to - from) < to) (next_text nodes.now from (to - from)) }
@@ -54,6 +55,7 @@ fn kept_behind(nodes: &[u32], text: &[u8], c: u32, kept: Option<u32>) -> Option<
 }
 
 // One turn: the pair of two text nodes, and what is kept behind it.
+#[tactic(auto, using(crate::proofs::Turning::turns))]
 fn trim_turn(
     nodes: &mut [u32],
     attributes: &[u32],
@@ -71,8 +73,7 @@ fn trim_turn(
     ensures tables { texts_of nodes.new text.new ≡ after_pair
         (pair_of characters.now (read_of nodes.old attributes.now) (space_by default) element turn)
         (texts_of nodes.old text.old) }
-    ensures kept { result ≡ kept_behind (texts_of nodes.new text.new)
-        (stands_by nodes.old turn.a turn.kept) turn.kept }
+    ensures kept { result ≡ kept_behind (texts_of nodes.new text.new) (stands_by nodes.old turn.a turn.kept) turn.kept }
 {
     let c = stands_for(nodes, turn.a, turn.kept);
     let deeper = is_deeper(nodes, element, count, turn.a, turn.b);
@@ -92,6 +93,7 @@ fn trim_turn(
 }
 
 // All pairs, from the first two text nodes on.
+#[tactic(auto, unfolding(model::specs::Text::pairs, model::specs::Text::run, model::specs::Text::text_nodes))]
 fn trim_pairs(
     nodes: &mut [u32],
     attributes: &[u32],
@@ -132,6 +134,7 @@ fn trim_pairs(
 }
 
 // `trim_text_nodes` of the text element e.
+#[tactic(auto, using(crate::proofs::Entire::ends))]
 pub fn trim_text_nodes(
     nodes: &mut [u32],
     attributes: &[u32],

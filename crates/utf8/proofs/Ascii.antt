@@ -4,11 +4,11 @@ use mathlib.Core.List.{List}
 use mathlib.Core.Bool.{Bool, true, false, not}
 use Prim.Native.Nat.{ℕ, zero, suc, ◌+◌, ◌-◌, ◌<◌, ◌≤◌}
 use native.Mathlib.Omega.{arith}
-use borrow.Author.Tests.{leb-false, not-true}
+use borrow.Author.Tests.{eqb-true, eq-eqb, leb-false, not-true}
+use borrow.Author.Count.{below_more}
+use lib.Dec.{eqb}
 use lib.ListN.{length, get_or, drop, length-drop}
 use lib.Seq.{drop-drop, get_or-drop}
-use Rattle.std.proofs.Common.{Option, Some, None, MatchOption}
-use Rattle.std.specs.Option.{is_some}
 use Rattle.std.specs.List.{AllWithin}
 use Rattle.model.specs.Utf8.{well_formed, sequence_of, is_utf8, is_utf8_from}
 use Rattle.utf8.specs.Lead.{beyond_in}
@@ -94,9 +94,33 @@ reach-front s n h a = subst (λ j. Reach s 0 j) (let z : 0 + n ≡ n = omega ari
     (reach-block s 0 n (omega arith)
     (λ k l. subst (λ j. get_or s j 0 < 0x80) (let z : k ≡ 0 + k = omega arith in z) (a k 0 (omega arith) l)))
 
--- The sequences from a on reach the end, or one is missing.
-pub reach-some : (s : List ℕ) (a : ℕ) (r : Option ℕ) → MatchOption r (is_utf8_from 0 (drop a s) ≡ false)
-    (λ i. (length s ≤ i) × (i ≤ length s) × (is_utf8_from 0 (drop i s) ≡ is_utf8_from 0 (drop a s)))
-    → is_some r ≡ is_utf8_from 0 (drop a s)
-reach-some s a None e = sym e
-reach-some s a (Some i) e = reach-all s a i (record { within = e.1; same = e.2 }) e.0
+-- COUNTING A BLOCK
+
+-- n of the j bytes from i on are ASCII: all of them are just if n is j.
+pub record Counted (s : List ℕ) (i n j : ℕ) : Type 0 where
+  pub most : n ≤ j
+  pub sound : n ≡ j → Ascii s i j
+  pub complete : Ascii s i j → n ≡ j
+
+pub counted-none : (s : List ℕ) (i : ℕ) → Counted s i 0 0
+counted-none s i = record { most = omega arith; sound = λ e k l. absurd (omega arith); complete = λ a. refl }
+
+pub counted-more : (s : List ℕ) (i n j m : ℕ) → Counted s i n j → get_or s (i + j) 0 < 0x80 → m ≡ n + 1 → Counted s i m (j + 1)
+counted-more s i n j m c h e = record {
+  most = omega (arith, c.most);
+  sound = λ q. below_more (λ k. get_or s (i + k) 0 < 0x80) j (c.sound (omega arith)) h;
+  complete = λ a. omega (arith, c.complete (λ k l. a k (omega arith)));
+}
+
+pub counted-not : (s : List ℕ) (i n j m : ℕ) → Counted s i n j → 0x80 ≤ get_or s (i + j) 0 → m ≡ n → Counted s i m (j + 1)
+counted-not s i n j m c h e = record {
+  most = omega (arith, c.most);
+  sound = λ q. absurd (omega (arith, c.most));
+  complete = λ a. absurd (omega (arith, a j (omega arith)));
+}
+
+pub counted-all : (s : List ℕ) (i n j m : ℕ) → Counted s i n j → j ≡ m → (eqb n m ≡ true → Ascii s i m) × (Ascii s i m → eqb n m ≡ true)
+counted-all s i n j m c e = (
+  λ t. subst (λ k. Ascii s i k) e (c.sound (eqb-true n m t ∙ sym e)),
+  λ a. eq-eqb n m (c.complete (subst (λ k. Ascii s i k) (sym e) a) ∙ e),
+)

@@ -7,6 +7,7 @@ use native.Mathlib.Omega.{arith}
 use borrow.Author.Tests.{eqb-true, eqb-false, leb-true, leb-false, ltb-true, not-false, ne_eqb, lt-ltb, le-ltb, le-leb, lt-leb}
 use lib.Dec.{eqb, leb, ltb}
 use lib.ListN.{length, get_or, drop}
+use Rattle.std.proofs.Common.{rules, tests}
 use Rattle.model.specs.Base.{pick, or}
 use Rattle.model.specs.Utf8.{Range, ◌to◌, is_within, well_formed, sequence_of}
 use Rattle.utf8.specs.Lead.{length_of, second_of, never, left_out, misplaced, misplaced_of_two, begun_by, misplaced_in}
@@ -17,123 +18,36 @@ use Rattle.utf8.proofs.Ascii.{Reach, reach-none, reach-join, reach-on}
 
 -- THE TESTS WITHOUT BRANCHES
 
-beq-true : (a b : Bool) → beq a b ≡ true → a ≡ b
-beq-true true true e = refl
-beq-true true false e = sym e
-beq-true false true e = e
-beq-true false false e = refl
-
 -- What is_misplaced computes, where a sequence goes on or does not.
 abbrev computed : Bool → ℕ → ℕ → Bool
 computed g p b = (not (beq (is_within b (0x80 to 0xBF)) g) || never b) || left_out p b
 
-second-rule : ℕ → ℕ → Bool
-second-rule p b = beq (computed true p b) (not (is_within b (second_of p)))
-
--- The same behind a byte whose row leaves nothing out.
-rule : Bool → Bool → ℕ → Bool
-rule g t b = beq ((not (beq (is_within b (0x80 to 0xBF)) g) || never b) || false) t
-
-further-rule : ℕ → Bool
-further-rule b = rule true (not (is_within b (0x80 to 0xBF))) b
-
-first-rule : ℕ → Bool
-first-rule b = rule false (eqb (length_of b) 0) b
-
-all-e0 : all_below 256 (second-rule 0xE0) ≡ true
-unfolding second-rule second_of
-all-e0 = refl
-
-all-ed : all_below 256 (second-rule 0xED) ≡ true
-unfolding second-rule second_of
-all-ed = refl
-
-all-f0 : all_below 256 (second-rule 0xF0) ≡ true
-unfolding second-rule second_of
-all-f0 = refl
-
-all-f4 : all_below 256 (second-rule 0xF4) ≡ true
-unfolding second-rule second_of
-all-f4 = refl
-
-all-further : all_below 256 further-rule ≡ true
-unfolding further-rule rule
-all-further = refl
-
-all_first : all_below 256 first-rule ≡ true
-unfolding first-rule rule length_of
-all_first = refl
-
-module _ (p b : ℕ) (h : b < 256) where
-  wide : (p ≡ 0xE0 → ⊥) → (p ≡ 0xED → ⊥) → (p ≡ 0xF0 → ⊥) → (p ≡ 0xF4 → ⊥) → computed true p b ≡ not (is_within b (second_of p))
-  unfolding second_of further-rule rule
-  wide w x y z = rw (ne_eqb p 0xE0 w, ne_eqb p 0xED x, ne_eqb p 0xF0 y, ne_eqb p 0xF4 z)
-      (beq-true _ _ (below 256 further-rule all-further b h))
-
+module _ (p b : ℕ) where
   -- Behind a byte that more bytes follow.
   second_is : computed true p b ≡ not (is_within b (second_of p))
-  unfolding second-rule
-  second_is = go (eqb p 0xE0) (eqb p 0xED) (eqb p 0xF0) (eqb p 0xF4) refl refl refl refl
-    where
-      at : (q : ℕ) → p ≡ q → all_below 256 (second-rule q) ≡ true → computed true p b ≡ not (is_within b (second_of p))
-      at q e a = subst (λ r. computed true r b ≡ not (is_within b (second_of r))) (sym e) (beq-true _ _ (below 256 (second-rule q) a b h))
-
-      go : (t u v w : Bool) → eqb p 0xE0 ≡ t → eqb p 0xED ≡ u → eqb p 0xF0 ≡ v → eqb p 0xF4 ≡ w
-          → computed true p b ≡ not (is_within b (second_of p))
-      go true u v w d e f g = at 0xE0 (eqb-true p 0xE0 d) all-e0
-      go false true v w d e f g = at 0xED (eqb-true p 0xED e) all-ed
-      go false false true w d e f g = at 0xF0 (eqb-true p 0xF0 f) all-f0
-      go false false false true d e f g = at 0xF4 (eqb-true p 0xF4 g) all-f4
-      go false false false false d e f g = wide (eqb-false p 0xE0 d) (eqb-false p 0xED e) (eqb-false p 0xF0 f) (eqb-false p 0xF4 g)
+  unfolding second_of
+  second_is = search (rules, tests)
 
   -- Behind a byte that no other follows as a second.
   further-is : p < 0xC0 → computed true p b ≡ not (is_within b (0x80 to 0xBF))
-  unfolding further-rule rule
-  further-is l = rw (
-    ne_eqb p 0xE0 (λ z. omega arith),
-    ne_eqb p 0xED (λ z. omega arith),
-    ne_eqb p 0xF0 (λ z. omega arith),
-    ne_eqb p 0xF4
-        (λ z. omega arith),
-  ) (beq-true _ _ (below 256 further-rule all-further b h))
+  further-is l = search (rules, tests)
 
   first-is : p < 0xC0 → computed false p b ≡ eqb (length_of b) 0
-  unfolding first-rule rule
-  first-is l = rw (
-    ne_eqb p 0xE0 (λ z. omega arith),
-    ne_eqb p 0xED (λ z. omega arith),
-    ne_eqb p 0xF0 (λ z. omega arith),
-    ne_eqb p 0xF4
-        (λ z. omega arith),
-  ) (beq-true _ _ (below 256 first-rule all_first b h))
+  unfolding length_of
+  first-is l = search (rules, tests)
 
-pub misplaced-is : (p3 p2 p1 b : ℕ) → b < 256 → computed (leb 0xC0 p1 || (leb 0xE0 p2 || leb 0xF0 p3)) p1 b ≡ misplaced p3 p2 p1 b
+pub misplaced-is : (p3 p2 p1 b : ℕ) → computed (leb 0xC0 p1 || (leb 0xE0 p2 || leb 0xF0 p3)) p1 b ≡ misplaced p3 p2 p1 b
 unfolding misplaced
-misplaced-is p3 p2 p1 b h = go (leb 0xC0 p1) (leb 0xE0 p2) (leb 0xF0 p3) refl
+misplaced-is p3 p2 p1 b = go (leb 0xC0 p1) (leb 0xE0 p2) (leb 0xF0 p3) refl
   where
     go : (t u v : Bool) → leb 0xC0 p1 ≡ t
         → computed (t || (u || v)) p1 b
         ≡ pick t (λ x. not (is_within b (second_of p1)))
         (λ x. pick (or u v) (λ y. not (is_within b (0x80 to 0xBF))) (λ y. eqb (length_of b) 0))
-    go true u v e = second_is p1 b h
-    go false true v e = further-is p1 b h (leb-false 0xC0 p1 e)
-    go false false true e = further-is p1 b h (leb-false 0xC0 p1 e)
-    go false false false e = first-is p1 b h (leb-false 0xC0 p1 e)
-
-two-rule : Bool → ℕ → Bool
-two-rule t b =
-    beq ((not (beq (is_within b (0x80 to 0xBF)) t) || leb 0xE0 b) || (eqb b 0xC0 || eqb b 0xC1))
-    (pick t (λ u. not (is_within b (0x80 to 0xBF))) (λ u. not (or (ltb b 0x80) (is_within b (0xC2 to 0xDF)))))
-
-all_two : (t : Bool) → all_below 256 (two-rule t) ≡ true
-unfolding two-rule
-all_two true = refl
-all_two false = refl
-
-pub of-two-is : (p b : ℕ) → b < 256
-    → ((not (beq (is_within b (0x80 to 0xBF)) (leb 0xC0 p)) || leb 0xE0 b) || (eqb b 0xC0 || eqb b 0xC1)) ≡ misplaced_of_two p b
-unfolding misplaced_of_two two-rule
-of-two-is p b h = beq-true _ _ (below 256 (two-rule (leb 0xC0 p)) (all_two (leb 0xC0 p)) b h)
+    go true u v e = second_is p1 b
+    go false true v e = further-is p1 b (leb-false 0xC0 p1 e)
+    go false false true e = further-is p1 b (leb-false 0xC0 p1 e)
+    go false false false e = first-is p1 b (leb-false 0xC0 p1 e)
 
 -- WHAT IT MEANS TO BE IN PLACE
 

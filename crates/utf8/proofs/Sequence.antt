@@ -375,6 +375,12 @@ module _ (s : List ℕ) (i n : ℕ) (h : i < length s) (f : get_or s i 0 < 256) 
   unfolding v
   bad-fourth g m a = bad v n 3 tail [] s (i + 3) (stage3 g) (omega arith) (omega (arith, g.second.room)) a
 
+-- What the first byte tells of the sequence.
+pub ruleset first_byte = (one, few, ascii-length, ones-two, ones-two-none, ones-three, ones-four, ones-four-none, ones_none)
+
+-- What the second byte tells of a sequence of two.
+pub ruleset second_byte = (cut, bad-second, first-most, second-of-two)
+
 -- THE WHOLE STRING
 
 sequence-most : (rs : List (List Range)) (bs : List ℕ) → sequence_of rs bs ≤ length bs

@@ -35,6 +35,7 @@ fn is_second(first: u8, b: u8) -> bool
 }
 
 // The sequence at i, whose first byte says two bytes.
+#[tactic(auto, using(crate::proofs::Sequence::second_byte))]
 fn two_at(s: &[u8], i: usize) -> Option<usize>
     requires i_in_bounds { i < length s.now }
     requires i_value { length_of (get_or s.now i 0) ≡ 2 }
@@ -79,6 +80,7 @@ fn four_at(s: &[u8], i: usize) -> Option<usize>
 
 // How many bytes the sequence at i has, if a sequence of the table stands there. The first byte has as many leading ones as the
 // sequence has bytes. Each length is answered by a number written out: the next place then waits for no count.
+#[tactic(auto, using(crate::proofs::Sequence::first_byte))]
 pub fn sequence_at(s: &[u8], i: usize) -> Option<usize>
     requires { i < length s.now }
     ensures { SomeIff result (0 < sequence_of well_formed (drop i s.now)) (sequence_of well_formed (drop i s.now)) }
@@ -119,8 +121,7 @@ fn is_ascii(s: &[u8]) -> bool
 fn past_blocks_of_ascii<const N: usize>(s: &[u8], from: usize) -> usize
     requires from_in_bounds { from ≤ length s.now }
     requires size { 0 < N }
-    ensures { (from ≤ result) × (result ≤ length s.now)
-        × (is_utf8_from 0 (drop result s.now) ≡ is_utf8_from 0 (drop from s.now)) }
+    ensures { (from ≤ result) × (result ≤ length s.now) × (is_utf8_from 0 (drop result s.now) ≡ is_utf8_from 0 (drop from s.now)) }
 {
     let mut i = from;
     while N <= s.len() - i && is_ascii(&s[i..i + N]) {
@@ -133,8 +134,7 @@ fn past_blocks_of_ascii<const N: usize>(s: &[u8], from: usize) -> usize
 // read with some before them.
 fn past_ascii(s: &[u8], from: usize) -> usize
     requires { from ≤ length s.now }
-    ensures { (from ≤ result) × (result ≤ length s.now)
-        × (is_utf8_from 0 (drop result s.now) ≡ is_utf8_from 0 (drop from s.now)) }
+    ensures { (from ≤ result) × (result ≤ length s.now) × (is_utf8_from 0 (drop result s.now) ≡ is_utf8_from 0 (drop from s.now)) }
 {
     let i = past_blocks_of_ascii::<256>(s, from);
     let j = past_blocks_of_ascii::<32>(s, i);
@@ -154,9 +154,7 @@ fn past_sequences(s: &[u8], from: usize, stop: usize) -> Option<usize>
 {
     let mut i = from;
     while i < stop {
-        let Some(n) = sequence_at(s, i) else {
-            return None;
-        };
+        let n = sequence_at(s, i)?;
         i += n;
     }
     Some(i)
@@ -187,6 +185,7 @@ fn is_misplaced(p3: u8, p2: u8, p1: u8, b: u8) -> bool
 }
 
 // Is the byte out of place behind the one before it, where every sequence has one byte or two?
+#[tactic(auto, unfolding(crate::specs::Lead::misplaced_of_two))]
 fn is_misplaced_of_two(p: u8, b: u8) -> bool
     ensures { result ≡ misplaced_of_two p b }
 {
@@ -255,8 +254,7 @@ fn past_block(s: &[u8], i: usize) -> Option<usize>
 // The same of all that is left, at most 32 bytes: of the last 32 some were read before. It is i where they do not tell.
 fn past_last(s: &[u8], i: usize) -> usize
     requires { (3 ≤ i) × (i ≤ length s.now) × (35 ≤ length s.now) × (length s.now ≤ i + 32) }
-    ensures { (result ≤ length s.now)
-        × (is_utf8_from 0 (drop result s.now) ≡ is_utf8_from 0 (drop i s.now)) }
+    ensures { (result ≤ length s.now) × (is_utf8_from 0 (drop result s.now) ≡ is_utf8_from 0 (drop i s.now)) }
 {
     if 0 < begun_at(s, i - 3) || has_misplaced(&s[s.len() - 35..]) {
         return i;
@@ -267,8 +265,7 @@ fn past_last(s: &[u8], i: usize) -> usize
 // The place behind the blocks from a place on, where none of them has a byte out of place.
 fn past_blocks(s: &[u8], from: usize) -> usize
     requires { (3 ≤ from) × (from ≤ length s.now) × (35 ≤ length s.now) }
-    ensures { (result ≤ length s.now)
-        × (is_utf8_from 0 (drop result s.now) ≡ is_utf8_from 0 (drop from s.now)) }
+    ensures { (result ≤ length s.now) × (is_utf8_from 0 (drop result s.now) ≡ is_utf8_from 0 (drop from s.now)) }
 {
     let mut i = from;
     while 32 <= s.len() - i {
@@ -281,6 +278,7 @@ fn past_blocks(s: &[u8], from: usize) -> usize
 }
 
 // Is the string UTF-8 from a place on, sequence by sequence?
+#[tactic(auto, unfolding(model::specs::Utf8::is_utf8_from))]
 fn are_sequences(s: &[u8], from: usize) -> bool
     requires { from ≤ length s.now }
     ensures { result ≡ is_utf8_from 0 (drop from s.now) }
@@ -295,28 +293,26 @@ fn are_blocks(s: &[u8], from: usize) -> bool
     requires { (from ≤ length s.now) × (35 ≤ length s.now) }
     ensures { result ≡ is_utf8_from 0 (drop from s.now) }
 {
-    match past_sequences(s, from, from.max(3)) {
-        Some(i) => are_sequences(s, past_blocks(s, i)),
-        None => false,
-    }
+    past_sequences(s, from, from.max(3)).is_some_and(|i| are_sequences(s, past_blocks(s, i)))
 }
 
 // Is the string UTF-8 from a place on? Blocks of ASCII first.
+#[tactic(auto, unfolding(model::specs::Utf8::is_utf8_from))]
 fn is_utf8_from(s: &[u8], from: usize) -> bool
     requires { from ≤ length s.now }
     ensures { result ≡ is_utf8_from 0 (drop from s.now) }
 {
     let i = past_ascii(s, from);
-    if i == s.len() {
-        return true;
-    }
-    if s.len() < 35 {
-        return are_sequences(s, i);
-    }
-    are_blocks(s, i)
+    i == s.len()
+        || if s.len() < 35 {
+            are_sequences(s, i)
+        } else {
+            are_blocks(s, i)
+        }
 }
 
 // Is the string UTF-8? A short one is read here as far as it is ASCII, to be quick.
+#[tactic(auto, unfolding(model::specs::Utf8::is_utf8))]
 pub fn is_utf8(s: &[u8]) -> bool
     ensures { result ≡ is_utf8 s.now }
 {

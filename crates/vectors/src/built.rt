@@ -4,6 +4,8 @@ ghost use Rattle.std.specs.Prelude.{◌≤◌, length};
 use crate::input;
 use crate::judged::{line, say, say_bytes, space};
 use build::Built;
+use script::drawing::Drawing;
+use std::alloc::Global;
 use std::io::{self, Read, Write};
 
 // How many words there are up to the last that is not 0.
@@ -59,7 +61,7 @@ fn build_drawing<W: Write>(
     attributes: &mut [u32],
     text: &mut [u8],
 ) -> io::Result<()> {
-    let built = build::whole::build(script, characters, nodes, attributes, text);
+    let built = build::whole::build(&Drawing { script, characters }, nodes, attributes, text);
     say_tables(to, Built::from(built), nodes, attributes, text)
 }
 
@@ -79,34 +81,29 @@ fn exchange_text<W: Write>(
 }
 
 // The lengths of script, characters and tables, the script, the characters.
-pub fn run_build<R: Read, W: Write>(from: &mut R, to: &mut W) -> io::Result<()> {
+pub fn run_build<R: Read, W: Write>(alloc: Global, from: &mut R, to: &mut W) -> io::Result<()> {
     let a = input::number(from)?;
     let b = input::number(from)?;
     let n = input::number(from)?;
     let m = input::number(from)?;
     let t = input::number(from)?;
-    let mut script = [0u8; 8192];
-    let mut characters = [0u8; 1024];
-    let mut nodes = [7u32; 73728];
-    let mut attributes = [7u32; 46080];
-    let mut text = [7u8; 4096];
-    let c = input::bytes(from, &mut script, a)?;
-    let d = input::bytes(from, &mut characters, b)?;
-    let x = nodes.len().min(n as usize);
-    let y = attributes.len().min(m as usize);
-    let z = text.len().min(t as usize);
+    let script = input::bytes(alloc, from, a)?;
+    let characters = input::bytes(alloc, from, b)?;
+    let mut nodes = vec![in alloc; 7u32; n as usize]?;
+    let mut attributes = vec![in alloc; 7u32; m as usize]?;
+    let mut text = vec![in alloc; 7u8; t as usize]?;
     build_drawing(
         to,
-        &script[..c],
-        &characters[..d],
-        &mut nodes[..x],
-        &mut attributes[..y],
-        &mut text[..z],
+        &script,
+        &characters,
+        &mut nodes,
+        &mut attributes,
+        &mut text,
     )
 }
 
 // The same with the number of a text and its new bytes; the characters are written, too.
-pub fn run_exchange<R: Read, W: Write>(from: &mut R, to: &mut W) -> io::Result<()> {
+pub fn run_exchange<R: Read, W: Write>(alloc: Global, from: &mut R, to: &mut W) -> io::Result<()> {
     let a = input::number(from)?;
     let b = input::number(from)?;
     let n = input::number(from)?;
@@ -114,26 +111,20 @@ pub fn run_exchange<R: Read, W: Write>(from: &mut R, to: &mut W) -> io::Result<(
     let t = input::number(from)?;
     let number = input::number(from)?;
     let e = input::number(from)?;
-    let mut script = [0u8; 8192];
-    let mut characters = [0u8; 1024];
-    let mut new = [0u8; 64];
-    let mut nodes = [7u32; 2048];
-    let mut attributes = [7u32; 1024];
-    let mut text = [7u8; 128];
-    let c = input::bytes(from, &mut script, a)?;
-    let d = input::bytes(from, &mut characters, b)?;
-    let f = input::bytes(from, &mut new, e)?;
-    let x = nodes.len().min(n as usize);
-    let y = attributes.len().min(m as usize);
-    let z = text.len().min(t as usize);
+    let script = input::bytes(alloc, from, a)?;
+    let mut characters = input::bytes(alloc, from, b)?;
+    let new = input::bytes(alloc, from, e)?;
+    let mut nodes = vec![in alloc; 7u32; n as usize]?;
+    let mut attributes = vec![in alloc; 7u32; m as usize]?;
+    let mut text = vec![in alloc; 7u8; t as usize]?;
     exchange_text(
         to,
-        &script[..c],
-        &mut characters[..d],
+        &script,
+        &mut characters,
         number,
-        &new[..f],
-        &mut nodes[..x],
-        &mut attributes[..y],
-        &mut text[..z],
+        &new,
+        &mut nodes,
+        &mut attributes,
+        &mut text,
     )
 }

@@ -1,6 +1,8 @@
 // Numbers and bytes from standard input.
-ghost use Rattle.std.specs.Prelude.{◌≤◌, IfOk, length};
+ghost use Rattle.std.specs.Prelude.{◌≡◌, IfOk};
+ghost use Rattle.std.specs.Vec.{vec_len};
 
+use std::alloc::Global;
 use std::io::{self, Read};
 
 // Reads until `to` is full or the input ends; what is past the end stays as it was.
@@ -23,22 +25,22 @@ pub fn number<R: Read>(from: &mut R) -> io::Result<u32> {
     Ok(u32::from_le_bytes(b))
 }
 
-// Fills the first n bytes, as far as there are as many, and gives how many that are.
-pub fn bytes<R: Read>(from: &mut R, to: &mut [u8], n: u32) -> io::Result<usize>
-    ensures { IfOk result (λ k. k ≤ length to.old) }
+// The next n bytes; what is past the end reads as 0.
+pub fn bytes<R: Read>(alloc: Global, from: &mut R, n: u32) -> io::Result<Vec<u8>>
+    ensures { IfOk result (λ to. vec_len to ≡ n) }
 {
-    let k = to.len().min(n as usize);
-    fill(from, &mut to[..k])?;
-    Ok(k)
+    let mut to = vec![in alloc; 0u8; n as usize]?;
+    fill(from, &mut to)?;
+    Ok(to)
 }
 
 // The same with numbers.
-pub fn numbers<R: Read>(from: &mut R, to: &mut [u32], n: u32) -> io::Result<usize>
-    ensures { IfOk result (λ k. k ≤ length to.old) }
+pub fn numbers<R: Read>(alloc: Global, from: &mut R, n: u32) -> io::Result<Vec<u32>>
+    ensures { IfOk result (λ to. vec_len to ≡ n) }
 {
-    let k = to.len().min(n as usize);
-    for i in 0..k {
-        to[i] = number(from)?;
+    let mut to = Vec::new(alloc);
+    for _ in 0..n {
+        to.push(number(from)?)?;
     }
-    Ok(k)
+    Ok(to)
 }

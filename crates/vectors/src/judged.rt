@@ -1,5 +1,8 @@
 // One vector of each kind: its input is read, the operation is called, the answer is written.
 use crate::input;
+use refusal::answer_number;
+use script::drawing::Drawing;
+use std::alloc::Global;
 use std::io::{self, Read, Write};
 
 pub fn say<W: Write>(to: &mut W, n: u32) -> io::Result<()> {
@@ -15,18 +18,16 @@ pub fn line<W: Write>(to: &mut W) -> io::Result<()> {
 }
 
 // Two lengths, the script, the characters: the number.
-pub fn run_check<R: Read, W: Write>(from: &mut R, to: &mut W) -> io::Result<()> {
+pub fn run_check<R: Read, W: Write>(alloc: Global, from: &mut R, to: &mut W) -> io::Result<()> {
     let n = input::number(from)?;
     let m = input::number(from)?;
-    let mut script = [0u8; 16384];
-    let mut characters = [0u8; 16384];
-    let a = input::bytes(from, &mut script, n)?;
-    let b = input::bytes(from, &mut characters, m)?;
-    let number = match script::check::check(&script[..a], &characters[..b]) {
-        Ok(()) => 0,
-        Err(refusal) => u32::from(refusal),
-    };
-    say(to, number)?;
+    let script = input::bytes(alloc, from, n)?;
+    let characters = input::bytes(alloc, from, m)?;
+    let judged = script::check::check(&Drawing {
+        script: &script,
+        characters: &characters,
+    });
+    say(to, answer_number(judged))?;
     line(to)
 }
 
@@ -76,6 +77,7 @@ fn ask_attribute<R: Read, W: Write>(
 
 // An id with its length: what the id question answers.
 fn ask_id<R: Read, W: Write>(
+    alloc: Global,
     from: &mut R,
     to: &mut W,
     nodes: &[u32],
@@ -85,21 +87,16 @@ fn ask_id<R: Read, W: Write>(
     counts: tree::Counts,
 ) -> io::Result<()> {
     let n = input::number(from)?;
-    let mut id = [0u8; 64];
-    let k = input::bytes(from, &mut id, n)?;
+    let id = input::bytes(alloc, from, n)?;
     let found = questions::question::element_by_id(
-        nodes,
-        attributes,
-        text,
-        characters,
-        counts,
-        &id[..k],
+        nodes, attributes, text, characters, counts, &id,
     );
     say_answer(to, questions::Answer::from(found))
 }
 
 // A question begins with its kind: 1 the attribute questions, 2 the id question, 3 the text question.
 fn ask<R: Read, W: Write>(
+    alloc: Global,
     from: &mut R,
     to: &mut W,
     nodes: &[u32],
@@ -111,7 +108,7 @@ fn ask<R: Read, W: Write>(
     let kind = input::number(from)?;
     match kind {
         1 => ask_attribute(from, to, nodes, attributes, text, characters, counts),
-        2 => ask_id(from, to, nodes, attributes, text, characters, counts),
+        2 => ask_id(alloc, from, to, nodes, attributes, text, characters, counts),
         _ => {
             let node = input::number(from)?;
             say_bytes(
@@ -123,6 +120,7 @@ fn ask<R: Read, W: Write>(
 }
 
 fn ask_all<R: Read, W: Write>(
+    alloc: Global,
     from: &mut R,
     to: &mut W,
     nodes: &[u32],
@@ -133,13 +131,13 @@ fn ask_all<R: Read, W: Write>(
 ) -> io::Result<()> {
     let n = input::number(from)?;
     for _ in 0..n {
-        ask(from, to, nodes, attributes, text, characters, counts)?;
+        ask(alloc, from, to, nodes, attributes, text, characters, counts)?;
     }
     Ok(())
 }
 
 // The lengths of the tables and of the characters, the counts, the tables, the characters, the number of questions, and the questions.
-pub fn run_questions<R: Read, W: Write>(from: &mut R, to: &mut W) -> io::Result<()> {
+pub fn run_questions<R: Read, W: Write>(alloc: Global, from: &mut R, to: &mut W) -> io::Result<()> {
     let n = input::number(from)?;
     let m = input::number(from)?;
     let t = input::number(from)?;
@@ -149,21 +147,18 @@ pub fn run_questions<R: Read, W: Write>(from: &mut R, to: &mut W) -> io::Result<
         attributes: input::number(from)?,
         text: input::number(from)?,
     };
-    let mut nodes = [0u32; 512];
-    let mut attributes = [0u32; 512];
-    let mut text = [0u8; 256];
-    let mut characters = [0u8; 512];
-    let a = input::numbers(from, &mut nodes, n)?;
-    let b = input::numbers(from, &mut attributes, m)?;
-    let d = input::bytes(from, &mut text, t)?;
-    let e = input::bytes(from, &mut characters, c)?;
+    let nodes = input::numbers(alloc, from, n)?;
+    let attributes = input::numbers(alloc, from, m)?;
+    let text = input::bytes(alloc, from, t)?;
+    let characters = input::bytes(alloc, from, c)?;
     ask_all(
+        alloc,
         from,
         to,
-        &nodes[..a],
-        &attributes[..b],
-        &text[..d],
-        &characters[..e],
+        &nodes,
+        &attributes,
+        &text,
+        &characters,
         counts,
     )
 }

@@ -6,26 +6,33 @@ mod built;
 mod input;
 mod judged;
 
+use std::alloc::Global;
 use std::io::{self, BufReader, BufWriter, Read, Write};
 
 // A vector begins with what it asks: 1 check, 2 the questions, 3 build, 4 exchange.
-fn run_vector<R: Read, W: Write>(from: &mut R, to: &mut W, kind: u32) -> io::Result<()> {
+fn run_vector<R: Read, W: Write>(
+    alloc: Global,
+    from: &mut R,
+    to: &mut W,
+    kind: u32,
+) -> io::Result<()> {
     match kind {
-        1 => judged::run_check(from, to),
-        2 => judged::run_questions(from, to),
-        3 => built::run_build(from, to),
-        4 => built::run_exchange(from, to),
+        1 => judged::run_check(alloc, from, to),
+        2 => judged::run_questions(alloc, from, to),
+        3 => built::run_build(alloc, from, to),
+        4 => built::run_exchange(alloc, from, to),
         _ => to.write_all(b"no such vector\n"),
     }
 }
 
 fn main(rt: HostRuntime) -> io::Result<()> {
-    let mut from = BufReader::new(rt.alloc(), rt.reader())?;
-    let mut to = BufWriter::new(rt.alloc(), io::writer(&rt))?;
+    let alloc = rt.alloc();
+    let mut from = BufReader::new(alloc, rt.reader())?;
+    let mut to = BufWriter::new(alloc, io::writer(&rt))?;
     let n = input::number(&mut from)?;
     for _ in 0..n {
         let kind = input::number(&mut from)?;
-        run_vector(&mut from, &mut to, kind)?;
+        run_vector(alloc, &mut from, &mut to, kind)?;
     }
     to.flush()
 }

@@ -2,6 +2,7 @@
 use Rattle.std.specs.Prelude.{ℕ, zero, suc, ◌+◌, ◌<◌, ◌≤◌, List, [], ◌∷◌, ◌≡◌, Option, Some, None}
 use Rattle.model.specs.Drawing as model
 use Rattle.model.specs.Drawing.{opening, Event, begin, close, source_at, Source, Element, texts_in}
+use Rattle.script.specs.declared.drawing.Drawing.{Drawing}
 use Rattle.script.specs.declared.cursor.Cursor.{Cursor}
 use Rattle.script.specs.Step.{Fit, Here, mark_of}
 use Rattle.walk.specs.declared.node.Opened.{Opened}
@@ -14,24 +15,24 @@ use Rattle.walk.specs.Values.{attributes_in, declarations_in, events_at}
 -- AN ELEMENT
 
 -- The element of the document that was opened.
-abbrev pub element_of : List ℕ → List ℕ → Opened → Element
-element_of script chars e = record {
+abbrev pub element_of : Drawing → Opened → Element
+element_of drawing e = record {
   number = e.own.number + 1;
   code = e.name;
   namespace = e.space;
-  attributes = attributes_in script chars e.inside;
-  declarations = declarations_in script chars e.inside;
+  attributes = attributes_in drawing e.inside;
+  declarations = declarations_in drawing e.inside;
 }
 
 -- The element as a node: the nodes of the document from it on.
-abbrev pub node_at : List ℕ → List ℕ → Opened → List Event
-node_at script chars e = begin (element_of script chars e) ∷ events_at script chars e.inside
+abbrev pub node_at : Drawing → Opened → List Event
+node_at drawing e = begin (element_of drawing e) ∷ events_at drawing e.inside
 
 -- It stands at its own place in the script.
-pub record Standing (script : List ℕ) (e : Opened) : Type 0 where
-  pub own : Fit script e.own
-  pub fit : Fit script e.inside
-  pub here : Here script e.own (opening e.name e.space) e.inside
+pub record Standing (drawing : Drawing) (e : Opened) : Type 0 where
+  pub own : Fit drawing e.own
+  pub fit : Fit drawing e.inside
+  pub here : Here drawing e.own (opening e.name e.space) e.inside
 
 -- A NODE
 
@@ -45,24 +46,24 @@ leave zero (close ∷ xs) = xs
 leave (suc k) (close ∷ xs) = leave k xs
 
 -- The nodes from an item on.
-abbrev pub events_of : List ℕ → List ℕ → Item → List Event
-events_of script chars (Begin e) = node_at script chars e
-events_of script chars (Text c l n) = model.Event.text (source_at chars (mark_of c) l) ∷ events_at script chars n
-events_of script chars (Other n) = model.Event.other ∷ events_at script chars n
-events_of script chars (Close n) = close ∷ events_at script chars n
-events_of script chars item.End = []
+abbrev pub events_of : Drawing → Item → List Event
+events_of drawing (Begin e) = node_at drawing e
+events_of drawing (Text c l n) = model.Event.text (source_at drawing.characters.now (mark_of c) l) ∷ events_at drawing n
+events_of drawing (Other n) = model.Event.other ∷ events_at drawing n
+events_of drawing (Close n) = close ∷ events_at drawing n
+events_of drawing item.End = []
 
 -- A cursor further on, in range.
-pub record Further (script : List ℕ) (from c : Cursor) : Type 0 where
-  pub fit : Fit script c
+pub record Further (drawing : Drawing) (from c : Cursor) : Type 0 where
+  pub fit : Fit drawing c
   pub further : from.at < c.at
 
-abbrev pub ItemFit : List ℕ → Cursor → Item → Type 0
-ItemFit script from (Begin e) = Standing script e × Further script from e.inside
-ItemFit script from (Text c l n) = Fit script c × Further script from n
-ItemFit script from (Other n) = Further script from n
-ItemFit script from (Close n) = Further script from n
-ItemFit script from item.End = Unit {0}
+abbrev pub ItemFit : Drawing → Cursor → Item → Type 0
+ItemFit drawing from (Begin e) = Standing drawing e × Further drawing from e.inside
+ItemFit drawing from (Text c l n) = Fit drawing c × Further drawing from n
+ItemFit drawing from (Other n) = Further drawing from n
+ItemFit drawing from (Close n) = Further drawing from n
+ItemFit drawing from item.End = Unit {0}
 
 -- So many nodes that are no element and no text, and xs behind them.
 abbrev pub others_then : ℕ → List Event → List Event
@@ -70,25 +71,25 @@ others_then zero xs = xs
 others_then (suc n) xs = model.Event.other ∷ others_then n xs
 
 -- Between two cursors stand such nodes alone.
-pub record Others (script chars : List ℕ) (from c : Cursor) : Type 0 where
-  pub fit : Fit script c
+pub record Others (drawing : Drawing) (from c : Cursor) : Type 0 where
+  pub fit : Fit drawing c
   pub later : from.at ≤ c.at
   pub count : ℕ
-  pub between : others_then count (events_at script chars c) ≡ events_at script chars from
+  pub between : others_then count (events_at drawing c) ≡ events_at drawing from
 
 -- TEXTS
 
 -- The texts inside an element from one on.
-abbrev pub sources_of : List ℕ → List ℕ → Option declared.TextAt → List Source
-sources_of script chars (Some t) = source_at chars (mark_of t.own) t.len ∷ texts_in t.open_elements (events_at script chars t.behind)
-sources_of script chars None = []
+abbrev pub sources_of : Drawing → Option declared.TextAt → List Source
+sources_of drawing (Some t) = source_at drawing.characters.now (mark_of t.own) t.len ∷ texts_in t.open_elements (events_at drawing t.behind)
+sources_of drawing None = []
 
 -- The own place c of a text, n behind it, and k elements open there.
-pub record TextAt (script : List ℕ) (from c n : Cursor) (k : ℕ) : Type 0 where
-  pub own : Fit script c
-  pub behind : Further script from n
+pub record TextAt (drawing : Drawing) (from c n : Cursor) (k : ℕ) : Type 0 where
+  pub own : Fit drawing c
+  pub behind : Further drawing from n
   pub low : k ≤ n.at
 
-abbrev pub TextFit : List ℕ → Cursor → Option declared.TextAt → Type 0
-TextFit script from (Some t) = TextAt script from t.own t.behind t.open_elements
-TextFit script from None = Unit {0}
+abbrev pub TextFit : Drawing → Cursor → Option declared.TextAt → Type 0
+TextFit drawing from (Some t) = TextAt drawing from t.own t.behind t.open_elements
+TextFit drawing from None = Unit {0}

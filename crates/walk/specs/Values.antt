@@ -5,6 +5,7 @@ use Rattle.std.proofs.Math.Option.{none, some}
 use Rattle.model.specs.Drawing as model
 use Rattle.model.specs.Drawing.{Attribute, Declaration, Reading, Value, Event}
 use Rattle.model.specs.Drawing.{value_at, attributes_at, declarations_at, readings_at, part_at, events_from}
+use Rattle.script.specs.declared.drawing.Drawing.{Drawing}
 use Rattle.script.specs.declared.cursor.Cursor.{Cursor}
 use Rattle.script.specs.Step.{Fit, commands_at, mark_of, most_start}
 use Rattle.walk.specs.declared.value.ValueAt.{ValueAt}
@@ -15,114 +16,114 @@ use Rattle.walk.specs.declared.value.ReadingAt.{ReadingAt}
 -- FROM A CURSOR ON
 
 -- The attributes of the element in which the cursor stands.
-abbrev pub attributes_in : List ℕ → List ℕ → Cursor → List Attribute
-attributes_in script chars c = attributes_at chars (mark_of c) (commands_at script c)
+abbrev pub attributes_in : Drawing → Cursor → List Attribute
+attributes_in drawing c = attributes_at drawing.characters.now (mark_of c) (commands_at drawing c)
 
 -- Its declarations.
-abbrev pub declarations_in : List ℕ → List ℕ → Cursor → List Declaration
-declarations_in script chars c = declarations_at chars (mark_of c) (commands_at script c)
+abbrev pub declarations_in : Drawing → Cursor → List Declaration
+declarations_in drawing c = declarations_at drawing.characters.now (mark_of c) (commands_at drawing c)
 
 -- The readings of a value that begins at a.
-abbrev pub readings_in : List ℕ → List ℕ → ℕ → Cursor → List Reading
-readings_in script chars a c = readings_at chars a (commands_at script c)
+abbrev pub readings_in : Drawing → ℕ → Cursor → List Reading
+readings_in drawing a c = readings_at drawing.characters.now a (commands_at drawing c)
 
 -- The nodes of the document.
-abbrev pub events_at : List ℕ → List ℕ → Cursor → List Event
-events_at script chars c = events_from chars (mark_of c) (commands_at script c)
+abbrev pub events_at : Drawing → Cursor → List Event
+events_at drawing c = events_from drawing.characters.now (mark_of c) (commands_at drawing c)
 
 -- A cursor c no nearer than another, with the same nodes from it on.
-pub record SameNodes (script chars : List ℕ) (from c : Cursor) : Type 0 where
-  pub fit : Fit script c
+pub record SameNodes (drawing : Drawing) (from c : Cursor) : Type 0 where
+  pub fit : Fit drawing c
   pub later : from.at ≤ c.at
-  pub events : events_at script chars c ≡ events_at script chars from
+  pub events : events_at drawing c ≡ events_at drawing from
 
 -- The same declarations too.
-pub record SameRest (script chars : List ℕ) (from c : Cursor) : Type 0 where
-  pub nodes : SameNodes script chars from c
-  pub declarations : declarations_in script chars c ≡ declarations_in script chars from
+pub record SameRest (drawing : Drawing) (from c : Cursor) : Type 0 where
+  pub nodes : SameNodes drawing from c
+  pub declarations : declarations_in drawing c ≡ declarations_in drawing from
 
 -- ATTRIBUTES
 
 -- The value of an attribute or of a declaration.
-abbrev pub value_of : List ℕ → List ℕ → ValueAt → Value
-value_of script chars v = value_at chars (mark_of v.own) v.len (commands_at script v.behind)
+abbrev pub value_of : Drawing → ValueAt → Value
+value_of drawing v = value_at drawing.characters.now (mark_of v.own) v.len (commands_at drawing v.behind)
 
 -- The attributes from the next one on.
-abbrev pub attributes_of : List ℕ → List ℕ → Result Named Cursor → List Attribute
-attributes_of script chars (Ok x) =
-    record { name = x.name; namespace = x.qualifier; value = value_of script chars x.value } ∷ attributes_in script chars x.value.behind
-attributes_of script chars (Err c) = []
+abbrev pub attributes_of : Drawing → Result Named Cursor → List Attribute
+attributes_of drawing (Ok x) =
+    record { name = x.name; namespace = x.qualifier; value = value_of drawing x.value } ∷ attributes_in drawing x.value.behind
+attributes_of drawing (Err c) = []
 
 -- The value of an attribute: behind it stand the other attributes, all declarations and all children.
-pub record Attributed (script chars : List ℕ) (from : Cursor) (v : ValueAt) : Type 0 where
-  pub own : Fit script v.own
-  pub rest : SameRest script chars from v.behind
+pub record Attributed (drawing : Drawing) (from : Cursor) (v : ValueAt) : Type 0 where
+  pub own : Fit drawing v.own
+  pub rest : SameRest drawing from v.behind
   pub further : from.at < v.behind.at
 
 -- Behind the last attribute: all declarations and all children.
-pub record Unattributed (script chars : List ℕ) (from c : Cursor) : Type 0 where
-  pub rest : SameRest script chars from c
-  pub none_left : attributes_in script chars c ≡ []
+pub record Unattributed (drawing : Drawing) (from c : Cursor) : Type 0 where
+  pub rest : SameRest drawing from c
+  pub none_left : attributes_in drawing c ≡ []
 
-abbrev pub AttributeFit : List ℕ → List ℕ → Cursor → Result Named Cursor → Type 0
-AttributeFit script chars from (Ok x) = Attributed script chars from x.value
-AttributeFit script chars from (Err c) = Unattributed script chars from c
+abbrev pub AttributeFit : Drawing → Cursor → Result Named Cursor → Type 0
+AttributeFit drawing from (Ok x) = Attributed drawing from x.value
+AttributeFit drawing from (Err c) = Unattributed drawing from c
 
 -- An attribute that was looked for.
-abbrev pub value_in : List ℕ → List ℕ → Result ValueAt Cursor → math.Option Value
-value_in script chars (Ok v) = some (value_of script chars v)
-value_in script chars (Err c) = none
+abbrev pub value_in : Drawing → Result ValueAt Cursor → math.Option Value
+value_in drawing (Ok v) = some (value_of drawing v)
+value_in drawing (Err c) = none
 
-abbrev pub ValueFit : List ℕ → List ℕ → Cursor → Result ValueAt Cursor → Type 0
-ValueFit script chars from (Ok v) = Attributed script chars from v
-ValueFit script chars from (Err c) = Unattributed script chars from c
+abbrev pub ValueFit : Drawing → Cursor → Result ValueAt Cursor → Type 0
+ValueFit drawing from (Ok v) = Attributed drawing from v
+ValueFit drawing from (Err c) = Unattributed drawing from c
 
 -- Its readings can be asked for.
-abbrev pub Readable : List ℕ → Result ValueAt Cursor → Type 0
-Readable script (Ok v) = Fit script v.own × Fit script v.behind
-Readable script (Err c) = Unit {0}
+abbrev pub Readable : Drawing → Result ValueAt Cursor → Type 0
+Readable drawing (Ok v) = Fit drawing v.own × Fit drawing v.behind
+Readable drawing (Err c) = Unit {0}
 
 -- DECLARATIONS
 
 -- The declarations from the next one on.
-abbrev pub declarations_of : List ℕ → List ℕ → Result Named Cursor → List Declaration
-declarations_of script chars (Ok x) =
-    record { name = x.name; important = x.qualifier; value = value_of script chars x.value } ∷ declarations_in script chars x.value.behind
-declarations_of script chars (Err c) = []
+abbrev pub declarations_of : Drawing → Result Named Cursor → List Declaration
+declarations_of drawing (Ok x) =
+    record { name = x.name; important = x.qualifier; value = value_of drawing x.value } ∷ declarations_in drawing x.value.behind
+declarations_of drawing (Err c) = []
 
 -- The value of a declaration: behind it stand the other declarations and all children.
-pub record Declared (script chars : List ℕ) (from : Cursor) (v : ValueAt) : Type 0 where
-  pub own : Fit script v.own
-  pub nodes : SameNodes script chars from v.behind
+pub record Declared (drawing : Drawing) (from : Cursor) (v : ValueAt) : Type 0 where
+  pub own : Fit drawing v.own
+  pub nodes : SameNodes drawing from v.behind
   pub further : from.at < v.behind.at
 
 -- Behind the last declaration: all children.
-pub record Undeclared (script chars : List ℕ) (from c : Cursor) : Type 0 where
-  pub nodes : SameNodes script chars from c
-  pub none_left : declarations_in script chars c ≡ []
+pub record Undeclared (drawing : Drawing) (from c : Cursor) : Type 0 where
+  pub nodes : SameNodes drawing from c
+  pub none_left : declarations_in drawing c ≡ []
 
-abbrev pub DeclarationFit : List ℕ → List ℕ → Cursor → Result Named Cursor → Type 0
-DeclarationFit script chars from (Ok x) = Declared script chars from x.value
-DeclarationFit script chars from (Err c) = Undeclared script chars from c
+abbrev pub DeclarationFit : Drawing → Cursor → Result Named Cursor → Type 0
+DeclarationFit drawing from (Ok x) = Declared drawing from x.value
+DeclarationFit drawing from (Err c) = Undeclared drawing from c
 
 -- READINGS
 
 -- The readings of a value that begins at a, from the next one on.
-abbrev pub readings_of : List ℕ → List ℕ → ℕ → Option ReadingAt → List Reading
-readings_of script chars a (Some x) =
-    record { kind = x.kind; part = part_at chars x.part.start x.part.len } ∷ readings_in script chars a x.behind
-readings_of script chars a None = []
+abbrev pub readings_of : Drawing → ℕ → Option ReadingAt → List Reading
+readings_of drawing a (Some x) =
+    record { kind = x.kind; part = part_at drawing.characters.now x.part.start x.part.len } ∷ readings_in drawing a x.behind
+readings_of drawing a None = []
 
 -- Behind a reading that begins at o: all attributes, declarations and children that stood behind what was before it.
-pub record Behind (script chars : List ℕ) (from : Cursor) (o : ℕ) (n : Cursor) : Type 0 where
-  pub rest : SameRest script chars from n
-  pub attributes : attributes_in script chars n ≡ attributes_in script chars from
+pub record Behind (drawing : Drawing) (from : Cursor) (o : ℕ) (n : Cursor) : Type 0 where
+  pub rest : SameRest drawing from n
+  pub attributes : attributes_in drawing n ≡ attributes_in drawing from
   pub further : from.at < n.at
   pub small : o ≤ most_start
 
-abbrev pub ReadingFit : List ℕ → List ℕ → Cursor → Option ReadingAt → Type 0
-ReadingFit script chars from (Some x) = Behind script chars from x.part.start x.behind
-ReadingFit script chars from None = Unit {0}
+abbrev pub ReadingFit : Drawing → Cursor → Option ReadingAt → Type 0
+ReadingFit drawing from (Some x) = Behind drawing from x.part.start x.behind
+ReadingFit drawing from None = Unit {0}
 
 -- A part of the characters that was looked for.
 abbrev pub part_of : List ℕ → Option Part → math.Option model.Part

@@ -9,6 +9,7 @@ ghost use Rattle.walk.specs.Nodes.{leave, events_of, ItemFit, Others, sources_of
 
 use names::is_element;
 use script::cursor::{Cursor, Step};
+use script::drawing::Drawing;
 
 // An element that was opened: its own place, its name and namespace, and the cursor inside it.
 #[derive(Clone, Copy)]
@@ -39,15 +40,14 @@ pub struct TextAt {
 }
 
 // The next node from the cursor on; attributes, declarations and readings are passed over.
-pub fn next_item(script: &[u8], characters: &[u8], from: Cursor) -> Item
-    requires { Fit script.now from }
-    ensures same { events_of script.now characters.now result
-        ≡ events_at script.now characters.now from }
-    ensures fit { ItemFit script.now from result }
+pub fn next_item(drawing: &Drawing, from: Cursor) -> Item
+    requires { Fit drawing.now from }
+    ensures same { events_of drawing.now result ≡ events_at drawing.now from }
+    ensures fit { ItemFit drawing.now from result }
 {
     let mut c = from;
     loop {
-        match c.next(script, characters) {
+        match c.next(drawing) {
             Step::Open(name, space, n) => {
                 let e = Opened {
                     own: c,
@@ -83,29 +83,29 @@ pub fn next_item(script: &[u8], characters: &[u8], from: Cursor) -> Item
 }
 
 // Behind the nodes that are no element and no text, from the cursor on up to the next command of another sort.
-pub fn past_others(script: &[u8], characters: &[u8], from: Cursor) -> Cursor
-    requires { Fit script.now from }
-    ensures { Others script.now characters.now from result }
+pub fn past_others(drawing: &Drawing, from: Cursor) -> Cursor
+    requires { Fit drawing.now from }
+    ensures { Others drawing.now from result }
 {
     let mut c = from;
-    while let Step::Other(n) = c.next(script, characters) {
+    while let Step::Other(n) = c.next(drawing) {
         c = n;
     }
     c
 }
 
 // Behind the close of the element in which the cursor stands.
-pub fn past_element(script: &[u8], characters: &[u8], from: Cursor) -> Cursor
-    requires { Fit script.now from }
-    ensures same { events_at script.now characters.now result
-        ≡ leave 0 (events_at script.now characters.now from) }
-    ensures fit { Fit script.now result }
+#[tactic(auto, using(crate::proofs::Along::leaves))]
+pub fn past_element(drawing: &Drawing, from: Cursor) -> Cursor
+    requires { Fit drawing.now from }
+    ensures same { events_at drawing.now result ≡ leave 0 (events_at drawing.now from) }
+    ensures fit { Fit drawing.now result }
     ensures further { from.at ≤ result.at }
 {
     let mut c = from;
     let mut level: usize = 0;
     loop {
-        match next_item(script, characters, c) {
+        match next_item(drawing, c) {
             Item::Begin(e) => {
                 level += 1;
                 c = e.inside;
@@ -114,7 +114,7 @@ pub fn past_element(script: &[u8], characters: &[u8], from: Cursor) -> Cursor
                 c = n;
             }
             Item::Other(n) => {
-                c = past_others(script, characters, n);
+                c = past_others(drawing, n);
             }
             Item::Close(n) => {
                 if level == 0 {
@@ -131,22 +131,17 @@ pub fn past_element(script: &[u8], characters: &[u8], from: Cursor) -> Cursor
 }
 
 // The next text from the cursor on, with that many elements open inside the element that is walked.
-pub fn next_text(
-    script: &[u8],
-    characters: &[u8],
-    from: Cursor,
-    open_elements: usize,
-) -> Option<TextAt>
-    requires fit_2 { Fit script.now from }
+#[tactic(auto, using(crate::proofs::Along::texts))]
+pub fn next_text(drawing: &Drawing, from: Cursor, open_elements: usize) -> Option<TextAt>
+    requires fit_2 { Fit drawing.now from }
     requires open_elements_le_at { open_elements ≤ from.at }
-    ensures same { sources_of script.now characters.now result
-        ≡ texts_in open_elements (events_at script.now characters.now from) }
-    ensures fit { TextFit script.now from result }
+    ensures same { sources_of drawing.now result ≡ texts_in open_elements (events_at drawing.now from) }
+    ensures fit { TextFit drawing.now from result }
 {
     let mut c = from;
     let mut level = open_elements;
     loop {
-        match next_item(script, characters, c) {
+        match next_item(drawing, c) {
             Item::Begin(e) => {
                 level += 1;
                 c = e.inside;
@@ -160,7 +155,7 @@ pub fn next_text(
                 });
             }
             Item::Other(n) => {
-                c = past_others(script, characters, n);
+                c = past_others(drawing, n);
             }
             Item::Close(n) => {
                 if level == 0 {
@@ -180,5 +175,5 @@ pub fn next_text(
 pub fn has_tag_name(name: u8, space: u8) -> bool
     ensures { result ≡ and (leb space 1) (is_element name) }
 {
-    space <= 1 && is_element(name as u32)
+    space <= 1 && is_element(u32::from(name))
 }

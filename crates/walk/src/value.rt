@@ -9,6 +9,7 @@ ghost use Rattle.walk.specs.Values.{declarations_of, DeclarationFit, readings_of
 
 use names::same;
 use script::cursor::{Cursor, Step};
+use script::drawing::Drawing;
 
 // The value of an attribute or of a declaration: its own place, its length, and the cursor behind its command.
 #[derive(Clone, Copy)]
@@ -53,15 +54,15 @@ pub fn part_at(characters: &[u8], start: usize, len: u32) -> &[u8]
 
 // The next attribute of an element, from inside it; where none is left, the cursor behind the last one, before its declarations and its
 // children.
-pub fn next_attribute(script: &[u8], characters: &[u8], from: Cursor) -> Result<Named, Cursor>
-    requires { Fit script.now from }
-    ensures same { attributes_of script.now characters.now result
-        ≡ attributes_in script.now characters.now from }
-    ensures fit { AttributeFit script.now characters.now from result }
+#[inline(always)]
+pub fn next_attribute(drawing: &Drawing, from: Cursor) -> Result<Named, Cursor>
+    requires { Fit drawing.now from }
+    ensures same { attributes_of drawing.now result ≡ attributes_in drawing.now from }
+    ensures fit { AttributeFit drawing.now from result }
 {
     let mut c = from;
     loop {
-        match c.next(script, characters) {
+        match c.next(drawing) {
             Step::Attribute(name, namespace, len, behind) => {
                 let value = ValueAt {
                     own: c,
@@ -85,15 +86,14 @@ pub fn next_attribute(script: &[u8], characters: &[u8], from: Cursor) -> Result<
 }
 
 // The next declaration of an element, from inside it; where none is left, a cursor behind its attributes, before its children.
-pub fn next_declaration(script: &[u8], characters: &[u8], from: Cursor) -> Result<Named, Cursor>
-    requires { Fit script.now from }
-    ensures same { declarations_of script.now characters.now result
-        ≡ declarations_in script.now characters.now from }
-    ensures fit { DeclarationFit script.now characters.now from result }
+pub fn next_declaration(drawing: &Drawing, from: Cursor) -> Result<Named, Cursor>
+    requires { Fit drawing.now from }
+    ensures same { declarations_of drawing.now result ≡ declarations_in drawing.now from }
+    ensures fit { DeclarationFit drawing.now from result }
 {
     let mut c = from;
     loop {
-        match c.next(script, characters) {
+        match c.next(drawing) {
             Step::Declaration(name, important, len, behind) => {
                 let value = ValueAt {
                     own: c,
@@ -120,14 +120,13 @@ pub fn next_declaration(script: &[u8], characters: &[u8], from: Cursor) -> Resul
 }
 
 // The next reading of a value that begins at start, from behind it.
-pub fn next_reading(script: &[u8], characters: &[u8], c: Cursor, start: usize) -> Option<ReadingAt>
-    requires fit_2 { Fit script.now c }
+pub fn next_reading(drawing: &Drawing, c: Cursor, start: usize) -> Option<ReadingAt>
+    requires fit_2 { Fit drawing.now c }
     requires start_le_most_place { start ≤ most_place }
-    ensures same { readings_of script.now characters.now start result
-        ≡ readings_in script.now characters.now start c }
-    ensures fit { ReadingFit script.now characters.now c result }
+    ensures same { readings_of drawing.now start result ≡ readings_in drawing.now start c }
+    ensures fit { ReadingFit drawing.now c result }
 {
-    let Step::Reading(kind, offset, len, behind) = c.next(script, characters) else {
+    let Step::Reading(kind, offset, len, behind) = c.next(drawing) else {
         return None;
     };
     let part = Part {
@@ -139,21 +138,15 @@ pub fn next_reading(script: &[u8], characters: &[u8], c: Cursor, start: usize) -
 
 // The first attribute of an element with that name in that namespace, from inside it; where there is none, the cursor behind the
 // attributes.
-pub fn attribute_in(
-    script: &[u8],
-    characters: &[u8],
-    from: Cursor,
-    space: u8,
-    name: u8,
-) -> Result<ValueAt, Cursor>
-    requires { Fit script.now from }
-    ensures same { value_in script.now characters.now result
-        ≡ attribute_in space name (attributes_in script.now characters.now from) }
-    ensures fit { ValueFit script.now characters.now from result }
+#[tactic(auto, using(crate::proofs::Finding::by_name))]
+pub fn attribute_in(drawing: &Drawing, from: Cursor, space: u8, name: u8) -> Result<ValueAt, Cursor>
+    requires { Fit drawing.now from }
+    ensures same { value_in drawing.now result ≡ attribute_in space name (attributes_in drawing.now from) }
+    ensures fit { ValueFit drawing.now from result }
 {
     let mut c = from;
     loop {
-        let x = next_attribute(script, characters, c)?;
+        let x = next_attribute(drawing, c)?;
         if x.qualifier == space && x.name == name {
             return Ok(x.value);
         }
@@ -162,22 +155,16 @@ pub fn attribute_in(
 }
 
 // The first reading of a kind, of a value that begins at start, from behind it.
-pub fn reading_of(
-    script: &[u8],
-    characters: &[u8],
-    from: Cursor,
-    start: usize,
-    kind: u8,
-) -> Option<Part>
-    requires fit_2 { Fit script.now from }
+#[tactic(auto, using(crate::proofs::Finding::by_kind))]
+pub fn reading_of(drawing: &Drawing, from: Cursor, start: usize, kind: u8) -> Option<Part>
+    requires fit_2 { Fit drawing.now from }
     requires start_le_most_place { start ≤ most_place }
-    ensures same { part_of characters.now result
-        ≡ reading_of kind (readings_in script.now characters.now start from) }
+    ensures same { part_of drawing.now.characters.now result ≡ reading_of kind (readings_in drawing.now start from) }
     ensures fit { PartFit result }
 {
     let mut c = from;
     loop {
-        let x = next_reading(script, characters, c, start)?;
+        let x = next_reading(drawing, c, start)?;
         if x.kind == kind {
             return Some(x.part);
         }
@@ -186,22 +173,15 @@ pub fn reading_of(
 }
 
 // Has a value that begins at start, from behind it, a reading of that kind with these bytes?
-pub fn any_reading(
-    script: &[u8],
-    characters: &[u8],
-    from: Cursor,
-    start: usize,
-    kind: u8,
-    id: &[u8],
-) -> bool
-    requires fit { Fit script.now from }
+#[tactic(auto, using(crate::proofs::Finding::by_bytes))]
+pub fn any_reading(drawing: &Drawing, from: Cursor, start: usize, kind: u8, id: &[u8]) -> bool
+    requires fit { Fit drawing.now from }
     requires start_le_most_place { start ≤ most_place }
-    ensures { result
-        ≡ any_reading kind id.now (readings_in script.now characters.now start from) }
+    ensures { result ≡ any_reading kind id.now (readings_in drawing.now start from) }
 {
     let mut c = from;
-    while let Some(x) = next_reading(script, characters, c, start) {
-        if x.kind == kind && same(part_at(characters, x.part.start, x.part.len), id) {
+    while let Some(x) = next_reading(drawing, c, start) {
+        if x.kind == kind && same(part_at(drawing.characters, x.part.start, x.part.len), id) {
             return true;
         }
         c = x.behind;

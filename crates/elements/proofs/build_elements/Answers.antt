@@ -6,5 +6,5 @@ use Rattle.elements.proofs.build_elements.Goals as goal
 
 pub run-requires : goal.run-requires
 run-requires c =
-    starting _ _ (length c.args.nodes.now) (length c.args.attributes.now) (length c.args.text.now)
+    starting _ (length c.args.nodes.now) (length c.args.attributes.now) (length c.args.text.now)
     (sym c.check.ensures ∙ ap answer_of c.in_ok-check.was) _ _ _ c.clear.ensures c.if-nodes-lt8.false _ c.start.ensures _ c.put_root.ensures

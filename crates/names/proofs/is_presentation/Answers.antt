@@ -1,8 +1,9 @@
+use Rattle.std.proofs.Common.{rules}
 use mathlib.Core.List.{List, [], ◌∷◌}
 use Prim.Native.Nat.{ℕ}
 use Rattle.model.specs.Base.{among}
 use Rattle.model.specs.Names.{is_presentation}
-use Rattle.names.proofs.Keys.{every, arm, unlisted, is_true}
+use Rattle.names.proofs.Keys.{every, unlisted}
 use Rattle.names.proofs.is_presentation.Goals as goal
 
 -- the list of the definition
@@ -20,14 +21,6 @@ keys1 =
 abbrev keys2 : List ℕ
 keys2 = 10 ∷ 13 ∷ 22 ∷ 32 ∷ 34 ∷ 37 ∷ 42 ∷ 44 ∷ 46 ∷ 55 ∷ 60 ∷ 81 ∷ 85 ∷ 117 ∷ 158 ∷ 160 ∷ 162 ∷ 164 ∷ 166 ∷ 176 ∷ 185 ∷ 198 ∷ 201 ∷ []
 
-pub returns-in-0 : goal.returns-in-0
-unfolding is_presentation among every
-returns-in-0 c = is_true _ (arm is_presentation keys1 _ c.in-0.is tt)
-
-pub returns-in-10 : goal.returns-in-10
-unfolding is_presentation among every
-returns-in-10 c = is_true _ (arm is_presentation keys2 _ c.in-10.is tt)
-
 pub returns-in_default : goal.returns-in_default
 unfolding is_presentation among every
-returns-in_default c = unlisted (keys2 ∷ keys1 ∷ []) all c.args.a c.in_default.in_default-own.rest tt
+returns-in_default c = unlisted (keys2 ∷ keys1 ∷ []) all c.args.a (search rules) tt

@@ -24,19 +24,19 @@ next_use-requires c =
 
 pub use_target-requires : goal.use_target-requires
 use_target-requires c =
-    let use' = use-told _ _ _ _ _ _ c.in-Some.is (c.next_use.ensures.same, c.next_use.ensures.fit) in record {
+    let use' = use-told _ _ _ _ _ c.in-Some.is (c.next_use.ensures.same, c.next_use.ensures.fit) in record {
       standing = use'.1.stands;
       memo = c.fill.ensures;
     }
 
 pub loop-u-smaller : goal.loop-u-smaller
 loop-u-smaller c =
-    let use' = use-told _ _ _ _ _ _ c.in-Some.is
+    let use' = use-told _ _ _ _ _ c.in-Some.is
     (c.next_use.ensures.same, c.next_use.ensures.fit) in
     omega (arith, use'.1.behind.further, use'.1.behind.fit.at)
 
 pub loop-u-preserved : goal.loop-u-preserved
 loop-u-preserved c =
-    let use' = use-told _ _ _ _ _ _ c.in-Some.is
+    let use' = use-told _ _ _ _ _ c.in-Some.is
     (c.next_use.ensures.same, c.next_use.ensures.fit) in
     (use'.1.behind.fit, use'.1.low)

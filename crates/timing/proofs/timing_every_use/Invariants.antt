@@ -4,7 +4,7 @@ use Rattle.script.specs.Step.{Fit}
 use Rattle.timing.proofs.timing_every_use.Given as goal
 
 abbrev pub invariant-loop-u : goal.invariant-loop-u
-invariant-loop-u l = Fit l.script l.c × (l.level ≤ l.c.at)
+invariant-loop-u l = Fit l.drawing l.c × (l.level ≤ l.c.at)
 
 abbrev pub decreases-loop-u : goal.decreases-loop-u
-decreases-loop-u l = length l.script - l.c.at
+decreases-loop-u l = length l.drawing.script.now - l.c.at

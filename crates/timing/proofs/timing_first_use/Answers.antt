@@ -23,7 +23,7 @@ next_use-requires c =
 
 pub use_target-requires : goal.use_target-requires
 use_target-requires c =
-    let use' = use-told _ _ _ _ _ _ c.in-Some.is (c.next_use.ensures.same, c.next_use.ensures.fit) in record {
+    let use' = use-told _ _ _ _ _ c.in-Some.is (c.next_use.ensures.same, c.next_use.ensures.fit) in record {
       standing = use'.1.stands;
       memo = c.fill.ensures;
     }

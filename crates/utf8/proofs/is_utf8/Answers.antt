@@ -10,10 +10,6 @@ abbrev First : List ℕ → Option ℕ → Type 0
 First s r = MatchOption r (AllWithin (λ b. b < 0x80) s 0 (length s))
     (λ i. (i < length s) × HoldsAt (λ b. 0x80 ≤ b) s i × AllWithin (λ b. b < 0x80) s 0 i)
 
-pub returns-then-s-ge16 : goal.returns-then-s-ge16
-unfolding is_utf8
-returns-then-s-ge16 c = c.is_utf8_from.ensures
-
 pub returns-in-Some : goal.returns-in-Some
 unfolding is_utf8
 returns-in-Some c =

@@ -3,9 +3,8 @@ use mathlib.Core.Path.{◌≡◌, sym, ap, ◌∙◌}
 use Prim.Native.Nat.{◌+◌}
 use lib.ListN.{get_or, drop}
 use Rattle.model.specs.Utf8.{is_within, sequence_of, well_formed}
-use Rattle.utf8.proofs.Sequence.{first-most, second-of-two, cut, two, bad-second}
+use Rattle.utf8.proofs.Sequence.{first-most, second-of-two, two}
 use Rattle.utf8.proofs.two_at.Goals as goal
-use Rattle.utf8.proofs.two_at.Goals.{else-s-i-ge2-via-then-s-i-ge2+else-is_further, else-s-i-ge2-via-else-s-i-ge2}
 
 pub returns-then-is_further : goal.returns-then-is_further
 returns-then-is_further c =
@@ -18,15 +17,3 @@ returns-then-is_further c =
           ∙ sym c.is_further.ensures ∙ c.if-is_further.true;
     }) (omega arith) in
     (omega (arith, e), e)
-
-pub returns-else-s-i-ge2 : goal.returns-else-s-i-ge2
-returns-else-s-i-ge2 c =
-    let e : 0 ≡ sequence_of well_formed (drop c.args.i c.args.s.now) = elim c.else-s-i-ge2.branch [
-      | else-s-i-ge2-via-then-s-i-ge2+else-is_further w ↦ bad-second _ _ 2 c.requires.i_in_bounds
-          (first-most _ 1 c.requires.i_value) (sym c.requires.i_value)
-          (omega (arith, w.if-s-i-ge2.true)) (omega arith)
-          (ap (λ r. is_within (get_or c.args.s.now (c.args.i + 1) 0) r) (second-of-two _ c.requires.i_value)
-          ∙ sym w.is_further.ensures ∙ w.if-is_further.false)
-      | else-s-i-ge2-via-else-s-i-ge2 w ↦ cut _ _ 2 c.requires.i_in_bounds (first-most _ 1 c.requires.i_value)
-          (sym c.requires.i_value) (omega (arith, w.if-s-i-ge2.false))
-    ] in λ h. omega (arith, e)

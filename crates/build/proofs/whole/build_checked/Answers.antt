@@ -7,7 +7,7 @@ use Rattle.build.proofs.whole.build_checked.Goals as goal
 pub returns-then-node_room-eq0 : goal.returns-then-node_room-eq0
 returns-then-node_room-eq0 c =
     refused-answer _ _ _ _ NodesFull c.clear.ensures _
-    ∙ no-root _ _ c.args.nodes.now
+    ∙ no-root c.args.drawing.now c.args.nodes.now
     c.args.attributes.now
     c.args.text.now _ _ _
     c.requires
@@ -16,7 +16,7 @@ returns-then-node_room-eq0 c =
 
 pub put_root-requires : goal.put_root-requires
 put_root-requires c =
-    root-room _ _ c.args.nodes.now
+    root-room c.args.drawing.now c.args.nodes.now
     c.args.attributes.now
     c.args.text.now _ _ _
     c.requires
@@ -25,7 +25,7 @@ put_root-requires c =
 
 pub fill-requires : goal.fill-requires
 fill-requires c =
-    root-alone _ _ c.args.nodes.now
+    root-alone _ c.args.nodes.now
     c.args.attributes.now
     c.args.text.now _ _ _
     c.requires
@@ -36,7 +36,7 @@ fill-requires c =
 pub returns : goal.returns
 returns c =
     c.fill.ensures
-    ∙ with-root _ _ c.args.nodes.now
+    ∙ with-root c.args.drawing.now c.args.nodes.now
     c.args.attributes.now c.args.text.now _ _ _
     c.requires c.clear.ensures _
     c.node_room.ensures

@@ -22,12 +22,12 @@ cut-requires c =
 pub returns-then-mark-aim : goal.returns-then-mark-aim
 returns-then-mark-aim c =
     let pre = c.requires.aimed in
-    let told = back-told _ _ _ _ _ _ pre _ _ c.mark_of-mark.ensures in
-    back_cut _ _ _ _ _ _ pre _ (told ∙ eq-eqb _ _ c.if-mark-aim.true) _
+    let told = back-told c.args.drawing.now _ _ _ _ pre _ _ c.mark_of-mark.ensures in
+    back_cut c.args.drawing.now _ _ _ _ pre _ (told ∙ eq-eqb _ _ c.if-mark-aim.true) _
     c.cut.ensures
 
 pub returns-else-mark-aim : goal.returns-else-mark-aim
 returns-else-mark-aim c =
     let pre = c.requires.aimed in
-    let told = back-told _ _ _ _ _ _ pre _ _ c.mark_of-mark.ensures in
-    back-kept _ _ _ _ _ _ pre _ (told ∙ ne_eqb _ _ c.if-mark-aim.false)
+    let told = back-told c.args.drawing.now _ _ _ _ pre _ _ c.mark_of-mark.ensures in
+    back-kept c.args.drawing.now _ _ _ _ pre _ (told ∙ ne_eqb _ _ c.if-mark-aim.false)

@@ -10,7 +10,7 @@ behind_target-end-requires c =
     }
 
 pub loop-m-init : goal.loop-m-init
-loop-m-init c = cutting-first _ _ _ _ _ _ _ _ _ _ _ c.requires.cuttable c.requires.aimed c.requires.quiet c.behind_target-end.ensures
+loop-m-init c = cutting-first _ _ _ _ _ _ _ _ _ _ c.requires.cuttable c.requires.aimed c.requires.quiet c.behind_target-end.ensures
 
 pub cut_next-m-requires : goal.cut_next-m-requires
 cut_next-m-requires c =
@@ -26,7 +26,7 @@ loop-m-smaller c = omega (arith, c.cut_next-m.ensures.onward.low, c.loop-m-test.
 
 pub loop-m-preserved : goal.loop-m-preserved
 loop-m-preserved c =
-    cutting-turn _ _ _ _ _ _ _ _ _ _ _ _ _ c.loop-m.invariant _
+    cutting-turn _ _ _ _ _ _ _ _ _ _ _ _ c.loop-m.invariant _
     c.cut_next-m.ensures.tables _ c.cut_next-m.ensures.onward
 
 pub shape_of-attributes : goal.shape_of-attributes
@@ -35,8 +35,8 @@ shape_of-attributes c = c.loop-m.invariant.long
 pub returns : goal.returns
 returns c =
     record {
-      tables = cutting-done _ _ _ _ _ _ _ _ _ _ _ _ _ c.loop-m.invariant c.loop-m-test.false
+      tables = cutting-done _ _ _ _ _ _ _ _ _ _ _ _ c.loop-m.invariant c.loop-m-test.false
           c.behind_target-end.ensures;
       range = c.behind_target-end.ensures;
-      silent = cutting-silent _ _ _ _ _ _ _ _ _ _ _ _ _ c.loop-m.invariant c.loop-m-test.false;
+      silent = cutting-silent _ _ _ _ _ _ _ _ _ _ _ _ c.loop-m.invariant c.loop-m-test.false;
     }

@@ -15,7 +15,7 @@ first_with-requires c =
 pub returns-in_default : goal.returns-in_default
 returns-in_default c =
     let below = c.behind_below-end.ensures in record {
-      tables = element-bare _ _ _ _ c.args.counts _ _ _ _ _ below c.cut_name-name.ensures
+      tables = element-bare c.args.drawing.now _ _ c.args.counts _ _ _ _ _ below c.cut_name-name.ensures
           (omega (arith, below.low)) (omega arith) c.in_default.ensures.none refl;
       known = c.requires.known_2;
     }
@@ -23,7 +23,7 @@ returns-in_default c =
 pub returns-in_default-key_of : goal.returns-in_default-key_of
 returns-in_default-key_of c =
     let below = c.behind_below-end.ensures in record {
-      tables = element-unled _ _ _ _ c.args.counts _ _ _ _ _ below c.cut_name-name.ensures
+      tables = element-unled c.args.drawing.now _ _ c.args.counts _ _ _ _ _ below c.cut_name-name.ensures
           c.in-Some.ensures.within.0 (omega (arith, c.in-Some.ensures.within.1)) c.in-Some.ensures.none
           (pass-first c.args.pass) c.requires.pass_bound (sym c.in_default-key_of.ensures.same);
       known = c.requires.known_2;
@@ -47,7 +47,7 @@ cut_pairs-requires c =
 pub returns : goal.returns
 returns c =
     let below = c.behind_below-end.ensures in record {
-      tables = element-pairs _ _ _ _ c.args.counts _ _ _ _ _ below c.cut_name-name.ensures
+      tables = element-pairs c.args.drawing.now _ _ c.args.counts _ _ _ _ _ below c.cut_name-name.ensures
           c.in-Some.ensures.within.0 (omega (arith, c.in-Some.ensures.within.1)) c.in-Some.ensures.none _
           c.cut_pairs.ensures.tables;
       known = c.cut_pairs.ensures.known;

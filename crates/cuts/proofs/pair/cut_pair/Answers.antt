@@ -25,26 +25,26 @@ pub returns-then-mark-aim : goal.returns-then-mark-aim
 returns-then-mark-aim c =
     let eqb = eq-eqb _ _ c.if-mark-aim.true in
     let a = c.requires.aimed in
-    let told = back-told _ _ _ _ _ _ c.requires.aimed _ _
+    let told = back-told c.args.drawing.now _ _ _ _ c.requires.aimed _ _
     c.mark_of-mark.ensures in record {
-      tables = back_cut _ _ _ _ _ _ a _ (told ∙ eqb) _ c.cut.ensures ∙ pair-back _ _ _ _ _ _ a _ (told ∙ eqb);
-      quiet = quiet-on _ _ _ _ _ _ _ c.args.aim c.requires.cuttable _ c.requires.quiet_2 _ _
-          (back_cut _ _ _ _ _ _ a _ (told ∙ eqb) _ c.cut.ensures ∙ pair-back _ _ _ _ _ _ a _ (told ∙ eqb));
+      tables = back_cut c.args.drawing.now _ _ _ _ a _ (told ∙ eqb) _ c.cut.ensures ∙ pair-back c.args.drawing.now _ _ _ _ a _ (told ∙ eqb);
+      quiet = quiet-on _ _ _ _ _ _ c.args.aim c.requires.cuttable _ c.requires.quiet_2 _ _
+          (back_cut c.args.drawing.now _ _ _ _ a _ (told ∙ eqb) _ c.cut.ensures ∙ pair-back c.args.drawing.now _ _ _ _ a _ (told ∙ eqb));
     }
 
 pub returns-then-mark-lt2 : goal.returns-then-mark-lt2
 returns-then-mark-lt2 c =
     let a = c.requires.aimed in
-    let told = back-told _ _ _ _ _ _ c.requires.aimed _ _ c.mark_of-mark.ensures in record {
-      tables = pair-nowhere _ _ _ _ _ _ a _ (told ∙ ne_eqb _ _ c.if-mark-aim.false)
-          (target-nowhere _ _ _ _ _ _ a _ _ c.mark_of-mark.ensures c.if-mark-lt2.true);
+    let told = back-told c.args.drawing.now _ _ _ _ c.requires.aimed _ _ c.mark_of-mark.ensures in record {
+      tables = pair-nowhere c.args.drawing.now _ _ _ _ a _ (told ∙ ne_eqb _ _ c.if-mark-aim.false)
+          (target-nowhere c.args.drawing.now _ _ _ _ a _ _ c.mark_of-mark.ensures c.if-mark-lt2.true);
       quiet = c.requires.quiet_2;
     }
 
 pub overflow_cast-w : goal.overflow_cast-w
 overflow_cast-w c =
     let a = c.requires.aimed in
-    omega (arith, target-inside _ _ _ _ _ _ a _ _ c.mark_of-mark.ensures (omega (arith, c.if-mark-lt2.false)))
+    omega (arith, target-inside c.args.drawing.now _ _ _ _ a _ _ c.mark_of-mark.ensures (omega (arith, c.if-mark-lt2.false)))
 
 pub cut_target-requires : goal.cut_target-requires
 cut_target-requires c =
@@ -54,7 +54,7 @@ cut_target-requires c =
       quiet_2 = c.requires.quiet_2;
       w_lt_nodes = omega (
         arith,
-        target-inside _ _ _ _ _ _ a _ _
+        target-inside c.args.drawing.now _ _ _ _ a _ _
             c.mark_of-mark.ensures (omega (arith, c.if-mark-lt2.false)),
       );
     }
@@ -64,9 +64,9 @@ returns c =
     let mark-of-ensures = c.mark_of-mark.ensures in
     let pre = c.requires.aimed in
     let a = pre in
-    let told = back-told _ _ _ _ _ _ pre _ _ mark-of-ensures in record {
+    let told = back-told c.args.drawing.now _ _ _ _ pre _ _ mark-of-ensures in record {
       tables = c.cut_target.ensures.tables
-          ∙ pair-below _ _ _ _ _ _ a _ (told ∙ ne_eqb _ _ c.if-mark-aim.false) _
-          (target-on _ _ _ _ _ _ a _ _ mark-of-ensures (omega (arith, c.if-mark-lt2.false)));
+          ∙ pair-below c.args.drawing.now _ _ _ _ a _ (told ∙ ne_eqb _ _ c.if-mark-aim.false) _
+          (target-on c.args.drawing.now _ _ _ _ a _ _ mark-of-ensures (omega (arith, c.if-mark-lt2.false)));
       quiet = c.cut_target.ensures.quiet;
     }

@@ -1,5 +1,3 @@
-use mathlib.Core.Path.{ap, ◌∙◌}
-use Rattle.edges.specs.Pairs.{after_outer, after_last, after_pair}
 use Rattle.edges.proofs.Steps.{both-between, both-outer}
 use Rattle.edges.proofs.step.trim_pair.Goals as goal
 
@@ -15,13 +13,3 @@ trim_last_edge-requires c =
       ranged = rw (c.trim_outer.ensures, c.trim_between.ensures) ranged.0;
       ranged_2 = rw (c.trim_outer.ensures, c.trim_between.ensures) ranged.1;
     }
-
-pub returns : goal.returns
-unfolding after_pair
-returns c =
-    rw (← c.edges_of-c.ensures)
-    (c.trim_last_edge.ensures
-    ∙ ap (after_last c.args.p _)
-    (c.trim_outer.ensures
-    ∙ ap (after_outer c.args.p _)
-    c.trim_between.ensures))

@@ -14,17 +14,17 @@ returns-then-size_of-eq1 c =
           ∙ c.if-size_of-eq1.true),
       ← c.begins_with_space-begins.ensures,
     )
-    c.remove_last_if.ensures
+    c.cut_if.ensures
 
-pub remove_first_if-requires : goal.remove_first_if-requires
-remove_first_if-requires c =
+pub cut_if-requires-2-clause-filled : goal.cut_if-requires-2-clause-filled
+cut_if-requires-2-clause-filled c =
     λ e. begins-filled _ _
     c.requires
     (sym c.begins_with_space-begins.ensures ∙ e)
 
-pub remove_last_if-requires-2 : goal.remove_last_if-requires-2
-remove_last_if-requires-2 c =
-    λ e. rw c.remove_first_if.ensures
+pub cut_if-requires-3-clause-filled : goal.cut_if-requires-3-clause-filled
+cut_if-requires-3-clause-filled c =
+    λ e. rw c.cut_if-2.ensures
     (single-last _ _ c.requires
     (λ z. c.if-size_of-eq1.false
     (c.size_of.ensures
@@ -40,6 +40,6 @@ returns c =
           ∙ size_is _ _ c.requires ∙ z)),
       ← c.begins_with_space-begins.ensures,
       ← c.ends_with_space-ends.ensures,
-    ) (c.remove_last_if-2.ensures
+    ) (c.cut_if-3.ensures
     ∙ ap (cut_if c.ends_with_space-ends.result c.args.i 0 1)
-    c.remove_first_if.ensures)
+    c.cut_if-2.ensures)

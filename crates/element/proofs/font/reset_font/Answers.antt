@@ -8,9 +8,6 @@ use Rattle.element.proofs.font.reset_font.Goals as goal
 pub loop-name-init : goal.loop-name-init
 loop-name-init c = at_first (λ m. reset_as c.args.important) _ _ _ c.requires _
 
-pub insert_entry-requires : goal.insert_entry-requires
-insert_entry-requires c = c.loop-name.invariant.on.space
-
 pub returns-in_err-n : goal.returns-in_err-n
 unfolding font_resets
 returns-in_err-n c =

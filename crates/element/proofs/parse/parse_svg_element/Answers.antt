@@ -17,7 +17,7 @@ returns-in_err-run c =
     let room = c.attribute_room.ensures in
     let step = c.store_entries-stored.ensures.stored in
     let p = err_from_is_err_and c.from_residual.result c.from_residual.ensures.1 in record {
-      outcome = λ bs. rw (p.1, p.2) (no_room _ _ _ _ c.args.tag ready _ room _ _ bs _ c.args.e _ _ step _ c.in_err-run.was);
+      outcome = λ bs. rw (p.1, p.2) (no_room _ _ _ _ c.args.tag ready _ room _ bs _ c.args.e _ _ step _ c.in_err-run.was);
       behind = rw p.1 tt;
     }
 
@@ -27,7 +27,7 @@ returns-then-counts-gt-MOST_NODES c =
     let room = c.attribute_room.ensures in
     let step = c.store_entries-stored.ensures.stored in
     let here = c.in_ok-run.was in record {
-      outcome = λ bs. too_many _ _ _ _ c.args.tag ready _ room _ _ bs _
+      outcome = λ bs. too_many _ _ _ _ c.args.tag ready _ room _ bs _
           c.args.e _ _ step _ here c.if-counts-gt-MOST_NODES.true;
       behind = tt;
     }
@@ -38,7 +38,7 @@ returns-then-node_room-counts c =
     let room = c.attribute_room.ensures in
     let step = c.store_entries-stored.ensures.stored in
     let here = c.in_ok-run.was in record {
-      outcome = λ bs. no_record _ _ _ _ c.args.tag ready _ room _ _ bs _
+      outcome = λ bs. no_record _ _ _ _ c.args.tag ready _ room _ bs _
           c.args.e _ _ step _ here c.if-counts-gt-MOST_NODES.false
           (rw (← c.node_room.ensures) c.if-node_room-counts.true);
       behind = tt;
@@ -58,7 +58,7 @@ returns c =
     let step = c.store_entries-stored.ensures.stored in
     let here = c.in_ok-run.was in record {
       outcome = λ bs. appended-here _ _ _ _ c.args.tag
-          ready _ room _ _ bs _ c.args.e _ _ step _
+          ready _ room _ bs _ c.args.e _ _ step _
           here c.if-counts-gt-MOST_NODES.false
           (rw (← c.node_room.ensures)
           c.if-node_room-counts.false) _ c.append.ensures;

@@ -1,5 +1,5 @@
 use Rattle.std.proofs.lemmas.Result.{err_from_is_err_and}
-use Rattle.element.proofs.Whole.{entries-full, entries-on, entries-behind, declarations-behind, run-nodes}
+use Rattle.element.proofs.Whole.{entries-full, entries-behind, run-nodes}
 use Rattle.element.proofs.parse.store_entries.Goals as goal
 
 pub returns-in_err-run : goal.returns-in_err-run
@@ -7,17 +7,8 @@ returns-in_err-run c =
     let step = c.add_attributes.ensures.stored in
     let p = err_from_is_err_and c.from_residual.result c.from_residual.ensures.1 in
     record {
-      stored = entries-full _ _ _ _ _ _ _ c.requires.first_le_room.1 c.requires.above _ _ step _ _ _ c.in_err-run.was p.1 p.2;
+      stored = entries-full _ _ _ _ _ _ c.requires.first_le_room.1 c.requires.above _ _ step _ _ _ c.in_err-run.was p.1 p.2;
       behind = rw p.1 tt;
-    }
-
-pub write_declarations-requires : goal.write_declarations-requires
-write_declarations-requires c =
-    let step = c.add_attributes.ensures.stored in
-    record {
-      space = (entries-on _ _ _ _ _ _ _ c.requires.first_le_room.1 c.requires.above _ _ step _ c.in_ok-run.was).space;
-      above = c.requires.above;
-      in_declarations = declarations-behind _ _ _ _ c.in_ok-run.ensures.behind c.requires.in_attributes.1;
     }
 
 pub returns : goal.returns
@@ -25,7 +16,7 @@ returns c =
     let step = c.add_attributes.ensures.stored in
     let rest = c.in_ok-run.ensures.behind in
     record {
-      stored = entries-behind _ _ _ _ _ _ _ c.requires.first_le_room.1 c.requires.above _ _ step _ c.in_ok-run.was
+      stored = entries-behind _ _ _ _ _ _ c.requires.first_le_room.1 c.requires.above _ _ step _ c.in_ok-run.was
           rest.declarations _ _ c.write_declarations.ensures.stored;
-      behind = run-nodes _ _ _ _ c.write_declarations.result rest c.write_declarations.ensures.behind;
+      behind = run-nodes _ _ _ c.write_declarations.result rest c.write_declarations.ensures.behind;
     }

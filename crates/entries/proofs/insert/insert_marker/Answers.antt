@@ -9,10 +9,6 @@ loop-name-init c =
     let args = c.args in
     at_first (λ m. inserted args.nodes.now m args.characters.now args.place args.important args.value) _ _ _ c.requires.space _
 
-pub insert_attribute-requires : goal.insert_attribute-requires
-insert_attribute-requires c =
-    record { space = c.loop-name.invariant.on.space; above = c.requires.above; size_in_bounds = c.requires.size_in_bounds }
-
 pub returns-in_err-n : goal.returns-in_err-n
 returns-in_err-n c =
     let steady = inserts-steady _ _ c.args.characters.now _ c.requires.above c.args.important c.args.value in

@@ -2,7 +2,6 @@ use mathlib.Core.Path.{◌∙◌, sym, ap}
 use mathlib.Core.Bool.{not}
 use borrow.Author.Tests.{eq-eqb, ne_eqb}
 use Rattle.model.proofs.Theorems.Inside.{first-none}
-use Rattle.tree.proofs.Bools.{fails, passes}
 use Rattle.exchange.proofs.Faults.{first-hit, first-miss}
 use Rattle.exchange.proofs.fault.text_fault.Goals as goal
 
@@ -14,12 +13,12 @@ returns-then-new-len c = first-hit 32 _ _ (ap not (ne_eqb _ _ c.if-new-len.true)
 
 pub returns-then-not-is_utf8 : goal.returns-then-not-is_utf8
 returns-then-not-is_utf8 c =
-    first-hit 33 _ _ (ap not (fails c.is_utf8.ensures c.if-not-is_utf8.true-raw))
+    first-hit 33 _ _ (ap not (sym c.is_utf8.ensures ∙ c.if-not-is_utf8.true))
     ∙ first-miss 32 _ _ (ap not (eq-eqb _ _ c.if-new-len.false))
     ∙ first-miss 31 _ _ c.if-in_style.false
 
 pub returns : goal.returns
 returns c =
-    sym first-none ∙ first-miss 33 _ _ (ap not (passes c.is_utf8.ensures c.if-not-is_utf8.false-raw))
+    sym first-none ∙ first-miss 33 _ _ (ap not (sym c.is_utf8.ensures ∙ c.if-not-is_utf8.false))
     ∙ first-miss 32 _ _ (ap not (eq-eqb _ _ c.if-new-len.false))
     ∙ first-miss 31 _ _ c.if-in_style.false

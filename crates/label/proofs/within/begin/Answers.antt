@@ -15,15 +15,14 @@ use Rattle.label.proofs.within.begin.Goals as goal
 pub returns-then-not-is_text_content : goal.returns-then-not-is_text_content
 returns-then-not-is_text_content c =
     let content = content-is (element_of
-    c.args.script.now
-    c.args.characters.now
+    c.args.drawing.now
     c.args.x)
     (eqb c.args.s.p
     c.args.e) in
     let within = c.requires.within in
     let opens = c.requires.opening in
     let recalled = c.requires.recalled in
-    let on = goes-past _ _ _ _ _ _ _ within _ opens
+    let on = goes-past _ _ _ _ _ _ within _ opens
     (sym content ∙ fails c.is_text_content.ensures c.if-not-is_text_content.true-raw) _ c.past_element-behind.ensures.same
     c.past_element-behind.ensures.fit c.past_element-behind.ensures.further in
     (on.0, on.1, recalled)
@@ -32,14 +31,13 @@ pub parse_svg_element-requires : goal.parse_svg_element-requires
 parse_svg_element-requires c =
     let within = c.requires.within in
     let opens = c.requires.opening in record {
-      ready = ready _ _ _ _ _ _ _ within _ opens;
-      in_attributes = in-values _ _ _ _ _ _ _ within _ opens;
+      ready = ready _ _ _ _ _ _ within _ opens;
+      in_attributes = in-values _ _ _ _ _ _ within _ opens;
     }
 
 pub get_xmlspace-space-requires : goal.get_xmlspace-space-requires
 get_xmlspace-space-requires c =
-    let content = content-is (element_of c.args.script.now
-    c.args.characters.now
+    let content = content-is (element_of c.args.drawing.now
     c.args.x)
     (eqb c.args.s.p
     c.args.e) in
@@ -49,44 +47,43 @@ get_xmlspace-space-requires c =
     c.if-not-is_text_content.false-raw in
     let named = c.text_tag_of.ensures
     ∙ ap tag_in c.code_of-code.ensures in
-    let nodes = element-behind _ _ _ _ c.parse_svg_element.ensures.behind _ c.in_ok-opened.was in
+    let nodes = element-behind _ _ _ c.parse_svg_element.ensures.behind _ c.in_ok-opened.was in
     let told = element-done _ _ _ _ _ (c.parse_svg_element.ensures.outcome c.args.text.now) _ c.in_ok-opened.was in
-    reads _ _ _ _ _ _ (tref-holds _ _ _ _ _ _ _ within _ opens is _ named _ _ _ _ _ nodes told) _ (omega arith)
+    reads _ _ _ _ _ _ (tref-holds _ _ _ _ _ _ within _ opens is _ named _ _ _ _ _ nodes told) _ (omega arith)
 
-pub push-more-requires : goal.push-more-requires
-push-more-requires c =
+pub push-requires : goal.push-requires
+push-requires c =
     let recalled = c.requires.recalled in
     recalled.few
 
 pub returns-then-is_read : goal.returns-then-is_read
 returns-then-is_read c =
-    let content = content-is (element_of c.args.script.now c.args.characters.now c.args.x) (eqb c.args.s.p c.args.e) in
+    let content = content-is (element_of c.args.drawing.now c.args.x) (eqb c.args.s.p c.args.e) in
     let within = c.requires.within in
     let opens = c.requires.opening in
     let recalled = c.requires.recalled in
     let is = sym content ∙ passes c.is_text_content.ensures
     c.if-not-is_text_content.false-raw in
     let named = c.text_tag_of.ensures ∙ ap tag_in c.code_of-code.ensures in
-    let nodes = element-behind _ _ _ _ c.parse_svg_element.ensures.behind _ c.in_ok-opened.was in
+    let nodes = element-behind _ _ _ c.parse_svg_element.ensures.behind _ c.in_ok-opened.was in
     let told = element-done _ _ _ _ _ (c.parse_svg_element.ensures.outcome c.args.text.now) _ c.in_ok-opened.was in
-    let on = goes_in _ _ _ _ _ _ _ within _ opens is _ named _ _ _ _ _ nodes told _
+    let on = goes_in _ _ _ _ _ _ within _ opens is _ named _ _ _ _ _ nodes told _
     c.get_xmlspace-space.ensures
     (λ z. c.if-is_read.true (c.code_of-code.ensures ∙ z)) in
-    (on.0, on.1, in-recalled _ _ _ _ _ _ _ within _ opens is _ named _ _ _ _ _ nodes told _ _ recalled _ _ c.push-more.ensures)
+    (on.0, on.1, in-recalled _ _ _ _ _ _ within _ opens is _ named _ _ _ _ _ nodes told _ recalled _ c.push.ensures)
 
 pub add_quoted-requires : goal.add_quoted-requires
 add_quoted-requires c =
-    let content = content-is (element_of c.args.script.now
-    c.args.characters.now c.args.x) (eqb c.args.s.p c.args.e) in
+    let content = content-is (element_of c.args.drawing.now c.args.x) (eqb c.args.s.p c.args.e) in
     let within = c.requires.within in
     let opens = c.requires.opening in
     let is = sym content ∙ passes c.is_text_content.ensures
     c.if-not-is_text_content.false-raw in
     let named = c.text_tag_of.ensures ∙ ap tag_in c.code_of-code.ensures in
-    let nodes = element-behind _ _ _ _ c.parse_svg_element.ensures.behind _ c.in_ok-opened.was in
+    let nodes = element-behind _ _ _ c.parse_svg_element.ensures.behind _ c.in_ok-opened.was in
     let told = element-done _ _ _ _ _ (c.parse_svg_element.ensures.outcome c.args.text.now) _ c.in_ok-opened.was in record {
-      holding = tref-holds _ _ _ _ _ _ _ within _ opens is _ named _ _ _ _ _ nodes told;
-      space_value = new-space _ _ _ _ _ _ _ within _ opens is _ named _ _ _ _ _ nodes told
+      holding = tref-holds _ _ _ _ _ _ within _ opens is _ named _ _ _ _ _ nodes told;
+      space_value = new-space _ _ _ _ _ _ within _ opens is _ named _ _ _ _ _ nodes told
           c.get_xmlspace-space.result c.get_xmlspace-space.ensures;
       standing = opens.standing;
       lies = within.all;
@@ -95,13 +92,12 @@ add_quoted-requires c =
 
 pub past_element-past-requires : goal.past_element-past-requires
 past_element-past-requires c =
-    let nodes = element-behind _ _ _ _ c.parse_svg_element.ensures.behind _ c.in_ok-opened.was in
+    let nodes = element-behind _ _ _ c.parse_svg_element.ensures.behind _ c.in_ok-opened.was in
     nodes.fit
 
 pub returns-in_err-opened : goal.returns-in_err-opened
 returns-in_err-opened c =
-    let content = content-is (element_of c.args.script.now
-    c.args.characters.now
+    let content = content-is (element_of c.args.drawing.now
     c.args.x)
     (eqb c.args.s.p
     c.args.e) in
@@ -113,13 +109,12 @@ returns-in_err-opened c =
     let named = c.text_tag_of.ensures
     ∙ ap tag_in c.code_of-code.ensures in
     let out = err_from_is_err_and c.from_residual.result c.from_residual.ensures.1 in
-    rw (out.1, out.2) (element-refused _ _ _ _ _ _ _ within _ opens is _ named _
+    rw (out.1, out.2) (element-refused _ _ _ _ _ _ within _ opens is _ named _
     (element-none _ _ _ _ _ (c.parse_svg_element.ensures.outcome _) _ c.in_err-opened.was))
 
 pub returns-in_err-all : goal.returns-in_err-all
 returns-in_err-all c =
-    let content = content-is (element_of c.args.script.now
-    c.args.characters.now
+    let content = content-is (element_of c.args.drawing.now
     c.args.x)
     (eqb c.args.s.p
     c.args.e) in
@@ -128,12 +123,12 @@ returns-in_err-all c =
     let is = sym content ∙ passes c.is_text_content.ensures c.if-not-is_text_content.false-raw in
     let named = c.text_tag_of.ensures
     ∙ ap tag_in c.code_of-code.ensures in
-    let nodes = element-behind _ _ _ _ c.parse_svg_element.ensures.behind _ c.in_ok-opened.was in
+    let nodes = element-behind _ _ _ c.parse_svg_element.ensures.behind _ c.in_ok-opened.was in
     let told = element-done _ _ _ _ _ (c.parse_svg_element.ensures.outcome c.args.text.now) _ c.in_ok-opened.was in
     let tref = sym c.code_of-code.ensures
     ∙ c.if-is_read.false in
     let out = err_from_is_err_and c.from_residual-in_err-all.result c.from_residual-in_err-all.ensures.1 in
-    rw (out.1, out.2) (tref-refused _ _ _ _ _ _ _ within _ opens is _ named _ _ _ _ _ nodes told tref _
+    rw (out.1, out.2) (tref-refused _ _ _ _ _ _ within _ opens is _ named _ _ _ _ _ nodes told tref _
     (append-none _ _ _ _ _ c.add_quoted.ensures _ c.in_err-all.was))
 
 pub shape_of-nodes : goal.shape_of-nodes
@@ -141,8 +136,7 @@ shape_of-nodes c = c.nodes-2-1.given ∙ c.nodes-1.given
 
 pub returns : goal.returns
 returns c =
-    let content = content-is (element_of c.args.script.now
-    c.args.characters.now
+    let content = content-is (element_of c.args.drawing.now
     c.args.x)
     (eqb c.args.s.p
     c.args.e) in
@@ -153,12 +147,12 @@ returns c =
     c.if-not-is_text_content.false-raw in
     let named = c.text_tag_of.ensures
     ∙ ap tag_in c.code_of-code.ensures in
-    let nodes = element-behind _ _ _ _ c.parse_svg_element.ensures.behind _ c.in_ok-opened.was in
+    let nodes = element-behind _ _ _ c.parse_svg_element.ensures.behind _ c.in_ok-opened.was in
     let told = element-done _ _ _ _ _ (c.parse_svg_element.ensures.outcome c.args.text.now) _ c.in_ok-opened.was in
     let tref = sym c.code_of-code.ensures
     ∙ c.if-is_read.false in
     let done = append-done _ _ _ _ _ c.add_quoted.ensures _
     c.in_ok-all.was in
-    let on = goes-tref _ _ _ _ _ _ _ within _ opens is _ named _ _ _ _ _ nodes told tref _ _ _ done _
+    let on = goes-tref _ _ _ _ _ _ within _ opens is _ named _ _ _ _ _ nodes told tref _ _ _ done _
     c.past_element-past.ensures.same c.past_element-past.ensures.fit c.past_element-past.ensures.further in
-    (on.0, on.1, tref-recalled _ _ _ _ _ _ _ within _ opens is _ named _ _ _ _ _ nodes told tref _ _ _ done _ _ recalled)
+    (on.0, on.1, tref-recalled _ _ _ _ _ _ within _ opens is _ named _ _ _ _ _ nodes told tref _ _ _ done _ recalled)

@@ -9,8 +9,8 @@ use Rattle.leads.proofs.filter.any_id.Given as goal
 
 abbrev pub invariant-loop-x : goal.invariant-loop-x
 invariant-loop-x l =
-    Reading (λ s a c. any_reading 4 (id_at l.characters (entries_of l.attributes) l.j) (readings_in s l.characters a c))
-    l.script l.start l.initial.c l.c
+    Reading (λ drawing a c. any_reading 4 (id_at l.drawing.characters.now (entries_of l.attributes) l.j) (readings_in drawing a c))
+    l.drawing l.start l.initial.c l.c
 
 abbrev pub decreases-loop-x : goal.decreases-loop-x
-decreases-loop-x l = length l.script - l.c.at
+decreases-loop-x l = length l.drawing.script.now - l.c.at

@@ -11,4 +11,4 @@ reading_of-requires c =
 
 pub returns-clause-same : goal.returns-clause-same
 returns-clause-same c =
-    iri-value c.args.script.now _ _ _ (ok-is _ _ _ c.ok.ensures.value c.in_ok-v.was) c.reading_of.result c.reading_of.ensures.same
+    iri-value c.args.drawing.now _ _ (ok-is _ _ _ c.ok.ensures.value c.in_ok-v.was) c.reading_of.result c.reading_of.ensures.same

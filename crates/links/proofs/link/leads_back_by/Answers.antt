@@ -18,8 +18,8 @@ leading_id-id-requires c =
 
 pub loop-u-init : goal.loop-u-init
 loop-u-init c =
-    along-none (leading_by (part_of c.args.characters.now c.leading_id-id.result)
-    (part_of c.args.characters.now c.args.link)) _ _ _ _
+    along-none (leading_by (part_of c.args.drawing.now.characters.now c.leading_id-id.result)
+    (part_of c.args.drawing.now.characters.now c.args.link)) _ _ _
     c.requires.standing_2.fit (omega arith)
 
 pub next_use-requires : goal.next_use-requires
@@ -31,7 +31,7 @@ next_use-requires c =
 
 pub use_href-href-requires : goal.use_href-href-requires
 use_href-href-requires c =
-    let use' = use-told _ _ _ _ _ _ c.in-Some.is (c.next_use.ensures.same, c.next_use.ensures.fit) in
+    let use' = use-told _ _ _ _ _ c.in-Some.is (c.next_use.ensures.same, c.next_use.ensures.fit) in
     use'.1.stands
 
 pub same_parts-requires : goal.same_parts-requires
@@ -45,14 +45,14 @@ pub returns-then-same_parts : goal.returns-then-same_parts
 returns-then-same_parts c =
     elim c.then-same_parts.branch [
       | then-same_parts-via-then-same_parts w ↦
-          back-first _ _ _ _ _ _ _ _ c.loop-u.invariant _ _ c.in-Some.is (c.next_use.ensures.same, c.next_use.ensures.fit) _
+          back-first _ _ _ _ _ _ _ c.loop-u.invariant _ _ c.in-Some.is (c.next_use.ensures.same, c.next_use.ensures.fit) _
           c.use_href-href.ensures.same _ c.same_parts.ensures w.if-same_parts.true
       | then-same_parts-via-else-same_parts+then-same_parts-2 w ↦
-          back-second _ _ _ _ _ _ _ _ c.loop-u.invariant _ _ c.in-Some.is (c.next_use.ensures.same, c.next_use.ensures.fit) _
+          back-second _ _ _ _ _ _ _ c.loop-u.invariant _ _ c.in-Some.is (c.next_use.ensures.same, c.next_use.ensures.fit) _
           c.use_href-href.ensures.same _ c.same_parts.ensures _ w.same_parts-else-same_parts.ensures w.if-same_parts.false
           w.if-same_parts-2.true
     ]
-    ∙ led-back c.args.script.now c.args.characters.now c.args.e c.args.l c.args.link c.leading_id-id.result (record {
+    ∙ led-back c.args.drawing.now c.args.e c.args.l c.args.link c.leading_id-id.result (record {
       use-stands = c.requires.standing;
       leads = c.requires.l_value;
       by = c.leading_id-id.ensures.same;
@@ -67,13 +67,13 @@ same_parts-requires-else-same_parts c =
 
 pub loop-u-smaller : goal.loop-u-smaller
 loop-u-smaller c =
-    let use' = use-told _ _ _ _ _ _ c.in-Some.is
+    let use' = use-told _ _ _ _ _ c.in-Some.is
     (c.next_use.ensures.same, c.next_use.ensures.fit) in
     omega (arith, use'.1.behind.further, use'.1.behind.fit.at)
 
 pub loop-u-preserved : goal.loop-u-preserved
 loop-u-preserved c =
-    back-neither _ _ _ _ _ _ _ _ c.loop-u.invariant _
+    back-neither _ _ _ _ _ _ _ c.loop-u.invariant _
     _ c.in-Some.is
     (c.next_use.ensures.same, c.next_use.ensures.fit) _
     c.use_href-href.ensures.same _ c.same_parts.ensures _
@@ -81,8 +81,8 @@ loop-u-preserved c =
 
 pub returns : goal.returns
 returns c =
-    back_end _ _ _ _ _ _ _ _ c.loop-u.invariant _ c.in_default.is (c.next_use.ensures.same, c.next_use.ensures.fit)
-    ∙ led-back c.args.script.now c.args.characters.now c.args.e c.args.l c.args.link c.leading_id-id.result (record {
+    back_end _ _ _ _ _ _ _ c.loop-u.invariant _ c.in_default.is (c.next_use.ensures.same, c.next_use.ensures.fit)
+    ∙ led-back c.args.drawing.now c.args.e c.args.l c.args.link c.leading_id-id.result (record {
       use-stands = c.requires.standing;
       leads = c.requires.l_value;
       by = c.leading_id-id.ensures.same;

@@ -7,10 +7,9 @@ use Rattle.links.proofs.Linking.{led_by, leading_by}
 use Rattle.links.proofs.link.leads_back_by.Given as goal
 
 abbrev pub invariant-loop-u : goal.invariant-loop-u
-invariant-loop-u l = Along (leading_by (part_of l.characters l.id) (part_of l.characters l.link))
-    (led_by (part_of l.characters l.id) (part_of l.characters l.link) (uses_in 0 (events_at l.script l.characters l.initial.c))) l.script
-    l.characters l.initial.c l.c
+invariant-loop-u l = Along (leading_by (part_of l.drawing.characters.now l.id) (part_of l.drawing.characters.now l.link))
+    (led_by (part_of l.drawing.characters.now l.id) (part_of l.drawing.characters.now l.link) (uses_in 0 (events_at l.drawing l.initial.c))) l.drawing l.initial.c l.c
     l.level
 
 abbrev pub decreases-loop-u : goal.decreases-loop-u
-decreases-loop-u l = length l.script - l.c.at
+decreases-loop-u l = length l.drawing.script.now - l.c.at

@@ -4,6 +4,6 @@ use Rattle.links.proofs.link.tref_href.Goals as goal
 pub returns : goal.returns
 returns c =
     record {
-      same = tref-link _ _ c.args.e _ c.href_of.ensures.same;
+      same = tref-link _ c.args.e _ c.href_of.ensures.same;
       fit = c.href_of.ensures.fit;
     }

@@ -4,6 +4,6 @@ use Rattle.links.proofs.link.use_href.Goals as goal
 pub returns : goal.returns
 returns c =
     record {
-      same = use-link _ _ c.args.e _ c.href_of.ensures.same;
+      same = use-link _ c.args.e _ c.href_of.ensures.same;
       fit = c.href_of.ensures.fit;
     }

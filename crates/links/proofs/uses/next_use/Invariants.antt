@@ -6,8 +6,8 @@ use Rattle.walk.proofs.Along.{Along}
 use Rattle.links.proofs.uses.next_use.Given as goal
 
 abbrev pub invariant-loop-e : goal.invariant-loop-e
-invariant-loop-e l = Along uses_in (uses_in l.open_elements (events_at l.script l.characters l.initial.c)) l.script l.characters
+invariant-loop-e l = Along uses_in (uses_in l.open_elements (events_at l.drawing l.initial.c)) l.drawing
     l.initial.c l.c l.level
 
 abbrev pub decreases-loop-e : goal.decreases-loop-e
-decreases-loop-e l = length l.script - l.c.at
+decreases-loop-e l = length l.drawing.script.now - l.c.at

@@ -9,16 +9,16 @@ part_at-requires c =
     omega (
       arith,
       fit-chars _ _
-          (value-fit _ _ _ _ _ c.in-Ok.is c.first_id.ensures.fit).own,
+          (value-fit _ _ _ _ c.in-Ok.is c.first_id.ensures.fit).own,
     )
 
 pub returns-in-Ok : goal.returns-in-Ok
 returns-in-Ok c =
-    λ next y. entered-id _ _ _ _ (c.first_id.ensures.same, c.first_id.ensures.fit) _
+    λ next y. entered-id _ _ _ (c.first_id.ensures.same, c.first_id.ensures.fit) _
     _ _ y _ c.in-Ok.is _
     c.part_at.ensures
     c.requires.m_bound _
     c.enter_id.ensures
 
 pub returns-in-Err : goal.returns-in-Err
-returns-in-Err c = λ next y. entered-none _ _ _ _ (c.first_id.ensures.same, c.first_id.ensures.fit) _ _ _ y _ c.in-Err.is
+returns-in-Err c = λ next y. entered-none _ _ _ (c.first_id.ensures.same, c.first_id.ensures.fit) _ _ _ y _ c.in-Err.is

@@ -7,8 +7,8 @@ use Rattle.memo.specs.Table.{Filling}
 use Rattle.memo.proofs.fill.pass_all.Given as goal
 
 abbrev pub invariant-loop-e : goal.invariant-loop-e
-invariant-loop-e l = Fit l.script l.c × (Filling l.script l.characters l.slots l.next l.left (events_at l.script l.characters l.c) ×
+invariant-loop-e l = Fit l.drawing l.c × (Filling l.drawing l.slots l.next l.left (events_at l.drawing l.c) ×
     (length l.slots ≡ length l.initial.slots))
 
 abbrev pub decreases-loop-e : goal.decreases-loop-e
-decreases-loop-e l = length l.script - l.c.at
+decreases-loop-e l = length l.drawing.script.now - l.c.at

@@ -8,9 +8,9 @@ pub returns-then-spacing-eq0 : goal.returns-then-spacing-eq0
 returns-then-spacing-eq0 c =
     record {
       long = refl;
-      nodes = nodes-inside _ _ c.args.e
+      nodes = nodes-inside _ c.args.e
           c.requires.standing;
-      filling = passed-closed _ _ _ _ _ _ _ c.requires.filling
+      filling = passed-closed _ _ _ _ _ _ c.requires.filling
           (sym c.spacing.ensures ∙ c.if-spacing-eq0.true);
     }
 
@@ -21,22 +21,22 @@ pub returns-then-left-gt0 : goal.returns-then-left-gt0
 returns-then-left-gt0 c =
     record {
       long = (c.enter-place.ensures _
-          (ready-near _ _ _ _ _
+          (ready-near _ _ _ _
           c.args.e
           c.requires.filling
           c.if-left-gt0.true
           c.requires.standing)).kept.long;
       nodes = (c.enter-place.ensures _
-          (ready-near _ _ _ _ _
+          (ready-near _ _ _ _
           c.args.e
           c.requires.filling
           c.if-left-gt0.true
           c.requires.standing)).nodes;
-      filling = passed-near _ _ _ _ _
+      filling = passed-near _ _ _ _
           c.args.e
           c.requires.filling
           c.if-left-gt0.true _ _
-          (c.enter-place.ensures _ (ready-near _ _ _ _ _
+          (c.enter-place.ensures _ (ready-near _ _ _ _
           c.args.e
           c.requires.filling
           c.if-left-gt0.true
@@ -47,9 +47,9 @@ pub returns-then-not-has_room : goal.returns-then-not-has_room
 returns-then-not-has_room c =
     record {
       long = set_long c.args.slots.now _ c.set_spacing.ensures;
-      nodes = nodes-inside _ _ c.args.e
+      nodes = nodes-inside _ c.args.e
           c.requires.standing;
-      filling = filling-closed _ _ _ _ _ _ c.requires.filling _ c.set_spacing.ensures _;
+      filling = filling-closed _ _ _ _ _ c.requires.filling _ c.set_spacing.ensures _;
     }
 
 pub put_mark-requires : goal.put_mark-requires
@@ -76,22 +76,22 @@ pub returns : goal.returns
 returns c =
     record {
       long = (c.enter-place-2.ensures _
-          (ready-new _ _ _ _ c.args.e
-          (at_left _ _ _ _ _ _ c.requires.filling
+          (ready-new _ _ _ c.args.e
+          (at_left _ _ _ _ _ c.requires.filling
           c.if-left-gt0.false) c.requires.standing
           (c.has_room.ensures
           (c.if-not-has_room.false)) _
           c.put_mark.ensures)).kept.long
           ∙ c.put_mark.ensures.apart.long;
       nodes = (c.enter-place-2.ensures _
-          (ready-new _ _ _ _ c.args.e
-          (at_left _ _ _ _ _ _ c.requires.filling
+          (ready-new _ _ _ c.args.e
+          (at_left _ _ _ _ _ c.requires.filling
           c.if-left-gt0.false) c.requires.standing
           (c.has_room.ensures
           (c.if-not-has_room.false)) _
           c.put_mark.ensures)).nodes;
-      filling = passed-new _ _ _ _ c.args.e
-          (at_left _ _ _ _ _ _ c.requires.filling
+      filling = passed-new _ _ _ c.args.e
+          (at_left _ _ _ _ _ c.requires.filling
           c.if-left-gt0.false) c.requires.standing
           (c.has_room.ensures
           (c.if-not-has_room.false)) _
@@ -103,8 +103,8 @@ returns c =
             spaced-still _ _ _ _ c.put_mark.ensures
                 (λ e. c.if-spacing-eq0.false (c.spacing.ensures ∙ e)),
           )) _ _
-          (c.enter-place-2.ensures _ (ready-new _ _ _ _ c.args.e
-          (at_left _ _ _ _ _ _ c.requires.filling
+          (c.enter-place-2.ensures _ (ready-new _ _ _ c.args.e
+          (at_left _ _ _ _ _ c.requires.filling
           c.if-left-gt0.false) c.requires.standing
           (c.has_room.ensures
           (c.if-not-has_room.false)) _

@@ -1,18 +1,13 @@
-use Prim.Native.Nat.{◌-◌}
-use mathlib.Core.Path.{◌≡◌, ap, ◌∙◌}
-use native.Mathlib.Omega.{arith}
-use lib.ListN.{length}
-use Rattle.memo.specs.Table.{any_opens}
-use Rattle.memo.proofs.Linking.{opens-none, opens-more}
+use Rattle.std.proofs.Common.{◌||◌, ap, ◌∙◌, rules, tests}
+use Rattle.std.specs.Slice.Iter.{windows_rest, windows_size}
+use Rattle.std.specs.Slice.ArrayWindows.{array_windows_parts}
+use Rattle.memo.proofs.Linking.{seen, windows-open}
 use Rattle.memo.proofs.link.may_link.Goals as goal
-
-pub loop-i-init : goal.loop-i-init
-loop-i-init c = (opens-none c.args.script.now, omega arith)
-
-pub loop-i-preserved : goal.loop-i-preserved
-loop-i-preserved c = (opens-more _ _ (omega arith) _ _ c.loop-i.invariant.0 c.opens_link-found.ensures, omega arith)
 
 pub returns : goal.returns
 returns c =
-    let e : c.loop-i.i - 1 ≡ length c.args.script.now - 1 = omega arith in
-    c.loop-i.invariant.0 ∙ ap (any_opens c.args.script.now) e
+    let made = c.array_windows.ensures in
+    let run = c.fold.ensures.runs in
+    run.3 (λ found x. found || seen x) (λ x y r f' k. search (rules, tests))
+    ∙ windows-open run.0 c.args.script.now run.2 _ _ (ap (λ f. windows_size (array_windows_parts f)) run.1 ∙ made.size)
+    (ap (λ f. windows_rest (array_windows_parts f)) run.1 ∙ made.rest) (made.runs run.0 run.0.seen)

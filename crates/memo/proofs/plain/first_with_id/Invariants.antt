@@ -6,7 +6,7 @@ use Rattle.memo.proofs.Ids.{first_id}
 use Rattle.memo.proofs.plain.first_with_id.Given as goal
 
 abbrev pub invariant-loop-e : goal.invariant-loop-e
-invariant-loop-e l = Along (first_id l.id) (first_with_id l.id (events l.script l.characters)) l.script l.characters l.initial.c l.c 0
+invariant-loop-e l = Along (first_id l.id) (first_with_id l.id (events l.drawing.script.now l.drawing.characters.now)) l.drawing l.initial.c l.c 0
 
 abbrev pub decreases-loop-e : goal.decreases-loop-e
-decreases-loop-e l = length l.script - l.c.at
+decreases-loop-e l = length l.drawing.script.now - l.c.at

@@ -6,6 +6,6 @@ use Rattle.memo.proofs.table.look_for.Given as goal
 
 abbrev pub invariant-loop : goal.invariant-loop
 invariant-loop l =
-    (probing (sees l.script l.characters l.slots l.id) (next_slot (unit l.slots) l.step) l.i (probes - l.counter)
-    ≡ probed l.script l.characters l.slots l.id)
+    (probing (sees l.drawing l.slots l.id) (next_slot (unit l.slots) l.step) l.i (probes - l.counter)
+    ≡ probed l.drawing l.slots l.id)
     × (l.i < slot_count l.slots)

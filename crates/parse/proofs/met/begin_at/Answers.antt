@@ -5,34 +5,28 @@ use Rattle.parse.specs.declared.Begun.{Begun}
 use Rattle.parse.proofs.Meeting.{met-refused, met-passed, met-children, use-fit, met-use}
 use Rattle.parse.proofs.met.begin_at.Goals as goal
 
-pub begin_node-requires : goal.begin_node-requires
-begin_node-requires c = record { beginning = c.requires.beginning; memo = c.requires.memo }
-
 pub returns-in_err-begun : goal.returns-in_err-begun
 returns-in_err-begun c =
     let out = err_from_is_err_and c.from_residual.result c.from_residual.ensures.1 in
-    rw (out.1, out.2) (met-refused _ _ _ _ _ _ _ _ c.args.state.now _ c.is_copied-ignored.ensures _ _ _ _ c.begin_node.ensures _
+    rw (out.1, out.2) (met-refused _ _ _ _ _ _ _ c.args.state.now _ c.is_copied-ignored.ensures _ _ _ _ c.begin_node.ensures _
     c.in_err-begun.was c.args.state.now)
 
-pub begin_copy-requires : goal.begin_copy-requires
-begin_copy-requires c = record {
-  standing = c.requires.standing;
-  fit = use-fit _ _ _ _ _ _ _ _ c.args.state.now _ c.is_copied-ignored.ensures _ _ _ _ c.begin_node.ensures _ _
-      (c.in_ok-begun.was ∙ ap (λ (b : Begun). Ok b) c.in-Use.is);
-  memo = c.requires.memo;
-}
+pub begin_copy-requires-clause-fit : goal.begin_copy-requires-clause-fit
+begin_copy-requires-clause-fit c =
+    use-fit _ _ _ _ _ _ _ c.args.state.now _ c.is_copied-ignored.ensures _ _ _ _ c.begin_node.ensures _ _
+    (c.in_ok-begun.was ∙ ap (λ (b : Begun). Ok b) c.in-Use.is)
 
 pub returns-in-Passed : goal.returns-in-Passed
 returns-in-Passed c =
-    met-passed _ _ _ _ _ _ _ _ c.args.state.now _ c.is_copied-ignored.ensures _ _ _ _ c.begin_node.ensures _ _
+    met-passed _ _ _ _ _ _ _ c.args.state.now _ c.is_copied-ignored.ensures _ _ _ _ c.begin_node.ensures _ _
     (c.in_ok-begun.was ∙ ap (λ (b : Begun). Ok b) c.in-Passed.is)
 
 pub returns-in-Children : goal.returns-in-Children
 returns-in-Children c =
-    met-children _ _ _ _ _ _ _ _ c.args.state.now _ c.is_copied-ignored.ensures _ _ _ _ c.begin_node.ensures _ _
+    met-children _ _ _ _ _ _ _ c.args.state.now _ c.is_copied-ignored.ensures _ _ _ _ c.begin_node.ensures _ _
     (c.in_ok-begun.was ∙ ap (λ (b : Begun). Ok b) c.in-Children.is)
 
 pub returns-in-Use : goal.returns-in-Use
 returns-in-Use c =
-    met-use _ _ _ _ _ _ _ _ c.args.state.now _ c.is_copied-ignored.ensures _ _ _ _ c.begin_node.ensures _ _
+    met-use _ _ _ _ _ _ _ c.args.state.now _ c.is_copied-ignored.ensures _ _ _ _ c.begin_node.ensures _ _
     (c.in_ok-begun.was ∙ ap (λ (b : Begun). Ok b) c.in-Use.is) _ _ c.begin_copy.ensures

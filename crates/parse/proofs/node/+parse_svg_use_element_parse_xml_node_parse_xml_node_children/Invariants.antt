@@ -16,11 +16,11 @@ decreases-parse_xml_node_children l = 3 * l.left + 2
 abbrev pub invariant-parse_xml_node_children-loop-met : goal.invariant-parse_xml_node_children-loop-met
 invariant-parse_xml_node_children-loop-met l =
     let first = l.initial.state in
-    Goes l.script l.characters l.left first.origin l.parent first.cursor first.counts.nodes
-    (level_built l.script l.characters l.left first.origin l.parent first.cursor
+    Goes l.drawing l.left first.origin l.parent first.cursor first.counts.nodes
+    (level_built l.drawing l.left first.origin l.parent first.cursor
     (tree_of l.initial.nodes l.initial.attributes l.initial.text first.counts))
     l.state (tree_of l.nodes l.attributes l.text l.state.counts) × (length l.nodes ≡ length l.initial.nodes)
     × (length l.attributes ≡ length l.initial.attributes) × (length l.text ≡ length l.initial.text)
 
 abbrev pub decreases-parse_xml_node_children-loop-met : goal.decreases-parse_xml_node_children-loop-met
-decreases-parse_xml_node_children-loop-met l = length l.script - l.state.cursor.at
+decreases-parse_xml_node_children-loop-met l = length l.drawing.script.now - l.state.cursor.at

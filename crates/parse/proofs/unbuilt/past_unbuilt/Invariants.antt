@@ -6,8 +6,8 @@ use Rattle.parse.specs.Unbuilt.{past_unbuilt}
 use Rattle.parse.proofs.unbuilt.past_unbuilt.Given as goal
 
 abbrev pub invariant-loop-e : goal.invariant-loop-e
-invariant-loop-e l = Along past_unbuilt (past_unbuilt 0 (events_at l.script l.characters l.initial.c)) l.script l.characters l.initial.c
+invariant-loop-e l = Along past_unbuilt (past_unbuilt 0 (events_at l.drawing l.initial.c)) l.drawing l.initial.c
     l.c l.level
 
 abbrev pub decreases-loop-e : goal.decreases-loop-e
-decreases-loop-e l = length l.script - l.c.at
+decreases-loop-e l = length l.drawing.script.now - l.c.at

@@ -9,12 +9,11 @@ pub returns-then-is_empty : goal.returns-then-is_empty
 returns-then-is_empty c =
     quote-none c.args.nodes.now
     c.args.text.now
-    c.args.characters.now
+    c.args.drawing.now.characters.now
     c.args.counts
     (space_in c.args.space)
     c.args.p
-    (texts_from c.args.script.now
-    c.args.characters.now
+    (texts_from c.args.drawing.now
     c.args.from) _ c.quoted_size-total.ensures c.if-is_empty.true
 
 pub overflow_sub-left : goal.overflow_sub-left
@@ -30,12 +29,11 @@ pub returns-then-left-total : goal.returns-then-left-total
 returns-then-left-total c =
     quote-bytes c.args.nodes.now
     c.args.text.now
-    c.args.characters.now
+    c.args.drawing.now.characters.now
     c.args.counts
     (space_in c.args.space)
     c.args.p
-    (texts_from c.args.script.now
-    c.args.characters.now
+    (texts_from c.args.drawing.now
     c.args.from) _
     c.quoted_size-total.ensures
     c.requires.appendable
@@ -43,10 +41,10 @@ returns-then-left-total c =
 
 pub returns-then-node_room-counts : goal.returns-then-node_room-counts
 returns-then-node_room-counts c =
-    quote-record c.args.nodes.now c.args.text.now c.args.characters.now
+    quote-record c.args.nodes.now c.args.text.now c.args.drawing.now.characters.now
     c.args.counts (space_in c.args.space)
     c.args.p
-    (texts_from c.args.script.now c.args.characters.now c.args.from) _
+    (texts_from c.args.drawing.now c.args.from) _
     c.quoted_size-total.ensures
     c.requires.appendable
     c.if-is_empty.false _
@@ -59,9 +57,8 @@ put_place-end-requires c =
       quotable = c.requires.quotable;
       size_value = c.quoted_size-total.ensures;
       size_bound = quote-fits c.args.nodes.now c.args.text.now
-          c.args.characters.now c.args.counts (space_in c.args.space)
-          c.args.p (texts_from c.args.script.now
-          c.args.characters.now c.args.from) _
+          c.args.drawing.now.characters.now c.args.counts (space_in c.args.space)
+          c.args.p (texts_from c.args.drawing.now c.args.from) _
           c.quoted_size-total.ensures
           c.requires.appendable c.if-is_empty.false _
           c.text_room.ensures
@@ -72,12 +69,11 @@ pub append-requires : goal.append-requires
 append-requires c =
     record-fits c.args.nodes.now
     c.args.text.now
-    c.args.characters.now
+    c.args.drawing.now.characters.now
     c.args.counts
     (space_in c.args.space)
     c.args.p
-    (texts_from c.args.script.now
-    c.args.characters.now
+    (texts_from c.args.drawing.now
     c.args.from) _
     c.quoted_size-total.ensures c.requires.appendable
     c.if-is_empty.false _
@@ -90,12 +86,11 @@ pub returns : goal.returns
 returns c =
     quote-added c.args.nodes.now
     c.args.text.now
-    c.args.characters.now
+    c.args.drawing.now.characters.now
     c.args.counts
     (space_in c.args.space)
     c.args.p
-    (texts_from c.args.script.now
-    c.args.characters.now
+    (texts_from c.args.drawing.now
     c.args.from) _
     c.quoted_size-total.ensures
     c.requires.appendable

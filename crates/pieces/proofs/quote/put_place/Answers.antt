@@ -12,9 +12,8 @@ overflow_cast-n c =
       arith,
       c.put_quoted-bytes.ensures.size,
       quoted-most (space_in c.args.space)
-          c.args.characters.now
-          (texts_from c.args.script.now
-          c.args.characters.now
+          c.args.drawing.now.characters.now
+          (texts_from c.args.drawing.now
           c.args.from),
       c.requires.size_value,
       c.requires.size_bound.0,
@@ -26,9 +25,8 @@ overflow_add-result c =
       arith,
       c.put_quoted-bytes.ensures.size,
       quoted-most (space_in c.args.space)
-          c.args.characters.now
-          (texts_from c.args.script.now
-          c.args.characters.now
+          c.args.drawing.now.characters.now
+          (texts_from c.args.drawing.now
           c.args.from),
       c.requires.size_value,
       c.requires.size_bound.0,
@@ -40,9 +38,8 @@ returns c =
       end = ap (λ k. c.args.first + k)
           c.put_quoted-bytes.ensures.size;
       text = place-back (space_in c.args.space)
-          c.args.characters.now
-          (texts_from c.args.script.now
-          c.args.characters.now
+          c.args.drawing.now.characters.now
+          (texts_from c.args.drawing.now
           c.args.from)
           c.args.first
           c.args.size

@@ -10,7 +10,7 @@ use Rattle.places.proofs.Search.{sought-none, style-low}
 use Rattle.places.proofs.seek.find_text.Goals as goal
 
 pub loop-e-init : goal.loop-e-init
-loop-e-init c = along-start _ _ _ _ c.requires c.start-c.ensures
+loop-e-init c = along-start _ _ _ c.requires c.start-c.ensures
 
 pub next_item-requires : goal.next_item-requires
 next_item-requires c = c.loop-e.invariant.fit
@@ -26,15 +26,15 @@ style_level-level-requires c =
 
 pub loop-e-smaller-in-Begin : goal.loop-e-smaller-in-Begin
 loop-e-smaller-in-Begin c =
-    let opened = item-told _ _ _ _ _ c.in-Begin.is
+    let opened = item-told _ _ _ _ c.in-Begin.is
     (c.next_item.ensures.same, c.next_item.ensures.fit) in
     omega (arith, opened.1.1.further, opened.1.1.fit.at)
 
 pub loop-e-preserved-in-Begin : goal.loop-e-preserved-in-Begin
 loop-e-preserved-in-Begin c =
-    let opened = item-told _ _ _ _ _ c.in-Begin.is
+    let opened = item-told _ _ _ _ c.in-Begin.is
     (c.next_item.ensures.same, c.next_item.ensures.fit) in
-    over _ _ _ _ _ _ _ c.loop-e.invariant _ _ c.in-Begin.is
+    over _ _ _ _ _ _ c.loop-e.invariant _ _ c.in-Begin.is
     (c.next_item.ensures.same, c.next_item.ensures.fit) _ _ opened.1.1
     (omega (
       arith,
@@ -45,15 +45,15 @@ loop-e-preserved-in-Begin c =
 
 pub overflow_add-own : goal.overflow_add-own
 overflow_add-own c =
-    let source = item-told _ _ _ _ _ c.in-Text.is (c.next_item.ensures.same, c.next_item.ensures.fit) in
+    let source = item-told _ _ _ _ c.in-Text.is (c.next_item.ensures.same, c.next_item.ensures.fit) in
     omega (arith, source.1.0.texts, source.1.0.at, source.1.0.size)
 
 pub returns-then-own-number : goal.returns-then-own-number
 returns-then-own-number c =
-    let source = item-told _ _ _ _ _ c.in-Text.is
+    let source = item-told _ _ _ _ c.in-Text.is
     (c.next_item.ensures.same, c.next_item.ensures.fit) in
     let hit = sym (sought-hit _ _ 0 _ _ c.if-own-number.true (subst (Rising 0) (sym source.0) (rising _ 0 _ _ (omega arith))))
-    ∙ at_item _ _ _ _ _ _ _ c.loop-e.invariant _ _
+    ∙ at_item _ _ _ _ _ _ c.loop-e.invariant _ _
     c.in-Text.is (c.next_item.ensures.same, c.next_item.ensures.fit) in record {
       text = ap (λ (p : Option Source × Bool). p.0) hit;
       style = ap (λ (p : Option Source × Bool). p.1) hit;
@@ -62,44 +62,44 @@ returns-then-own-number c =
 
 pub loop-e-smaller-in-Text : goal.loop-e-smaller-in-Text
 loop-e-smaller-in-Text c =
-    let source = item-told _ _ _ _ _ c.in-Text.is
+    let source = item-told _ _ _ _ c.in-Text.is
     (c.next_item.ensures.same, c.next_item.ensures.fit) in
     omega (arith, source.1.1.further, source.1.1.fit.at)
 
 pub loop-e-preserved-in-Text : goal.loop-e-preserved-in-Text
 loop-e-preserved-in-Text c =
-    let source = item-told _ _ _ _ _ c.in-Text.is
+    let source = item-told _ _ _ _ c.in-Text.is
     (c.next_item.ensures.same, c.next_item.ensures.fit) in
-    over _ _ _ _ _ _ _ c.loop-e.invariant _ _
+    over _ _ _ _ _ _ c.loop-e.invariant _ _
     c.in-Text.is (c.next_item.ensures.same, c.next_item.ensures.fit) _ _ source.1.1
     (omega arith) (sought-miss _ _ _ _ c.if-own-number.false)
 
 pub loop-e-smaller-in-Other : goal.loop-e-smaller-in-Other
 loop-e-smaller-in-Other c =
-    let other = item-told _ _ _ _ _ c.in-Other.is (c.next_item.ensures.same, c.next_item.ensures.fit) in
+    let other = item-told _ _ _ _ c.in-Other.is (c.next_item.ensures.same, c.next_item.ensures.fit) in
     omega (arith, other.1.further, other.1.fit.at)
 
 pub loop-e-preserved-in-Other : goal.loop-e-preserved-in-Other
 loop-e-preserved-in-Other c =
-    let other = item-told _ _ _ _ _ c.in-Other.is (c.next_item.ensures.same, c.next_item.ensures.fit) in
-    over _ _ _ _ _ _ _ c.loop-e.invariant _ _ c.in-Other.is
+    let other = item-told _ _ _ _ c.in-Other.is (c.next_item.ensures.same, c.next_item.ensures.fit) in
+    over _ _ _ _ _ _ c.loop-e.invariant _ _ c.in-Other.is
     (c.next_item.ensures.same, c.next_item.ensures.fit) _ _ other.1 (omega arith) (sought-other _ _ _)
 
 pub loop-e-smaller : goal.loop-e-smaller
 loop-e-smaller c =
-    let closed = item-told _ _ _ _ _ c.in-Close.is (c.next_item.ensures.same, c.next_item.ensures.fit) in
+    let closed = item-told _ _ _ _ c.in-Close.is (c.next_item.ensures.same, c.next_item.ensures.fit) in
     omega (arith, closed.1.further, closed.1.fit.at)
 
 pub loop-e-preserved : goal.loop-e-preserved
 loop-e-preserved c =
-    let closed = item-told _ _ _ _ _ c.in-Close.is (c.next_item.ensures.same, c.next_item.ensures.fit) in
-    over _ _ _ _ _ _ _ c.loop-e.invariant _ _ c.in-Close.is
+    let closed = item-told _ _ _ _ c.in-Close.is (c.next_item.ensures.same, c.next_item.ensures.fit) in
+    over _ _ _ _ _ _ c.loop-e.invariant _ _ c.in-Close.is
     (c.next_item.ensures.same, c.next_item.ensures.fit) _ _ closed.1 (omega (arith, c.saturating_sub-level.ensures))
     (sought-close _ _ _ _ c.saturating_sub-level.ensures)
 
 pub returns-in-End : goal.returns-in-End
 returns-in-End c =
-    let end = sym (sought-none _ _) ∙ at_item _ _ _ _ _ _ _ c.loop-e.invariant _ _ c.in-End.is
+    let end = sym (sought-none _ _) ∙ at_item _ _ _ _ _ _ c.loop-e.invariant _ _ c.in-End.is
     (c.next_item.ensures.same, c.next_item.ensures.fit) in record {
       text = ap (λ (p : Option Source × Bool). p.0) end;
       style = ap (λ (p : Option Source × Bool). p.1) end;

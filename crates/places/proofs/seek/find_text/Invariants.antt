@@ -6,8 +6,8 @@ use Rattle.places.proofs.Search.{sought}
 use Rattle.places.proofs.seek.find_text.Given as goal
 
 abbrev pub invariant-loop-e : goal.invariant-loop-e
-invariant-loop-e l = Along (sought l.number) (sought l.number 0 (events l.script l.characters)) l.script l.characters l.initial.c l.c
+invariant-loop-e l = Along (sought l.number) (sought l.number 0 (events l.drawing.script.now l.drawing.characters.now)) l.drawing l.initial.c l.c
     l.level
 
 abbrev pub decreases-loop-e : goal.decreases-loop-e
-decreases-loop-e l = length l.script - l.c.at
+decreases-loop-e l = length l.drawing.script.now - l.c.at

@@ -4,7 +4,7 @@ use native.Mathlib.Omega.{arith}
 use lib.Dec.{eqb}
 use Rattle.model.specs.Tables.{kind_of, parent_of}
 use Rattle.tree.specs.Lent.{plus_one, nodes_read}
-use Rattle.tree.proofs.Climbs.{climb, climb-turn, climb-end}
+use Rattle.tree.proofs.Climbs.{climb, climb-turn}
 use Rattle.questions.proofs.Above.{element-start}
 use Rattle.questions.proofs.find.parent_element.Goals as goal
 
@@ -33,8 +33,3 @@ loop-above-preserved c =
       omega (arith, w, c.node_link-above-in-Some.ensures, falls c.in-Some.k (omega arith)),
       ap (λ (n : ℕ). climb (λ k. eqb (kind_of read k) 2) (parent_of read) n n) c.node_link-above-in-Some.ensures ∙ u,
     )
-
-pub returns-clause-found : goal.returns-clause-found
-returns-clause-found c =
-    let w = ap plus_one c.in_default.is in
-    let h = c.loop-above.invariant.1 in climb-end _ _ ∙ (rw w at h)

@@ -1,18 +1,11 @@
 use mathlib.Core.Path.{sym, ◌∙◌}
-use Rattle.std.proofs.lemmas.Result.{err_from_is_err_and}
 use Rattle.model.specs.Questions.{attribute_question}
 use Rattle.tree.specs.Lent.{tree_of}
 use Rattle.tree.proofs.Facts.{readable-in}
 use Rattle.tree.proofs.Alike.{attribute-same}
-use Rattle.questions.proofs.Asked.{unless-err, unless-ok}
+use Rattle.questions.proofs.Asked.{unless-ok}
 use Rattle.questions.proofs.Facts.{no-fault}
 use Rattle.questions.proofs.question.attribute.Goals as goal
-
-pub returns-in_err-question_fault : goal.returns-in_err-question_fault
-unfolding attribute_question
-returns-in_err-question_fault c =
-    let p = err_from_is_err_and c.from_residual.result c.from_residual.ensures.1 in
-    rw (p.1, p.2) (unless-err _ _ c.in_err-question_fault.ensures)
 
 pub attribute_of-requires : goal.attribute_of-requires
 attribute_of-requires c =

@@ -9,10 +9,6 @@ use Rattle.tree.proofs.Alike.{last-same}
 use Rattle.questions.proofs.Asked.{unless-ok}
 use Rattle.questions.proofs.question.element_by_id.Goals as goal
 
-pub returns-then-not-is_sound : goal.returns-then-not-is_sound
-unfolding element_by_id_question first_of
-returns-then-not-is_sound c = rw (sym c.if-not-is_sound.ensures)
-
 pub last_with_id-requires : goal.last_with_id-requires
 last_with_id-requires c = λ k l. readable-in _ _ (sound-kept _ _ (sym c.if-not-is_sound.ensures)) k l
 

@@ -1,21 +1,14 @@
 use mathlib.Core.Path.{refl, sym, ◌∙◌, ap}
 use native.Mathlib.Omega.{arith}
-use Rattle.std.proofs.lemmas.Result.{err_from_is_err_and}
 use Rattle.model.specs.Questions.{find_attribute_question}
 use Rattle.tree.specs.Lent.{plus_one, tree_of}
 use Rattle.tree.proofs.Facts.{readable-in, climbable}
 use Rattle.tree.proofs.Entries.{taken, one-less}
 use Rattle.tree.proofs.Alike.{attribute-same}
 use Rattle.questions.proofs.Above.{impl-same}
-use Rattle.questions.proofs.Asked.{unless-err, unless-ok}
+use Rattle.questions.proofs.Asked.{unless-ok}
 use Rattle.questions.proofs.Facts.{no-fault}
 use Rattle.questions.proofs.question.find_attribute.Goals as goal
-
-pub returns-in_err-question_fault : goal.returns-in_err-question_fault
-unfolding find_attribute_question
-returns-in_err-question_fault c =
-    let p = err_from_is_err_and c.from_residual.result c.from_residual.ensures.1 in
-    rw (p.1, p.2) (unless-err _ _ c.in_err-question_fault.ensures)
 
 pub find_attribute_impl-requires : goal.find_attribute_impl-requires
 find_attribute_impl-requires c =

@@ -13,7 +13,7 @@ link_of-found-requires-clause-readable_in c = readable-in _ _ c.requires.mendabl
 
 pub returns-in_default-clause-same : goal.returns-in_default-clause-same
 returns-in_default-clause-same c =
-    image-nowhere _ _ _ _ c.args.counts _ (href-none _ _ _ _ c.args.counts _ _ c.link_of-found.ensures.same c.in_default.is)
+    image-nowhere c.args.drawing.now _ _ c.args.counts _ (href-none c.args.drawing.now _ _ c.args.counts _ _ c.link_of-found.ensures.same c.in_default.is)
 
 pub find_id-requires-clause-by_index : goal.find_id-requires-clause-by_index
 find_id-requires-clause-by_index c = λ k l. readable-in _ _ c.requires.mendable.tidy.kept k l
@@ -21,8 +21,8 @@ find_id-requires-clause-by_index c = λ k l. readable-in _ _ c.requires.mendable
 pub returns-in_default-find_id-clause-same : goal.returns-in_default-find_id-clause-same
 unfolding part_at
 returns-in_default-find_id-clause-same c =
-    image-nowhere _ _ _ _ c.args.counts _ (sym (ap plus_one c.in_default-find_id.is)
-    ∙ href-found _ _ _ _ c.args.counts _ _ c.link_of-found.ensures.same _ c.in-Some.is _ c.part_at-target.ensures _ c.find_id.ensures.found)
+    image-nowhere c.args.drawing.now _ _ c.args.counts _ (sym (ap plus_one c.in_default-find_id.is)
+    ∙ href-found c.args.drawing.now _ _ c.args.counts _ _ c.link_of-found.ensures.same _ c.in-Some.is _ c.part_at-target.ensures _ c.find_id.ensures.found)
 
 pub has_filter-filtered-requires-clause-readable_in : goal.has_filter-filtered-requires-clause-readable_in
 has_filter-filtered-requires-clause-readable_in c = readable-in _ _ c.requires.mendable.tidy.kept _ c.in-Some-find_id.ensures.within
@@ -34,15 +34,15 @@ has_filter-filtered-requires-clause-stands c =
 pub returns-then-filtered-clause-same : goal.returns-then-filtered-clause-same
 unfolding part_at
 returns-then-filtered-clause-same c =
-    let to = href-found _ _ _ _ c.args.counts _ _ c.link_of-found.ensures.same _ c.in-Some.is _ c.part_at-target.ensures _
+    let to = href-found c.args.drawing.now _ _ c.args.counts _ _ c.link_of-found.ensures.same _ c.in-Some.is _ c.part_at-target.ensures _
     c.find_id.ensures.found in
-    image-back _ _ _ _ c.args.counts _ _ (sym (ap plus_one c.in-Some-find_id.is) ∙ to) _ c.node_word-parent.ensures _
+    image-back c.args.drawing.now _ _ c.args.counts _ _ (sym (ap plus_one c.in-Some-find_id.is) ∙ to) _ c.node_word-parent.ensures _
     c.attribute_id-id.ensures.found _ c.has_filter-filtered.ensures.same c.if-filtered.true
 
 pub returns-clause-same : goal.returns-clause-same
 unfolding part_at
 returns-clause-same c =
-    let to = href-found _ _ _ _ c.args.counts _ _ c.link_of-found.ensures.same _ c.in-Some.is _ c.part_at-target.ensures _
+    let to = href-found c.args.drawing.now _ _ c.args.counts _ _ c.link_of-found.ensures.same _ c.in-Some.is _ c.part_at-target.ensures _
     c.find_id.ensures.found in
-    image-not _ _ _ _ c.args.counts _ _ (sym (ap plus_one c.in-Some-find_id.is) ∙ to) _ c.node_word-parent.ensures _
+    image-not c.args.drawing.now _ _ c.args.counts _ _ (sym (ap plus_one c.in-Some-find_id.is) ∙ to) _ c.node_word-parent.ensures _
     c.attribute_id-id.ensures.found _ c.has_filter-filtered.ensures.same c.if-filtered.false

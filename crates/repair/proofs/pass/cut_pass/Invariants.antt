@@ -1,5 +1,5 @@
+use mathlib.Core.Bool.{true}
 use mathlib.Core.Path.{◌≡◌}
-use lib.ListN.{get_or}
 use Rattle.script.specs.Step.{at_start}
 use Rattle.leads.specs.Links.{values_of}
 use Rattle.targets.specs.Pass.{pass_number}
@@ -10,8 +10,7 @@ use Rattle.repair.proofs.Passing.{Pass}
 use Rattle.repair.proofs.pass.cut_pass.Given as goal
 
 abbrev pub invariant-loop-i : goal.invariant-loop-i
-invariant-loop-i l = Pass l.script l.characters l.marks l.heads l.nodes l.counts (link_cuts l.characters (values_of l.script
-    l.characters) (pass_number l.pass) l.code) l.initial.attributes l.attributes l.i
-    at_start × ((get_or l.heads 2048 0 ≡ 0 → ⊥) → Sought l.characters (values_of l.script l.characters) (seen_of l.nodes l.attributes
+invariant-loop-i l = Pass l.drawing l.marks l.heads l.nodes l.counts (link_cuts l.drawing.characters.now (values_of l.drawing) (pass_number l.pass) l.code) l.initial.attributes l.attributes l.i
+    at_start × ((l.heads.is_whole ≡ true) → Sought l.drawing.characters.now (values_of l.drawing) (seen_of l.nodes l.attributes
     l.counts) (pass_number l.pass))
-    × Known l.characters (values_of l.script l.characters) (pass_number l.pass) (seen_of l.nodes l.attributes l.counts) l.known l.quiet
+    × Known l.drawing.characters.now (values_of l.drawing) (pass_number l.pass) (seen_of l.nodes l.attributes l.counts) l.known l.quiet

@@ -5,20 +5,20 @@ use Rattle.repair.proofs.whole.mend.Goals as goal
 
 pub loop-pass-init : goal.loop-pass-init
 loop-pass-init c = (
-  before-first _ _ _ _ _ _ _ c.requires.characters_value c.requires.marked c.requires.tidy c.requires.indexed,
+  before-first _ _ _ _ _ _ c.requires.characters_value c.requires.marked c.requires.tidy c.requires.indexed,
   c.requires.resolved,
 )
 
 pub loop-pass-preserved : goal.loop-pass-preserved
 loop-pass-preserved c =
     let inv = c.loop-pass.invariant in (
-      before-turn _ _ _ _ _ _ _ _ _ (omega (arith, c.loop-pass-test.true)) inv.0 _ (pass-at _ _ c.loop-pass-test.true) _
+      before-turn _ _ _ _ _ _ _ _ (omega (arith, c.loop-pass-test.true)) inv.0 _ (pass-at _ _ c.loop-pass-test.true) _
           c.cut_pass.ensures,
-      λ z. resolved-on _ _ _ _ _ _ _ inv.0.mendable _ _ c.cut_pass.ensures (inv.1 z),
+      λ z. resolved-on _ _ _ _ _ _ inv.0.mendable _ _ c.cut_pass.ensures (inv.1 z),
     )
 
 pub returns : goal.returns
 returns c =
-    before-none _ _ _ _ _ _ _ _ _
-    (before_last _ _ _ _ _ _ _ _ _ c.loop-pass-test.false c.loop-pass.auto.pass-index-end c.loop-pass.invariant.0 _
+    before-none _ _ _ _ _ _ _ _
+    (before_last _ _ _ _ _ _ _ _ c.loop-pass-test.false c.loop-pass.auto.pass-index-end c.loop-pass.invariant.0 _
     c.cut_images.ensures.tables)

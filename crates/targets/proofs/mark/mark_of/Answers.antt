@@ -1,4 +1,3 @@
-use Rattle.tree.proofs.Facts.{readable}
 use Rattle.targets.proofs.Finding.{start-fit, stored-mark}
 use Rattle.targets.proofs.mark.mark_of.Goals as goal
 
@@ -8,7 +7,7 @@ find_mark-found-requires c =
       drawn = record {
         checked = c.requires.characters_value;
         marked = c.requires.marked;
-        fit = start-fit _ _ c.requires.characters_value
+        fit = start-fit _ c.requires.characters_value
             _ c.start.ensures;
       };
       kept = c.requires.kept;
@@ -16,10 +15,7 @@ find_mark-found-requires c =
       m_lt_nodes = c.requires.m_lt_nodes;
     }
 
-pub stored_mark-requires : goal.stored_mark-requires
-stored_mark-requires c = readable _ _ c.requires.kept _ c.requires.m_lt_nodes
-
 pub returns : goal.returns
 returns c =
-    stored-mark _ _ _ _ c.args.counts _ _ _ c.cut_name-name.ensures c.requires.m_lt_nodes (c.requires.targeted c.if-heads-eq0.false) _
+    stored-mark _ _ _ _ c.args.counts _ _ _ c.cut_name-name.ensures c.requires.m_lt_nodes (c.requires.targeted c.if-not-heads.false) _
     c.stored_mark.ensures

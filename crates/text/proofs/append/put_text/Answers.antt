@@ -1,8 +1,6 @@
-use mathlib.Core.Path.{ap}
-use Prim.Native.Nat.{◌+◌}
 use native.Mathlib.Omega.{arith}
 use Rattle.text.specs.Spaces.{space_in}
-use Rattle.text.proofs.Appending.{put-size, put-most, put_back}
+use Rattle.text.proofs.Appending.{put-size, put-most}
 use Rattle.text.proofs.append.put_text.Goals as goal
 
 pub overflow_cast-n : goal.overflow_cast-n
@@ -40,25 +38,3 @@ overflow_add-result c =
           c.requires.size_in_bounds _
           c.trim_text-done.ensures.answer,
     )
-
-pub returns : goal.returns
-returns c =
-    record {
-      end = ap (λ k. c.args.first + k)
-          (put-size (space_in c.args.space)
-          c.args.characters.now
-          c.args.start
-          c.args.size
-          c.requires.size_in_bounds _
-          c.trim_text-done.ensures.answer);
-      text = put_back (space_in c.args.space)
-          c.args.characters.now
-          c.args.start
-          c.args.size
-          c.requires.size_in_bounds _
-          c.trim_text-done.ensures.answer
-          c.args.text.now _
-          c.args.first
-          c.requires.size_bound.1
-          c.trim_text-done.ensures.place;
-    }

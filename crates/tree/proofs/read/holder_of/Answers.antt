@@ -3,14 +3,8 @@ use Prim.Native.Nat.{ℕ, ◌≤◌}
 use native.Mathlib.Omega.{arith}
 use Rattle.model.specs.Tables.{parent_of, has_attribute}
 use Rattle.tree.specs.Lent.{plus_one, read_of}
-use Rattle.tree.proofs.Climbs.{climb, holder-climbs, climb-turn, climb-end, has_attribute-by}
+use Rattle.tree.proofs.Climbs.{climb, climb-turn, has_attribute-by}
 use Rattle.tree.proofs.read.holder_of.Goals as goal
-
-pub loop-above-init : goal.loop-above-init
-loop-above-init c = (omega arith, sym (holder-climbs _ _ _ _))
-
-pub attribute_id-requires : goal.attribute_id-requires
-attribute_id-requires c = c.requires.readable c.in-Some.k (omega (arith, ap plus_one c.in-Some.is))
 
 pub returns-then-is_holder-clause-found : goal.returns-then-is_holder-clause-found
 returns-then-is_holder-clause-found c =
@@ -18,18 +12,6 @@ returns-then-is_holder-clause-found c =
     let falls = λ (j : ℕ) (l : j ≤ c.in-Some.k). (c.requires.placed j (omega (arith, w))).falls in
     let t = climb-turn _ _ _ _ _ _ falls (has_attribute-by _ _ _ _ c.attribute_id.ensures.found) w c.loop-above.invariant.1 in
     rw (sym c.if-is_holder.ensures) at t
-
-pub node_link-above-requires : goal.node_link-above-requires
-node_link-above-requires c = omega (arith, (c.requires.placed c.in-Some.k (omega (arith, ap plus_one c.in-Some.is))).inside)
-
-pub loop-above-smaller : goal.loop-above-smaller
-loop-above-smaller c =
-    omega (
-      arith,
-      ap plus_one c.in-Some.is,
-      c.node_link-above.ensures,
-      (c.requires.placed c.in-Some.k (omega (arith, ap plus_one c.in-Some.is))).falls,
-    )
 
 pub loop-above-preserved : goal.loop-above-preserved
 loop-above-preserved c =
@@ -42,8 +24,3 @@ loop-above-preserved c =
       omega (arith, w, c.node_link-above.ensures, (c.requires.placed c.in-Some.k (omega (arith, w))).falls),
       ap (λ (n : ℕ). climb (λ k. has_attribute read k args.a) (parent_of read) n n) c.node_link-above.ensures ∙ u,
     )
-
-pub returns-clause-found : goal.returns-clause-found
-returns-clause-found c =
-    let w = ap plus_one c.in_default.is in
-    let h = c.loop-above.invariant.1 in climb-end _ _ ∙ (rw w at h)

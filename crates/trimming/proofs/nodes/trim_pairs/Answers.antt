@@ -3,7 +3,7 @@ use mathlib.Core.Path.{◌≡◌, ap}
 use Prim.Native.Nat.{◌+◌}
 use Rattle.std.specs.Option.{unwrap_or}
 use Rattle.trimming.proofs.Collected.{next-in, next-or, next-some, next-none}
-use Rattle.trimming.proofs.Pairing.{paired-turn, paired-done}
+use Rattle.trimming.proofs.Pairing.{paired-turn}
 use Rattle.trimming.proofs.nodes.trim_pairs.Goals as goal
 
 pub loop-behind-smaller : goal.loop-behind-smaller
@@ -23,8 +23,3 @@ loop-behind-preserved c =
           _ _ c.trim_turn-kept.ensures.tables _ c.trim_turn-kept.ensures.kept,
       some,
     )
-
-pub returns : goal.returns
-returns c =
-    let inv = rw c.in_default.is at c.loop-behind.invariant in
-    paired-done _ _ _ _ _ _ _ _ _ _ _ _ _ _ inv.0 (omega arith)

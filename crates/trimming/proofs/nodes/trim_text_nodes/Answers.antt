@@ -1,30 +1,16 @@
-use mathlib.Core.Path.{◌≡◌, refl, ap, ◌∙◌}
+use mathlib.Core.Path.{refl, ap, ◌∙◌}
 use native.Mathlib.Omega.{arith}
 use Prim.Native.Nat.{◌+◌, ◌-◌, ◌≤◌}
 use Rattle.model.specs.Text.{is_default}
-use Rattle.trimming.specs.Nodes.{IsTextOf, next_text}
-use Rattle.trimming.proofs.Collected.{fair-ranged}
-use Rattle.trimming.proofs.Entire.{element-reads, all_fair, none_left, first-most, first-text}
-use Rattle.trimming.proofs.Entire.{second-behind, second-text, pairs-left, single-preserved, single-left}
+use Rattle.trimming.specs.Nodes.{next_text}
+use Rattle.trimming.proofs.Entire.{element-reads, all_fair, first-text}
+use Rattle.trimming.proofs.Entire.{second-behind, second-text, pairs-left, single-left}
 use Rattle.trimming.proofs.nodes.trim_text_nodes.Goals as goal
 
 pub space_of-requires-clause-by_index : goal.space_of-requires-clause-by_index
 space_of-requires-clause-by_index c =
     let a = c.args in
     element-reads a.characters.now a.nodes.now a.attributes.now a.text.now a.counts a.e c.requires
-
-pub returns-in_default : goal.returns-in_default
-returns-in_default c =
-    let a = c.args in
-    let none : next_text a.nodes.now (a.e + 1) (a.counts.nodes - (a.e + 1)) ≡ a.counts.nodes =
-    omega (
-      arith,
-      first-most a.characters.now a.nodes.now a.attributes.now a.text.now a.counts a.e c.requires _
-          (c.is_default-default.ensures ∙ ap is_default c.space_of.ensures) _ refl,
-      c.in_default.ensures,
-    ) in
-    none_left a.characters.now a.nodes.now a.attributes.now a.text.now a.counts a.e c.requires _
-    (c.is_default-default.ensures ∙ ap is_default c.space_of.ensures) _ refl none
 
 pub trim_pairs-requires : goal.trim_pairs-requires
 trim_pairs-requires c =
@@ -42,16 +28,6 @@ trim_pairs-requires c =
           (λ z. omega (arith, c.in-Some.ensures.0)) _ two.1;
     }
 
-pub trim_single-requires : goal.trim_single-requires
-trim_single-requires c =
-    let a = c.args in
-    let told = c.is_default-default.ensures ∙ ap is_default c.space_of.ensures in
-    let first : IsTextOf a.nodes.now a.e a.counts.nodes c.in-Some.first = first-text a.characters.now a.nodes.now a.attributes.now
-    a.text.now a.counts a.e c.requires _ told _ c.in-Some.ensures.1
-    (λ z. omega (arith, c.in-Some.ensures.0)) in
-    fair-ranged _ _ _ _ _ _ _ (all_fair a.characters.now a.nodes.now a.attributes.now a.text.now a.counts a.e c.requires) first.1.0
-    first.1.1
-
 pub returns-in-Some-next_text : goal.returns-in-Some-next_text
 returns-in-Some-next_text c =
     let a = c.args in
@@ -68,12 +44,3 @@ returns-then-default c =
     let none : a.counts.nodes ≤ second = omega (arith, c.in-None.ensures) in
     single-left a.characters.now a.nodes.now a.attributes.now a.text.now a.counts a.e c.requires _ told _ c.in-Some.ensures.1
     (λ z. omega (arith, c.in-Some.ensures.0)) second refl none c.if-default.true _ _ c.trim_single.ensures
-
-pub returns-else-default : goal.returns-else-default
-returns-else-default c =
-    let a = c.args in
-    let told = c.is_default-default.ensures ∙ ap is_default c.space_of.ensures in
-    let second = next_text a.nodes.now (c.in-Some.first + 1) (a.counts.nodes - (c.in-Some.first + 1)) in
-    let none : a.counts.nodes ≤ second = omega (arith, c.in-None.ensures) in
-    single-preserved a.characters.now a.nodes.now a.attributes.now a.text.now a.counts a.e c.requires _ told _ c.in-Some.ensures.1
-    (λ z. omega (arith, c.in-Some.ensures.0)) second refl none c.if-default.false

@@ -1,4 +1,4 @@
-use Rattle.trimming.proofs.Turning.{stands-text, text-ranged, pair-told, turn-tables, turn-ranged}
+use Rattle.trimming.proofs.Turning.{stands-text, text-ranged, turn-ranged}
 use Rattle.trimming.proofs.nodes.trim_turn.Goals as goal
 
 pub kept_behind-requires : goal.kept_behind-requires
@@ -8,20 +8,3 @@ kept_behind-requires c =
     (stands-text c.args.nodes.now c.args.nodes.now c.args.element c.args.count c.args.turn.a c.args.turn.kept c.requires.text_of
     c.requires.text_of_3)))
     (text-ranged _ _ _ _ _ _ c.requires.fair _ c.requires.text_of_2)
-
-pub returns-clause-tables : goal.returns-clause-tables
-returns-clause-tables c =
-    turn-tables c.args.characters.now
-    c.args.nodes.now
-    c.args.attributes.now _
-    c.args.element
-    c.args.turn _ _ _ _
-    c.trim_pair.ensures
-    (pair-told c.args.characters.now
-    c.args.nodes.now
-    c.args.attributes.now _
-    c.args.element
-    c.args.turn _ _ _ _
-    c.stands_for-c.ensures c.is_deeper-deeper.ensures
-    c.is_default_at-default1.ensures
-    c.is_default_at-default2.ensures)

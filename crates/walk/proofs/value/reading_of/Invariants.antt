@@ -6,7 +6,7 @@ use Rattle.walk.proofs.Finding.{Reading}
 use Rattle.walk.proofs.value.reading_of.Given as goal
 
 abbrev pub invariant-loop-x : goal.invariant-loop-x
-invariant-loop-x l = Reading (λ s a c. reading_of l.kind (readings_in s l.characters a c)) l.script l.start l.initial.c l.c
+invariant-loop-x l = Reading (λ drawing a c. reading_of l.kind (readings_in drawing a c)) l.drawing l.start l.initial.c l.c
 
 abbrev pub decreases-loop-x : goal.decreases-loop-x
-decreases-loop-x l = length l.script - l.c.at
+decreases-loop-x l = length l.drawing.script.now - l.c.at

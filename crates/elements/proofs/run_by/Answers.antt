@@ -1,1 +1,0 @@
-use Rattle.elements.proofs.run_by.Goals as goal
