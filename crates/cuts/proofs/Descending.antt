@@ -35,44 +35,6 @@ pub record Passed (ns : List ℕ) (n i j : ℕ) : Type 0 where
   pub high : j ≤ n
   pub under : (y : ℕ) → i < y → y < j → i < word ns y 1
 
-pub passed_first : (ns : List ℕ) (n i : ℕ) → i < n → Passed ns n i (i + 1)
-passed_first ns n i h = record { low = omega arith; high = omega arith; under = λ y a b. absurd (omega arith) }
-
-module _ (ns : List ℕ) (n i j : ℕ) (p : Passed ns n i j) where
-  -- What comes next is below i too, with all that is below that.
-  pub passed-range : i < word ns j 1 → (end : ℕ) → Range ns n j end → Passed ns n i end
-  passed-range w end r = record {
-    low = omega (arith, p.low, r.low);
-    high = r.high;
-    under = λ y a b. go y a b (dec_lt y j) (ℕ_discrete y j);
-  }
-    where
-      go : (y : ℕ) → i < y → y < end → Dec (y < j) → Dec (y ≡ j) → i < word ns y 1
-      go y a b (yes d) e = p.under y a d
-      go y a b (no d) (yes e) = rw e w
-      go y a b (no d) (no e) = omega (arith, p.low, r.under y (omega arith) b)
-
-  -- It is below i.
-  pub passed-more : j < n → i < word ns j 1 → Passed ns n i (j + 1)
-  passed-more h w = record { low = omega (arith, p.low); high = omega arith; under = λ y a b. go y a b (ℕ_discrete y j) }
-    where
-      go : (y : ℕ) → i < y → y < j + 1 → Dec (y ≡ j) → i < word ns y 1
-      go y a b (yes e) = rw e w
-      go y a b (no e) = p.under y a (omega arith)
-
-  -- On behind a node, or behind what stands below it where that is known.
-  pub passed-on : j < n → i < word ns j 1 → (o : Option ℕ) → IfSome o (λ end. Range ns n j end) → Passed ns n i (unwrap_or o (j + 1))
-  passed-on h w (Some end) r = passed-range w end r
-  passed-on h w None r = passed-more h w
-
-  -- It is not.
-  pub passed-stop : word ns j 1 ≤ i → Range ns n i j
-  passed-stop w = record { low = p.low; high = p.high; under = p.under; closed = λ h. w }
-
-  -- Nothing comes.
-  pub passed-all : n ≤ j → Range ns n i j
-  passed-all h = record { low = p.low; high = p.high; under = p.under; closed = λ l. absurd (omega arith) }
-
 -- The nodes below a node, from a on.
 below_up : (t : Tree) (i end : ℕ) → Range t.nodes t.node_count i end → (n a : ℕ) → i < a → a ≤ end → a + n ≡ t.node_count
     → below_from t i (up_from a n) ≡ up_from a (end - a)

@@ -5,3 +5,4 @@ pub mod Pairing
 pub mod Quieting
 pub mod Turning
 pub mod Writing
+pub mod Sets

@@ -17,7 +17,6 @@ use Rattle.model.specs.Repair.{up_from, below_from, descendants, cut_name, cut_a
 use Rattle.model.specs.Theorems.Kept.{Tidy}
 use Rattle.model.proofs.Theorems.Agree.{set_cases}
 use Rattle.model.specs.Theorems.GoingOn.{passing, leads_to, cuts_along}
-use Rattle.std.proofs.Common.{Option, Some, None, IfSome}
 use Rattle.cuts.specs.Seen.{cut_back, cut_nodes, Range, told_first, told_end, Ranges, Silent, Quiet}
 use Rattle.cuts.specs.Seen.{Covered, Remembered, Told, Hushed, Spread}
 use Rattle.cuts.proofs.Turning.{cut-tidy, cut-leads}
@@ -49,18 +48,6 @@ module _ (t : Tree) (f : ℕ → Bool) (i end : ℕ) (closed : end < t.node_coun
   silent-none l m = rw (h i (omega arith) l) (below_none (t.node_count - (i + 1)) (i + 1) (omega arith) (omega arith) (omega arith))
 
 -- WHAT IS REMEMBERED
-
--- The range of a node that is remembered.
-pub remembered-range : (ns : List ℕ) (n : ℕ) (ws : List ℕ) → Ranges ns n ws → (m r : ℕ) → m < n → m < r → Remembered ws m r → Range ns n m r
-remembered-range ns n ws g m r l h c =
-    let e : told_first ws (m / 256) ≡ m = omega (arith, c.own) in
-    subst (λ (q : ℕ). Range ns n q r) e (subst (Range ns n (told_first ws (m / 256))) (sym c.last)
-    (g.range (m / 256) (omega arith) c.block (λ z. omega (arith, c.last, z)) (omega (arith, c.own))))
-
-pub remembered-some : (ns : List ℕ) (n : ℕ) (ws : List ℕ) → Ranges ns n ws → (m : ℕ) → m < n → (o : Option ℕ)
-    → IfSome o (λ r. (m < r) × Remembered ws m r) → IfSome o (λ r. Range ns n m r)
-remembered-some ns n ws g m l (Some r) h = remembered-range ns n ws g m r l h.0 h.1
-remembered-some ns n ws g m l None h = tt
 
 module _ (chars : List ℕ) (values : List Value) (k : ℕ) (t : Tree) (i : ℕ) where
   -- Nothing.

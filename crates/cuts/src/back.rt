@@ -18,6 +18,7 @@ use targets::mark::mark_of;
 use tree::Counts;
 
 // Node m, cut where its link leads back.
+#[tactic(auto, using(crate::proofs::Sets::cut_back_set))]
 fn cut_back(
     drawing: &Drawing,
     marks: &Marks,
@@ -75,6 +76,7 @@ fn cut_next(
 }
 
 // Node w and the nodes below it, one after another. The search goes on behind a cut and does not start over. Answers the node behind them.
+#[tactic(auto, using(crate::proofs::Sets::cut_below_set))]
 pub fn cut_below(
     drawing: &Drawing,
     marks: &Marks,

@@ -9,6 +9,7 @@ use tree::read::attribute_id;
 use tree::write::set_none;
 
 // The value that the pass cuts at node i becomes none.
+#[tactic(auto, using(crate::proofs::Sets::cut_set))]
 pub fn cut(nodes: &[u32], attributes: &mut [u32], pass: Pass, i: u32)
     requires { Readable (read_of nodes.now attributes.old) i }
     ensures { attributes.new

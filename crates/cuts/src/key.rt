@@ -22,6 +22,7 @@ fn is_pattern(pass: Pass) -> bool
 }
 
 // The mark of the links that lead to element i in a pass; none where none can.
+#[tactic(auto, using(crate::proofs::Sets::key_of_set))]
 pub fn key_of(
     nodes: &[u32],
     attributes: &[u32],

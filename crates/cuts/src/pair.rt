@@ -21,6 +21,7 @@ use targets::name::{Pass, cut_name};
 use tree::Counts;
 
 // What leads back at or below node w; nothing, where w is known to be quiet.
+#[tactic(auto, using(crate::proofs::Sets::cut_target_set))]
 fn cut_target(
     drawing: &Drawing,
     marks: &Marks,
@@ -56,6 +57,7 @@ fn cut_target(
 }
 
 // Node j below the element that is aimed at: it is cut if its link leads back; else what leads back below the node that it leads to.
+#[tactic(auto, using(crate::proofs::Sets::cut_pair_set))]
 fn cut_pair(
     drawing: &Drawing,
     marks: &Marks,
@@ -109,6 +111,7 @@ fn settle(quiet: &mut [u32; 4096], count: u32, known: Option<Aim>, aim: Aim)
 }
 
 // The element that is aimed at with each node from first up to end. What is known was found for the element that was aimed at before.
+#[tactic(auto, using(crate::proofs::Sets::cut_pairs_set))]
 fn cut_pairs(
     drawing: &Drawing,
     marks: &Marks,

@@ -1,6 +1,6 @@
 -- The chains, node after node. Assumes nothing.
 use mathlib.Core.Path.{◌≡◌, refl, sym, ap, ◌∙◌, subst}
-use mathlib.Core.Bool.{Bool, true, false, true≢false, false≢true}
+use mathlib.Core.Bool.{Bool, true, false, true≢false}
 use mathlib.Core.List.{List, [], ◌∷◌}
 use Prim.Native.Nat.{ℕ, zero, suc, ◌+◌, ◌-◌, ◌*◌, ◌/◌, ◌%◌, ◌<◌, ◌≤◌}
 use native.Mathlib.Omega.{arith}
@@ -20,8 +20,7 @@ use Rattle.model.proofs.Theorems.Unused.{replicate-zero}
 use Rattle.tree.specs.declared.Counts.{Counts}
 use Rattle.tree.specs.Lent.{tree_of, read_of}
 use Rattle.tree.proofs.Alike.{id_same}
-use Rattle.ids.specs.declared.heads.Heads.{Heads}
-use Rattle.ids.specs.Chains.{bucket_from, bucket_of, is_in, last_in, Chained, Indexed, next_set, Turned, Like}
+use Rattle.ids.specs.Chains.{bucket_from, bucket_of, is_in, last_in, Chained, next_set, Turned, Like}
 use Rattle.tree.proofs.Entries.{one-less}
 use Rattle.ids.proofs.Values.{read-part, id-entry}
 use Rattle.ids.proofs.Likeness.{like-next, like-id, like-element, like-tidy}
@@ -87,9 +86,6 @@ module _ (chars ns es hs : List ℕ) (i : ℕ) where
           ap (λ (y : ℕ). set hs y (i + 1)) k,
         );
       }
-
-pub turned-not : (chars ns es hs : List ℕ) (i : ℕ) → Turned chars ns es hs i es hs false
-turned-not chars ns es hs i = record { stop = λ e. (refl, refl); none = λ y. (refl, refl); some = λ e. absurd (false≢true e) }
 
 pub bucket-small : (h : ℕ) (bs : List ℕ) → h < 2048 → bucket_from h bs < 2048
 unfolding bucket_from
@@ -249,19 +245,3 @@ module _ (size : ℕ) (chars ns es₀ : List ℕ) (c : Counts) (g : Tidy size (t
               ap (λ (j : ℕ). get_or (next_set es e x) (5 * (j - 1) + 1) 0 / 2) (ids m) ∙ word m l (λ o. y (ids m ∙ o))
               ∙ sym (last-in-same chars t u ids values (bucket_of (element_id chars t m)) m)
               ∙ ap (λ (s : List ℕ). last_in chars u (bucket_of s) m) (sym (values m))
-
--- A node that is not chained ends it.
-pub linking-stop : (chars ns es₀ : List ℕ) (c : Counts) (es hs : List ℕ) (i : ℕ) → Linking chars ns es₀ c es hs i → (es' hs' : List ℕ)
-    (a : Bool) → Turned chars ns es hs i es' hs' a → a ≡ false → Like c.attributes es₀ es'
-linking-stop chars ns es₀ c es hs i w es' hs' a r f = subst (Like c.attributes es₀) (sym (r.stop f).0) w.like
-
--- Heads that are not whole.
-pub indexed-not : (chars : List ℕ) (t : Tree) (heads : Heads) (n : ℕ) → heads.is_whole ≡ false → Indexed chars t heads n
-indexed-not chars t heads n e = record { chained = λ z. absurd (false≢true (sym e ∙ z)) }
-
--- All nodes are chained.
-pub linking-done : (chars ns es₀ : List ℕ) (c : Counts) (es : List ℕ) (heads : Heads) (i : ℕ) → Linking chars ns es₀ c es heads.last i
-    → c.nodes ≤ i → Indexed chars (read_of ns es) heads c.nodes
-linking-done chars ns es₀ c es heads i w l =
-    let e : i ≡ c.nodes = omega (arith, w.high) in
-    record { chained = λ z. subst (Chained chars (read_of ns es) heads.last) e w.chained }

@@ -4,3 +4,4 @@ pub mod Hunting
 pub mod Likeness
 pub mod Marking
 pub mod Values
+pub mod Sets

@@ -3,6 +3,7 @@ ghost use Rattle.std.specs.Prelude.{◌≡◌, ◌<◌};
 ghost use Rattle.ids.specs.Chains.{bucket_of};
 
 // A number below 2,048 for a string.
+#[tactic(auto, using(crate::proofs::Sets::bucket_set))]
 pub fn bucket(bytes: &[u8]) -> usize
     ensures same { result ≡ bucket_of bytes.now }
     ensures small { result < 2048 }

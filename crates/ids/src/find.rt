@@ -12,6 +12,7 @@ use tree::word;
 use tree::word::entry_word;
 
 // The last of the first `count` nodes with that id, from the last node of its bucket down.
+#[tactic(auto, using(crate::proofs::Sets::find_chained_set), unfolding(model::specs::Tables::entry_at))]
 fn find_chained(
     nodes: &[u32],
     attributes: &[u32],

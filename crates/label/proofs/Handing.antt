@@ -18,7 +18,7 @@ use Rattle.model.specs.Tables.{value_of, value_at_entry, holder_from}
 use Rattle.model.specs.Text.{XmlSpace, default, preserve, preserve_word, get_xmlspace, space_of}
 use Rattle.model.proofs.Theorems.Entries.{entry-by-words}
 use Rattle.model.proofs.Theorems.Kept.{find-within}
-use Rattle.tree.proofs.Climbs.{climb, holder-climbs, climb-step}
+use Rattle.tree.proofs.Climbs.{holder-climbs, climb-step}
 
 -- The space from the node whose index plus 1 is w.
 abbrev pub space_from : List ℕ → Tree → ℕ → XmlSpace

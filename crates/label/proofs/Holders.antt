@@ -8,7 +8,7 @@ use lib.Dec.{eqb, leb, ltb}
 use lib.ListN.{length}
 use Rattle.model.specs.Base.{pick}
 use Rattle.model.specs.Drawing.{Element, Source, quoted}
-use Rattle.model.specs.Tables.{Tree, Out, refused, done, most, parent_of, node_room, text_room, add_text}
+use Rattle.model.specs.Tables.{Tree, Out, refused, done, most, node_room, text_room, add_text}
 use Rattle.model.specs.Text.{XmlSpace, space_of, trim_text, total_size, joined, append_text}
 use Rattle.model.specs.Theorems.Sim.{Every}
 use Rattle.model.proofs.Theorems.Sim.{texts-quoted}
@@ -120,18 +120,3 @@ module _ (drawing : Drawing) (r : Option Opened) (x : Element) (told : texts_of 
       let z : [] ≡ quoted (document drawing) x =
       subst (λ (f : Option Opened). texts_of drawing f ≡ quoted (document drawing) x) e told in
       subst (λ (l : List Source). done t ≡ quote_of drawing.characters.now l p t) z refl
-
--- THE PARENT
-
--- Where node p and those before it can be read, its parent q can.
-pub above-asks : (size : ℕ) (t : Tree) (p q : ℕ) → Climbable t p → ((k : ℕ) → k ≤ p → ReadableIn size t k) → parent_of t p ≡ q + 1 →
-    Climbable t q × ((k : ℕ) → k ≤ q → ReadableIn size t k)
-above-asks size t p q c r e =
-    let l : q ≤ p = omega (arith, (c.placed p (omega arith)).falls) in (
-      record {
-        small = omega (arith, c.small);
-        placed = λ k h. c.placed k (omega arith);
-        readable = λ k h. c.readable k (omega arith);
-      },
-      λ k h. r k (omega arith),
-    )

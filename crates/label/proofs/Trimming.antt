@@ -32,7 +32,6 @@ use Rattle.element.specs.Runs.{InAttributes, InDeclarations, Ready}
 use Rattle.element.proofs.Keeping.{Grown, kept-ready, element-grown}
 use Rattle.text.specs.declared.XmlSpace.{XmlSpace}
 use Rattle.text.specs.Spaces.{space_in}
-use Rattle.trimming.specs.Nodes.{Trimmable}
 use Rattle.text.proofs.Seen.{space-same}
 use Rattle.edges.proofs.Steps.{cut-words}
 use Rattle.label.specs.declared.State.{State}
@@ -95,9 +94,6 @@ module _ (drawing : Drawing) (ns ats bs : List ℕ) (k : Counts) (p : ℕ) (x : 
     record { fit = b.inside.fit; lie = b.element.1; small = b.inside.small },
   )
 
-  pub label-refused : (j : ℕ) → refused j ≡ parse_svg_element X EId.Text ignored p t → refused j ≡ labelled
-  label-refused j h = ap (λ (o : Out Tree). then o follows) h
-
   module _ (ns₁ ats₁ bs₁ : List ℕ) (taken : Counts) (behind : Cursor) (nodes : SameNodes drawing x.inside behind)
       (told : done (tree_of ns₁ ats₁ bs₁ taken) ≡ parse_svg_element X EId.Text ignored p t) where
     is-element : is_element EId.Text ≡ true
@@ -147,27 +143,10 @@ module _ (drawing : Drawing) (ns ats bs : List ℕ) (k : Counts) (p : ℕ) (x : 
           (λ q. done (trim_text_nodes drawing.characters.now k.nodes q))) nodes.events
           ∙ ap (λ (o : Out Tree). then o follows) told
 
-      pub inside-refused : (j : ℕ) → refused j ≡ whole drawing k.nodes ns₁ ats₁ bs₁ first ns₁ ats₁ bs₁ → refused j ≡ labelled
-      inside-refused j h = ap (λ (o : Out Tree). then o (λ q. done (trim_text_nodes drawing.characters.now k.nodes q))) h ∙ so_far
-
       module _ (ns₂ ats₂ bs₂ : List ℕ) where
         module _ (last : Counts) (c : Cursor) (ends : Ends drawing k.nodes ns₁ ats₁ bs₁ first ns₂ ats₂ bs₂ last c) where
-          pub label-trims : Trimmable drawing.characters.now (tree_of ns₂ ats₂ bs₂ last) k.nodes
-          label-trims = record {
-            kept = ends.sound.tidy.kept;
-            small = ends.sound.few.0;
-            inside = ends.below;
-            under = ends.sound.under;
-          }
-
           module _ (ns₃ bs₃ : List ℕ)
               (trimmed : tree_of ns₃ ats₂ bs₃ last ≡ trim_text_nodes drawing.characters.now k.nodes (tree_of ns₂ ats₂ bs₂ last)) where
-            pub label-done : done (tree_of ns₃ ats₂ bs₃ last) ≡ labelled
-            label-done =
-                ap (λ (r : Tree). done r) trimmed
-                ∙ ap (λ (o : Out Tree). then o (λ q. done (trim_text_nodes drawing.characters.now k.nodes q))) ends.same
-                ∙ so_far
-
             pub label-leaves : Closed drawing x.inside k.nodes (tree_of ns₃ ats₂ bs₃ last) c
             label-leaves = record {
               fit = ends.fit;

@@ -28,7 +28,7 @@ use Rattle.tree.specs.Lent.{tree_of, read_of}
 use Rattle.text.specs.declared.XmlSpace.{XmlSpace}
 use Rattle.text.specs.Spaces.{space_in}
 use Rattle.text.proofs.Seen.{space-same}
-use Rattle.element.specs.Runs.{InAttributes, InDeclarations, Ready}
+use Rattle.element.specs.Runs.{Ready}
 use Rattle.element.proofs.Keeping.{kept-ready}
 use Rattle.label.specs.declared.State.{State}
 use Rattle.element.specs.declared.Parsed.{Parsed}
@@ -224,9 +224,6 @@ module _ (drawing : Drawing) (e : ℕ) (ns ats bs : List ℕ) (s : State) (w : W
       spoken-lies : LiesText (length drawing.characters.now) a × Lies drawing.characters.now there
       spoken-lies = subst (Lies drawing.characters.now) (sym q) w.lies
 
-      pub text-lies : LiesText (length drawing.characters.now) a
-      text-lies = spoken-lies.0
-
       abbrev on_from : Tree → Out Tree
       on_from r = inside_of drawing e there s.p r
 
@@ -279,12 +276,6 @@ module _ (drawing : Drawing) (e : ℕ) (ns ats bs : List ℕ) (s : State) (w : W
 
     pub ready : Ready ns ats s.counts s.p
     ready = kept-ready (length drawing.characters.now) ns ats bs s.counts w.sound.tidy.kept (w.sound.few.0, w.sound.few.1) s.p w.below
-
-    pub in-values : InAttributes drawing x.inside × InDeclarations drawing x.inside
-    in-values = (
-      record { fit = o.further.fit; lie = o.element.0; small = w.small },
-      record { fit = o.further.fit; lie = o.element.1; small = w.small },
-    )
 
     -- An element that is not read here.
     pub goes-past : is_text_content X (eqb s.p e) ≡ false → (c : Cursor) → events_at drawing c ≡ leave 0 xs → Fit drawing c →

@@ -1,2 +1,3 @@
 pub mod Lasting
 pub mod Linking
+pub mod Sets

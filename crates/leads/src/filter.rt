@@ -25,6 +25,7 @@ pub struct Filtered {
 }
 
 // Has a value that begins at start, from behind it, a filter link with the id in entry j?
+#[tactic(auto, using(crate::proofs::Sets::any_id_set))]
 fn any_id(drawing: &Drawing, attributes: &[u32], from: Cursor, start: usize, j: Option<u32>) -> bool
     requires fit { Fit drawing.now from }
     requires start_le_most_place { start ≤ most_place }
@@ -50,6 +51,7 @@ fn any_id(drawing: &Drawing, attributes: &[u32], from: Cursor, start: usize, j: 
 }
 
 // The same of the value whose command stands at the cursor.
+#[tactic(auto, using(crate::proofs::Sets::any_id_at_set))]
 fn any_id_at(drawing: &Drawing, attributes: &[u32], c: Cursor, j: Option<u32>) -> bool
     requires fit { Fit drawing.now c }
     requires stands { Stands (length drawing.now.characters.now) (entries_of attributes.now) j }
@@ -62,6 +64,7 @@ fn any_id_at(drawing: &Drawing, attributes: &[u32], c: Cursor, j: Option<u32>) -
 }
 
 // Does one of the filters of node m lead to the id in entry j? Every filter link is compared.
+#[tactic(auto, using(crate::proofs::Sets::has_filter_set))]
 pub fn has_filter(
     drawing: &Drawing,
     marks: &Marks,

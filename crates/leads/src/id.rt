@@ -7,6 +7,7 @@ ghost use Rattle.leads.specs.Links.{Stands, id_at};
 use tree::read::has_value;
 
 // Is it the id in entry j? Where there is none, the id is empty.
+#[tactic(auto, using(crate::proofs::Sets::is_id_set))]
 pub fn is_id(attributes: &[u32], characters: &[u8], j: Option<u32>, value: &[u8]) -> bool
     requires { Stands (length characters.now) (entries_of attributes.now) j }
     ensures { result ≡ same_bytes value.now (id_at characters.now (entries_of attributes.now) j) }

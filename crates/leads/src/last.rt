@@ -16,6 +16,7 @@ use tree::word::entry_word;
 use walk::value::part_at;
 
 // Have two entries the same value?
+#[tactic(auto, using(crate::proofs::Sets::same_value_set))]
 fn same_value(attributes: &[u32], characters: &[u8], j: u32, k: u32) -> bool
     requires known { Known (length characters.now) (entries_of attributes.now) j }
     requires known_2 { Known (length characters.now) (entries_of attributes.now) k }
@@ -41,6 +42,7 @@ fn same_value(attributes: &[u32], characters: &[u8], j: u32, k: u32) -> bool
 }
 
 // Is node m an element whose id is the value of entry j?
+#[tactic(auto, using(crate::proofs::Sets::has_same_id_set), unfolding(model::specs::Tables::entry_at))]
 fn has_same_id(nodes: &[u32], attributes: &[u32], characters: &[u8], m: u32, j: u32) -> bool
     requires known_in { KnownIn (length characters.now) (read_of nodes.now attributes.now) m }
     requires known { Known (length characters.now) (entries_of attributes.now) j }
@@ -54,6 +56,7 @@ fn has_same_id(nodes: &[u32], attributes: &[u32], characters: &[u8], m: u32, j: 
 }
 
 // The last of the first `count` nodes whose id is the value of entry j. Each is compared.
+#[tactic(auto, using(crate::proofs::Sets::last_same_set))]
 fn last_same(
     nodes: &[u32],
     attributes: &[u32],
@@ -77,6 +80,7 @@ fn last_same(
 
 // The last of the first `count` nodes with the id of element i. An element without an id asks for the empty one. By the chains of ids; an
 // id that is a fixed value stands in none.
+#[tactic(auto, using(crate::proofs::Sets::last_of_set), unfolding(model::specs::Tables::entry_at))]
 pub fn last_of(
     nodes: &[u32],
     attributes: &[u32],

@@ -25,6 +25,7 @@ pub struct FoundLink {
 
 // The place of the command that has the value of attribute a of node i; none where the attribute is absent or has a fixed value. The hint
 // only saves time.
+#[tactic(auto, using(crate::proofs::Sets::value_place_set))]
 pub fn value_place(
     drawing: &Drawing,
     marks: &Marks,
@@ -49,6 +50,7 @@ pub fn value_place(
 }
 
 // The link of node i by its attribute a: the first reading of that kind, asked for by the command of its entry. The hint only saves time.
+#[tactic(auto, using(crate::proofs::Sets::link_of_set))]
 pub fn link_of(
     drawing: &Drawing,
     marks: &Marks,

@@ -1,6 +1,5 @@
 -- Marks are cursors of the script. Assumes nothing.
 use mathlib.Core.Path.{refl, sym, subst}
-use mathlib.Core.List.{List}
 use Prim.Native.Nat.{ℕ, ◌*◌, ◌≤◌}
 use lib.ListN.{length, length-replicate, get_or-replicate}
 use Rattle.model.specs.Check.{most_bytes}

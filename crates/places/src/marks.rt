@@ -61,6 +61,7 @@ pub fn seek_near(drawing: &Drawing, marks: &Marks, number: usize, hint: Cursor) 
 }
 
 // How many commands lie between two marks, so that they reach to the last.
+#[tactic(auto, using(script::proofs::Commands::placed_first))]
 fn stride_of(drawing: &Drawing) -> usize
     requires { length drawing.now.script.now ≤ most_bytes }
     ensures { (0 < result) × (result ≤ 4112) }
@@ -71,6 +72,7 @@ fn stride_of(drawing: &Drawing) -> usize
 }
 
 // All marks of a script, in one walk behind the one that counts its commands.
+#[tactic(auto, using(script::proofs::Commands::placed_first))]
 pub fn set_marks(drawing: &Drawing, marks: &mut Marks)
     requires { Marked drawing.now marks.old }
     ensures { Marked drawing.now marks.new }

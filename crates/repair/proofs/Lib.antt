@@ -3,3 +3,4 @@ pub mod Mending
 pub mod Passing
 pub mod Preparing
 pub mod Twins
+pub mod Sets

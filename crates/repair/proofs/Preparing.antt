@@ -21,15 +21,6 @@ use Rattle.cuts.specs.Seen.{has_links}
 use Rattle.repair.specs.Passes.{is_sought, Resolved}
 use Rattle.repair.proofs.Passing.{links-same}
 
--- Tables that differ in words of importance alone, from the first to the third.
-pub like-on : (n : ℕ) (es₀ es es' : List ℕ) → Like n es₀ es → Like n es es' → Like n es₀ es'
-like-on n es₀ es es' a b = record {
-  long = b.long ∙ a.long;
-  words = λ j k l z. b.words j k l z ∙ a.words j k l z;
-  important = λ j. b.important j ∙ a.important j;
-  behind = λ q l. b.behind q l ∙ a.behind q l;
-}
-
 -- One pass more: it looks at no element with links, or its marks were stored.
 module _ (chars : List ℕ) (values : List Value) (ns es : List ℕ) (c : Counts) (k : ℕ)
     (r : Resolved chars values (seen_of ns es c) k) (code a : ℕ) (d : code ≡ element_of k) (n : a ≡ cut_name k) where

@@ -29,6 +29,7 @@ pub struct Image {
 }
 
 // The node that the feImage i leads to, where one of that node's filters leads to i's parent.
+#[tactic(auto, using(crate::proofs::Sets::image_of_set), unfolding(model::specs::Drawing::part_at))]
 pub fn image_of(
     drawing: &Drawing,
     marks: &Marks,

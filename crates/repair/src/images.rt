@@ -20,6 +20,7 @@ use targets::name::Pass;
 use tree::Counts;
 
 // Node i, where it is a feImage: the filter of the node that it leads to is cut, if it leads back.
+#[tactic(auto, using(crate::proofs::Sets::cut_image_set))]
 fn cut_image(
     drawing: &Drawing,
     marks: &Marks,

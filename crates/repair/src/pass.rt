@@ -60,6 +60,7 @@ pub fn is_sought(
 }
 
 // Node i, where it is an element that the pass looks at, with links at or below it. What is known was found for an element before it.
+#[tactic(auto, using(crate::proofs::Sets::cut_named_set))]
 fn cut_named(
     drawing: &Drawing,
     marks: &Marks,

@@ -39,6 +39,7 @@ fn any_sought(nodes: &[u32], attributes: &[u32], counts: Counts, code: u32, name
 }
 
 // The marks of one of the passes 1 to 5, where it looks at an element with links at or below it.
+#[tactic(auto, using(crate::proofs::Sets::resolve_named_set))]
 fn resolve_named(
     drawing: &Drawing,
     marks: &Marks,

@@ -23,6 +23,7 @@ use script::drawing::Drawing;
 use tree::Counts;
 
 // The passes.
+#[tactic(auto, using(crate::proofs::Sets::mend_set))]
 fn mend(
     drawing: &Drawing,
     marks: &Marks,

@@ -18,6 +18,7 @@ fn number_in(found: Option<Opened>) -> usize {
 }
 
 // The element that the first use in the SVG namespace copies.
+#[tactic(auto, using(script::proofs::Commands::placed_first))]
 #[unsafe(no_mangle)]
 pub extern "C" fn timing_first_use(script: &[u8], characters: &[u8]) -> usize {
     if 1048576 < script.len() {
@@ -34,6 +35,7 @@ pub extern "C" fn timing_first_use(script: &[u8], characters: &[u8]) -> usize {
 }
 
 // The elements that all of them copy, one after another; the last is answered.
+#[tactic(auto, using(script::proofs::Commands::placed_first))]
 #[unsafe(no_mangle)]
 pub extern "C" fn timing_every_use(script: &[u8], characters: &[u8]) -> usize {
     if 1048576 < script.len() {
@@ -54,6 +56,7 @@ pub extern "C" fn timing_every_use(script: &[u8], characters: &[u8]) -> usize {
 }
 
 // The places of the first n commands, in order, each sought from the one before.
+#[tactic(auto, using(script::proofs::Commands::placed_first))]
 #[unsafe(no_mangle)]
 pub extern "C" fn timing_seek(script: &[u8], characters: &[u8], n: usize) -> usize {
     if 1048576 < script.len() {

@@ -11,19 +11,9 @@ returns-in_err-start c =
     rw (out.1, out.2) (fault-told _ _ _ _ _ _ _ _ (subst (TargetFit _ _ _ _) c.in_err-start.was c.target_of.ensures) _
     (refused-as-is _ _ _ _ _ refl _))
 
-pub exchange_short-requires : goal.exchange_short-requires
-exchange_short-requires c =
-    let grant = subst (TargetFit _ _ _ _) c.in_ok-start.was c.target_of.ensures in
-    record { changeable = grant.change; len_bound = c.if-is_short.true }
-
 pub returns-then-is_short : goal.returns-then-is_short
 returns-then-is_short c =
     change-told _ _ _ _ _ _ _ _ (subst (TargetFit _ _ _ _) c.in_ok-start.was c.target_of.ensures) _ _ _ _ _ c.exchange_short.ensures
-
-pub exchange_long-requires : goal.exchange_long-requires
-exchange_long-requires c =
-    let grant = subst (TargetFit _ _ _ _) c.in_ok-start.was c.target_of.ensures in
-    grant.change
 
 pub returns : goal.returns
 returns c =

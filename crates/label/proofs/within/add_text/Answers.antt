@@ -1,12 +1,8 @@
 use Rattle.label.proofs.Holders.{appends, text-node}
 use Rattle.label.proofs.within.add_text.Goals as goal
 
-pub append_text-requires : goal.append_text-requires
-append_text-requires c =
-    record {
-      appendable = appends _ _ _ _ _ _ c.requires.holding;
-      size_in_bounds = c.requires.size_in_bounds;
-    }
+pub append_text-requires-clause-appendable : goal.append_text-requires-clause-appendable
+append_text-requires-clause-appendable c = appends _ _ _ _ _ _ c.requires.holding
 
 pub returns : goal.returns
 returns c =

@@ -8,7 +8,7 @@ use Rattle.pieces.specs.Content.{tag_in}
 use Rattle.label.proofs.Holders.{reads}
 use Rattle.pieces.proofs.Contents.{content-is}
 use Rattle.label.proofs.Telling.{element-done, element-none, element-behind, append-done, append-none}
-use Rattle.label.proofs.Walking.{ready, in-values, goes-past, new-space, element-refused, goes_in, in-recalled}
+use Rattle.label.proofs.Walking.{goes-past, new-space, element-refused, goes_in, in-recalled}
 use Rattle.label.proofs.Walking.{tref-holds, tref-refused, goes-tref, tref-recalled}
 use Rattle.label.proofs.within.begin.Goals as goal
 
@@ -27,14 +27,6 @@ returns-then-not-is_text_content c =
     c.past_element-behind.ensures.fit c.past_element-behind.ensures.further in
     (on.0, on.1, recalled)
 
-pub parse_svg_element-requires : goal.parse_svg_element-requires
-parse_svg_element-requires c =
-    let within = c.requires.within in
-    let opens = c.requires.opening in record {
-      ready = ready _ _ _ _ _ _ within _ opens;
-      in_attributes = in-values _ _ _ _ _ _ within _ opens;
-    }
-
 pub get_xmlspace-space-requires : goal.get_xmlspace-space-requires
 get_xmlspace-space-requires c =
     let content = content-is (element_of c.args.drawing.now
@@ -50,11 +42,6 @@ get_xmlspace-space-requires c =
     let nodes = element-behind _ _ _ c.parse_svg_element.ensures.behind _ c.in_ok-opened.was in
     let told = element-done _ _ _ _ _ (c.parse_svg_element.ensures.outcome c.args.text.now) _ c.in_ok-opened.was in
     reads _ _ _ _ _ _ (tref-holds _ _ _ _ _ _ within _ opens is _ named _ _ _ _ _ nodes told) _ (omega arith)
-
-pub push-requires : goal.push-requires
-push-requires c =
-    let recalled = c.requires.recalled in
-    recalled.few
 
 pub returns-then-is_read : goal.returns-then-is_read
 returns-then-is_read c =
@@ -89,11 +76,6 @@ add_quoted-requires c =
       lies = within.all;
       memo = c.requires.memo;
     }
-
-pub past_element-past-requires : goal.past_element-past-requires
-past_element-past-requires c =
-    let nodes = element-behind _ _ _ c.parse_svg_element.ensures.behind _ c.in_ok-opened.was in
-    nodes.fit
 
 pub returns-in_err-opened : goal.returns-in_err-opened
 returns-in_err-opened c =
@@ -130,9 +112,6 @@ returns-in_err-all c =
     let out = err_from_is_err_and c.from_residual-in_err-all.result c.from_residual-in_err-all.ensures.1 in
     rw (out.1, out.2) (tref-refused _ _ _ _ _ _ within _ opens is _ named _ _ _ _ _ nodes told tref _
     (append-none _ _ _ _ _ c.add_quoted.ensures _ c.in_err-all.was))
-
-pub shape_of-nodes : goal.shape_of-nodes
-shape_of-nodes c = c.nodes-2-1.given ∙ c.nodes-1.given
 
 pub returns : goal.returns
 returns c =

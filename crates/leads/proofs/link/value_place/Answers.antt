@@ -1,11 +1,8 @@
 use mathlib.Core.Path.{sym}
 use Rattle.std.proofs.Common.{Some, None}
 use Rattle.ids.proofs.Hunting.{minus-one}
-use Rattle.leads.proofs.Linking.{readings-absent, readings-fixed, readings-there}
+use Rattle.leads.proofs.Linking.{readings-fixed, readings-there}
 use Rattle.leads.proofs.link.value_place.Goals as goal
-
-pub returns-in_err-j-clause-none : goal.returns-in_err-j-clause-none
-returns-in_err-j-clause-none c = rw c.from_residual.ensures (readings-absent c.args.drawing.now _ _ _ c.in_err-j.ensures.found)
 
 pub returns-in_err-number-clause-none : goal.returns-in_err-number-clause-none
 returns-in_err-number-clause-none c =

@@ -12,24 +12,6 @@ use Rattle.places.proofs.seek.find_text.Goals as goal
 pub loop-e-init : goal.loop-e-init
 loop-e-init c = along-start _ _ _ c.requires c.start-c.ensures
 
-pub next_item-requires : goal.next_item-requires
-next_item-requires c = c.loop-e.invariant.fit
-
-pub style_level-level-requires : goal.style_level-level-requires
-style_level-level-requires c =
-    omega (
-      arith,
-      c.loop-e.invariant.low,
-      c.loop-e.invariant.fit.at,
-      c.loop-e.invariant.fit.size,
-    )
-
-pub loop-e-smaller-in-Begin : goal.loop-e-smaller-in-Begin
-loop-e-smaller-in-Begin c =
-    let opened = item-told _ _ _ _ c.in-Begin.is
-    (c.next_item.ensures.same, c.next_item.ensures.fit) in
-    omega (arith, opened.1.1.further, opened.1.1.fit.at)
-
 pub loop-e-preserved-in-Begin : goal.loop-e-preserved-in-Begin
 loop-e-preserved-in-Begin c =
     let opened = item-told _ _ _ _ c.in-Begin.is
@@ -43,11 +25,6 @@ loop-e-preserved-in-Begin c =
     ))
     (sought-begin _ _ _ _ _ c.style_level-level.ensures)
 
-pub overflow_add-own : goal.overflow_add-own
-overflow_add-own c =
-    let source = item-told _ _ _ _ c.in-Text.is (c.next_item.ensures.same, c.next_item.ensures.fit) in
-    omega (arith, source.1.0.texts, source.1.0.at, source.1.0.size)
-
 pub returns-then-own-number : goal.returns-then-own-number
 returns-then-own-number c =
     let source = item-told _ _ _ _ c.in-Text.is
@@ -60,12 +37,6 @@ returns-then-own-number c =
       fit = source.1.0;
     }
 
-pub loop-e-smaller-in-Text : goal.loop-e-smaller-in-Text
-loop-e-smaller-in-Text c =
-    let source = item-told _ _ _ _ c.in-Text.is
-    (c.next_item.ensures.same, c.next_item.ensures.fit) in
-    omega (arith, source.1.1.further, source.1.1.fit.at)
-
 pub loop-e-preserved-in-Text : goal.loop-e-preserved-in-Text
 loop-e-preserved-in-Text c =
     let source = item-told _ _ _ _ c.in-Text.is
@@ -74,21 +45,11 @@ loop-e-preserved-in-Text c =
     c.in-Text.is (c.next_item.ensures.same, c.next_item.ensures.fit) _ _ source.1.1
     (omega arith) (sought-miss _ _ _ _ c.if-own-number.false)
 
-pub loop-e-smaller-in-Other : goal.loop-e-smaller-in-Other
-loop-e-smaller-in-Other c =
-    let other = item-told _ _ _ _ c.in-Other.is (c.next_item.ensures.same, c.next_item.ensures.fit) in
-    omega (arith, other.1.further, other.1.fit.at)
-
 pub loop-e-preserved-in-Other : goal.loop-e-preserved-in-Other
 loop-e-preserved-in-Other c =
     let other = item-told _ _ _ _ c.in-Other.is (c.next_item.ensures.same, c.next_item.ensures.fit) in
     over _ _ _ _ _ _ c.loop-e.invariant _ _ c.in-Other.is
     (c.next_item.ensures.same, c.next_item.ensures.fit) _ _ other.1 (omega arith) (sought-other _ _ _)
-
-pub loop-e-smaller : goal.loop-e-smaller
-loop-e-smaller c =
-    let closed = item-told _ _ _ _ c.in-Close.is (c.next_item.ensures.same, c.next_item.ensures.fit) in
-    omega (arith, closed.1.further, closed.1.fit.at)
 
 pub loop-e-preserved : goal.loop-e-preserved
 loop-e-preserved c =

@@ -1,17 +1,13 @@
 use mathlib.Core.Path.{sym, ap, ◌∙◌}
-use Rattle.tree.proofs.Bools.{fails, passes}
 use Rattle.tree.specs.Lent.{plus_one}
 use Rattle.cuts.proofs.Turning.{cut-seen}
-use Rattle.repair.proofs.Passing.{no-image, image-uncut, image-cut}
+use Rattle.repair.proofs.Passing.{image-uncut, image-cut}
 use Rattle.repair.proofs.images.cut_image.Goals as goal
 use Rattle.repair.proofs.images.cut_image.Goals.{in-Some, in_default}
 
-pub returns-then-not-is_named-clause-tables : goal.returns-then-not-is_named-clause-tables
-returns-then-not-is_named-clause-tables c = no-image _ _ _ _ (fails c.is_named.ensures c.if-not-is_named.true-raw)
-
 pub returns-clause-tables : goal.returns-clause-tables
 returns-clause-tables c =
-    let named = passes c.is_named.ensures c.if-not-is_named.false-raw in
+    let named = sym c.is_named.ensures ∙ c.if-not-is_named.false in
     elim c.match-image.branch [
       | in-Some w ↦ rw w.attributes-is
           (cut-seen _ _ _ _ _ _ w.cut.ensures

@@ -1,13 +1,7 @@
 use native.Mathlib.Omega.{arith}
 use Rattle.repair.proofs.Passing.{resolved-on}
-use Rattle.repair.proofs.Mending.{before-first, before-turn, before-none, before_last, pass-at}
+use Rattle.repair.proofs.Mending.{before-turn, before-none, before_last, pass-at}
 use Rattle.repair.proofs.whole.mend.Goals as goal
-
-pub loop-pass-init : goal.loop-pass-init
-loop-pass-init c = (
-  before-first _ _ _ _ _ _ c.requires.characters_value c.requires.marked c.requires.tidy c.requires.indexed,
-  c.requires.resolved,
-)
 
 pub loop-pass-preserved : goal.loop-pass-preserved
 loop-pass-preserved c =

@@ -1,4 +1,3 @@
-use borrow.Author.Tests.{not-true, not-false}
 use Rattle.places.proofs.Marking.{marked-none}
 use Rattle.ids.proofs.Likeness.{like-tidy}
 use Rattle.targets.proofs.Finding.{small}
@@ -9,7 +8,7 @@ use Rattle.repair.proofs.whole.repair.Goals as goal
 pub returns-then-not-any_linked : goal.returns-then-not-any_linked
 returns-then-not-any_linked c =
     mended c.args.drawing.now _ _ _ c.args.counts c.requires.characters_value c.requires.tidy
-    (unlinked _ _ _ (c.any_linked.ensures (not-true _ c.if-not-any_linked.true-raw)))
+    (unlinked _ _ _ (c.any_linked.ensures c.if-not-any_linked.true))
 
 pub set_marks-requires : goal.set_marks-requires
 set_marks-requires c = rw c.new-marks.ensures (marked-none _ (small c.args.drawing.now c.requires.characters_value))
@@ -23,5 +22,5 @@ mend-requires-2-clause-tidy c = like-tidy _ _ _ _ _ _ c.prepare.ensures.like c.r
 pub returns : goal.returns
 returns c =
     mended c.args.drawing.now _ _ _ c.args.counts c.requires.characters_value c.requires.tidy
-    (unchained _ _ _ _ c.args.counts _ _ _ _ c.requires.tidy (c.has_room.ensures (not-false _ c.if-not-has_room.false-raw)).1
+    (unchained _ _ _ _ c.args.counts _ _ _ _ c.requires.tidy (c.has_room.ensures c.if-not-has_room.false).1
     c.prepare.ensures.like c.mend-2.ensures c.unchain.ensures)
