@@ -1,17 +1,18 @@
 -- Tables that are cleared, and the first element's test. Assumes nothing.
 use mathlib.Core.Path.{◌≡◌, refl, sym, ap, ◌∙◌}
-use mathlib.Core.List.{List}
+use mathlib.Core.List.{List, []}
 use mathlib.Core.Bool.{Bool, true, false}
 use Prim.Native.Nat.{ℕ, ◌+◌}
 use Rattle.std.specs.Prelude.{Option, Some, None, Err}
 use lib.ListN.{length, replicate}
 use Rattle.model.specs.EId
 use Rattle.model.specs.Tables.{Tree, refused, word, is_named, cleared}
-use Rattle.model.specs.Build.{answered, first_is_svg}
+use Rattle.model.specs.Build.{Result, answered, first_is_svg}
 use Rattle.tree.specs.Lent.{tree_of, nodes_read, plus_one}
 use Rattle.tree.proofs.Entries.{taken, one-less}
 use Rattle.refusal.specs.declared.Refusal.{Refusal}
 use Rattle.refusal.specs.Number.{number_of}
+use Rattle.build.specs.declared.Built.{Built}
 use Rattle.build.specs.Results.{built_of, result_of, nothing, cleared_as, left_by}
 
 pub all-cleared : (ns es bs ns' es' bs' : List ℕ) → ns' ≡ replicate (length ns) 0 → es' ≡ replicate (length es) 0 →
@@ -45,3 +46,13 @@ module _ (ns es bs : List ℕ) (clears : Bool) (k : Refusal) where
   pub refused-as-is : clears ≡ false → (chars : List ℕ) →
       result_of chars ns es bs (built_of (Err k)) ≡ answered chars (left_by clears ns es bs) (refused (number_of k))
   refused-as-is b = refused-answer ns es bs _ k (ap (λ x. left_by x ns es bs) (sym b))
+
+-- What a refusal by its number leaves where it clears is what the refusal of a build leaves.
+pub refused-through : (ns es bs ns' es' bs' : List ℕ) (k : Refusal) (r : Built) →
+    ((chars : List ℕ) → result_of chars ns' es' bs' r ≡ answered chars (left_by true ns es bs) (refused (number_of k))) → (chars : List ℕ) →
+    result_of chars ns' es' bs' (built_of (Err k)) ≡ answered chars (cleared_as ns es bs) (refused (number_of k))
+unfolding cleared
+refused-through ns es bs ns' es' bs' k r f =
+    refused-answer ns' es' bs' (cleared_as ns es bs) k
+    (all-cleared ns es bs ns' es' bs' (ap (λ (x : Result). x.tree.nodes) (f [])) (ap (λ (x : Result). x.tree.attributes) (f []))
+    (ap (λ (x : Result). x.tree.text) (f [])))

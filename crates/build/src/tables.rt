@@ -4,8 +4,9 @@ ghost use Rattle.model.specs.Tables.{word, refused};
 ghost use Rattle.model.specs.Build.{answered, first_is_svg};
 ghost use Rattle.tree.specs.Lent.{tree_of, nodes_read};
 ghost use Rattle.refusal.specs.Number.{number_of};
-ghost use Rattle.build.specs.Results.{built_of, result_of, nothing, cleared_as};
+ghost use Rattle.build.specs.Results.{built_of, result_of, nothing, cleared_as, left_by};
 
+use crate::Built;
 use names::eid;
 use refusal::Refusal;
 use repair::pass::is_named;
@@ -21,8 +22,31 @@ pub fn clear(nodes: &mut [u32], attributes: &mut [u32], text: &mut [u8])
     text.fill(0);
 }
 
-// What every refusal goes through: a build that is refused clears the tables.
+// What every refusal goes through, by its number. A build that is refused clears the tables; a fault of an exchange's call leaves them as
+// they are.
 pub fn refuse(
+    nodes: &mut [u32],
+    attributes: &mut [u32],
+    text: &mut [u8],
+    number: u32,
+    clears: bool,
+) -> Built
+    ensures { (chars : List ℕ) → result_of chars nodes.new attributes.new text.new result
+        ≡ answered chars (left_by clears nodes.old attributes.old text.old) (refused number) }
+{
+    if clears {
+        clear(nodes, attributes, text);
+    }
+    Built {
+        number,
+        nodes: 0,
+        attributes: 0,
+        text: 0,
+    }
+}
+
+// A build that is refused.
+pub fn refuse_build(
     nodes: &mut [u32],
     attributes: &mut [u32],
     text: &mut [u8],
@@ -31,7 +55,7 @@ pub fn refuse(
     ensures { (chars : List ℕ) → result_of chars nodes.new attributes.new text.new (built_of result)
         ≡ answered chars (cleared_as nodes.old attributes.old text.old) (refused (number_of refusal)) }
 {
-    clear(nodes, attributes, text);
+    refuse(nodes, attributes, text, u32::from(refusal), true);
     Err(refusal)
 }
 

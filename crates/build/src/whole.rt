@@ -8,7 +8,7 @@ ghost use Rattle.memo.specs.Table.{Memo};
 ghost use Rattle.tree.specs.Lent.{tree_of};
 ghost use Rattle.build.specs.Results.{built_of, result_of, root_alone, cleared_as, Tended, Rooted};
 
-use crate::tables::{clear, first_is_svg, refuse};
+use crate::tables::{clear, first_is_svg, refuse_build};
 use memo::link::may_link;
 use parse::State;
 use parse::node::parse_xml_node_children;
@@ -37,7 +37,7 @@ fn finish(
         (tested (tree_of nodes.old attributes.old text.old counts))) }
 {
     if !first_is_svg(nodes) {
-        return refuse(nodes, attributes, text, Refusal::NotAnSvg);
+        return refuse_build(nodes, attributes, text, Refusal::NotAnSvg);
     }
     repair(drawing, nodes, attributes, counts);
     Ok(counts)
@@ -77,7 +77,7 @@ fn fill_by(
     );
     match built {
         Ok(()) => finish(drawing, nodes, attributes, text, state.counts),
-        Err(refusal) => refuse(nodes, attributes, text, refusal),
+        Err(refusal) => refuse_build(nodes, attributes, text, refusal),
     }
 }
 
@@ -157,6 +157,6 @@ pub fn build(
 {
     match check(drawing) {
         Ok(()) => build_checked(drawing, nodes, attributes, text),
-        Err(refusal) => refuse(nodes, attributes, text, refusal),
+        Err(refusal) => refuse_build(nodes, attributes, text, refusal),
     }
 }

@@ -3,25 +3,23 @@ ghost use Rattle.std.specs.Prelude.{◌≡◌, ◌<◌, IfSome, unwrap_or, leb, 
 ghost use Rattle.model.specs.Theorems.Kept.{Kept};
 ghost use Rattle.tree.specs.Lent.{read_of};
 ghost use Rattle.ids.specs.Chains.{Indexed};
-ghost use Rattle.targets.specs.Pass.{pass_number};
 ghost use Rattle.targets.specs.Targets.{seen_of};
 ghost use Rattle.cuts.specs.Seen.{key_of};
 
 use ids::heads::Heads;
 use leads::last::last_of;
 use names::aid;
-use targets::name::Pass;
 use tree::Counts;
 use tree::read::attribute_id;
 
-// Does the pass look for patterns?
-fn is_pattern(pass: Pass) -> bool
-    ensures { result ≡ leb (pass_number pass) 2 }
+// Does the pass with that number look for patterns?
+fn is_pattern(pass: u32) -> bool
+    ensures { result ≡ leb pass 2 }
 {
-    matches!(pass, Pass::PatternFill | Pass::PatternStroke)
+    pass <= 2
 }
 
-// The mark of the links that lead to element i in a pass; none where none can.
+// The mark of the links that lead to element i in the pass with that number; none where none can.
 #[tactic(auto, using(crate::proofs::Sets::key_of_set))]
 pub fn key_of(
     nodes: &[u32],
@@ -29,13 +27,13 @@ pub fn key_of(
     characters: &[u8],
     heads: &Heads,
     counts: Counts,
-    pass: Pass,
+    pass: u32,
     i: u32,
 ) -> Option<usize>
     requires kept { Kept (length characters.now) (seen_of nodes.now attributes.now counts) }
     requires indexed { Indexed characters.now (read_of nodes.now attributes.now) heads.now counts.nodes }
     requires i_lt_nodes { i < counts.nodes }
-    ensures same { unwrap_or result 0 ≡ key_of characters.now (pass_number pass) (seen_of nodes.now attributes.now counts) i }
+    ensures same { unwrap_or result 0 ≡ key_of characters.now pass (seen_of nodes.now attributes.now counts) i }
     ensures some { IfSome result (λ k. k ≡ 0 → ⊥) }
 {
     if !is_pattern(pass) {

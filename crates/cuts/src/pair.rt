@@ -183,7 +183,7 @@ pub fn cut_element(
         drawing.characters,
         heads,
         counts,
-        pass,
+        u32::from(pass),
         i,
     ) else {
         return known;

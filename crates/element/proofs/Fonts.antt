@@ -1,6 +1,6 @@
 -- The rows of a font declaration's tables, and its steps. Assumes nothing.
 use Prim.Native.Nat.{ℕ, zero, suc, ◌+◌, ◌≤◌, ◌<◌}
-use mathlib.Core.Path.{◌≡◌, refl, sym, ap}
+use mathlib.Core.Path.{◌≡◌, refl, sym, ap, ◌∙◌}
 use mathlib.Core.Bool.{Bool, true, false}
 use mathlib.Core.List.{List, [], ◌∷◌, map}
 use mathlib.Core.Option.{Option, none, some}
@@ -33,27 +33,26 @@ use Rattle.entries.proofs.Storing.{same_entries}
 use Rattle.entries.proofs.Inserting.{inserts-more, append-on}
 use Rattle.entries.proofs.Steps.{Steady}
 
--- The rows of a table as pairs, and the rows from k on, the first of them by its pair.
+-- The rows of a table as pairs, and the rows from k on.
 abbrev pub pairs_of : List Pair → List (ℕ × ℕ)
 pairs_of [] = []
 pairs_of (r ∷ rows) = (r.key, r.value) ∷ pairs_of rows
 
-pub rows-from : (rows : List Pair) (k : ℕ) (d : ℕ × ℕ) → k < length (pairs_of rows) →
-    drop k rows ≡ ((get_or (pairs_of rows) k d).0 gives (get_or (pairs_of rows) k d).1) ∷ drop (k + 1) rows
-rows-from [] k d h = absurd (omega arith)
-rows-from (r ∷ rows) zero d h = refl
-rows-from (r ∷ rows) (suc k) d h =
+-- Row k of a table, and two tables beside each other as rows.
+abbrev pub row_of : List Pair → ℕ → Pair
+row_of rows k = get_or rows k (0 gives 0)
+
+pub rows-from : (rows : List Pair) (k : ℕ) → k < length (pairs_of rows) → drop k rows ≡ row_of rows k ∷ drop (k + 1) rows
+rows-from [] k h = absurd (omega arith)
+rows-from (r ∷ rows) zero h = refl
+rows-from (r ∷ rows) (suc k) h =
     let e : suc k + 1 ≡ suc (k + 1) = omega arith in
-    rw e (rows-from rows k d (omega arith))
+    rw e (rows-from rows k (omega arith))
 
 pub rows_end : (rows : List Pair) (k : ℕ) → length (pairs_of rows) ≤ k → drop k rows ≡ []
 rows_end [] k h = drop-nil k
 rows_end (r ∷ rows) zero h = absurd (omega arith)
 rows_end (r ∷ rows) (suc k) h = rows_end rows k (omega arith)
-
--- Row k of a table, and two tables beside each other as rows.
-abbrev pub row_of : List Pair → ℕ → Pair
-row_of rows k = get_or rows k (0 gives 0)
 
 row-known : (keys values : List ℕ) (rows : List Pair) → map (λ r. r.key) rows ≡ keys → map (λ r. r.value) rows ≡ values → (k : ℕ) →
     record { key = get_or keys k 0; value = get_or values k 0 } ≡ row_of rows k
@@ -79,6 +78,26 @@ pub part-row : (k : ℕ) → record {
 } ≡ row_of font_parts k
 unfolding font_parts
 part-row k = row-known _ _ font_parts refl refl k
+
+-- Pair k of a list, by the lists of what its pairs have.
+pair-at : (ps : List (ℕ × ℕ)) (k : ℕ) → ((get_or ps k (0, 0)).0 gives (get_or ps k (0, 0)).1)
+    ≡ record { key = get_or (map (λ p. p.0) ps) k 0; value = get_or (map (λ p. p.1) ps) k 0 }
+pair-at [] k = refl
+pair-at (p ∷ ps) zero = refl
+pair-at (p ∷ ps) (suc k) = pair-at ps k
+
+-- The rows from k on, the first of them by the pair that the code has: row k of the resets, and of the parts.
+pub resets-from : (k : ℕ) → k < length (pairs_of font_resets) → drop k font_resets
+    ≡ ((get_or (pairs_of font_resets) k (0, 0)).0 gives (get_or (pairs_of font_resets) k (0, 0)).1) ∷ drop (k + 1) font_resets
+unfolding font_resets
+resets-from k h =
+    rows-from font_resets k h ∙ ap (λ r. r ∷ drop (k + 1) font_resets) (sym (pair-at (pairs_of font_resets) k ∙ reset-row k))
+
+pub parts-from : (k : ℕ) → k < length (pairs_of font_parts) → drop k font_parts
+    ≡ ((get_or (pairs_of font_parts) k (0, 0)).0 gives (get_or (pairs_of font_parts) k (0, 0)).1) ∷ drop (k + 1) font_parts
+unfolding font_parts
+parts-from k h =
+    rows-from font_parts k h ∙ ap (λ r. r ∷ drop (k + 1) font_parts) (sym (pair-at (pairs_of font_parts) k ∙ part-row k))
 
 -- A reset does not hang on the table.
 pub resets-steady : (ats : List ℕ) (place : Place) (important : ℕ) → Steady (λ m. reset_as important) ats place

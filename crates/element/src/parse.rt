@@ -84,7 +84,7 @@ pub fn parse_svg_element(
         return Err(Refusal::NodesFull);
     }
     let node = NewNode {
-        kind: Kind::Element,
+        kind: u32::from(Kind::Element),
         code: tag,
         from: counts.attributes,
         to: run.next,

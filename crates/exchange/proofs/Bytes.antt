@@ -1,14 +1,42 @@
--- Bytes that are copied into place, kept beside, and copied back. Assumes nothing.
-use mathlib.Core.Path.{◌≡◌, sym, ap, ◌∙◌}
+-- Bytes put in place one after another, kept beside, and copied back. Assumes nothing.
+use mathlib.Core.Path.{◌≡◌, refl, sym, ap, ◌∙◌}
 use mathlib.Core.List.{List, append_assoc}
-use Prim.Native.Nat.{ℕ, ◌+◌, ◌-◌, ◌<◌, ◌≤◌}
+use Prim.Native.Nat.{ℕ, suc, ◌+◌, ◌-◌, ◌<◌, ◌≤◌}
+use native.Mathlib.Numerals.{add-one}
 use native.Mathlib.Omega.{arith}
 use native.Mathlib.Decide.{dec_lt, dec_le}
 use Rattle.std.specs.Prelude.{◌++◌}
-use lib.ListN.{length, get_or, take, drop, length-drop}
-use lib.Seq.{sets, sets-eq, drop-drop, take-append_seam, ext_get_or, length-sets, length-take-le, get_or-drop, get_or-take}
+use lib.ListN.{length, get_or, take, drop, set, length-set, length-drop, drop_of_length-le}
+use lib.Seq.{sets, sets-eq, drop-drop, drop-cons, take-append_seam, ext_get_or, length-sets, length-take-le, get_or-drop, get_or-take}
 use borrow.Rule.Slice.PartMut.{put_mid}
 use Rattle.model.proofs.Theorems.Agree.{sets-in, sets-out}
+
+-- The loop that has put the first k bytes: those that are left make of the table now what all make of it at first.
+pub record Putting (table₀ bytes table : List ℕ) (at k : ℕ) : Type 0 where
+  pub low : k ≤ length bytes
+  pub size : length table ≡ length table₀
+  pub same : sets table (at + k) (drop k bytes) ≡ sets table₀ at bytes
+
+pub put-none : (table bytes : List ℕ) (at : ℕ) → Putting table bytes table at 0
+put-none table bytes at =
+    let e : at + 0 ≡ at = omega arith in
+    record { low = omega arith; size = refl; same = ap (λ n. sets table n bytes) e }
+
+pub put-more : (table₀ bytes table : List ℕ) (at k : ℕ) → Putting table₀ bytes table at k → k < length bytes →
+    Putting table₀ bytes (set table (at + k) (get_or bytes k 0)) at (k + 1)
+put-more table₀ bytes table at k p h =
+    let e : at + (k + 1) ≡ suc (at + k) = omega arith in
+    record {
+      low = omega arith;
+      size = length-set table (at + k) (get_or bytes k 0) ∙ p.size;
+      same =
+          ap (λ n. sets (set table (at + k) (get_or bytes k 0)) n (drop (k + 1) bytes)) e
+          ∙ ap (λ n. sets (set table (at + k) (get_or bytes k 0)) (suc (at + k)) (drop n bytes)) (add-one k)
+          ∙ ap (sets table (at + k)) (sym (drop-cons bytes k 0 h)) ∙ p.same;
+    }
+
+pub put_all : (table₀ bytes table : List ℕ) (at k : ℕ) → Putting table₀ bytes table at k → length bytes ≤ k → table ≡ sets table₀ at bytes
+put_all table₀ bytes table at k p h = ap (sets table (at + k)) (sym (drop_of_length-le bytes h)) ∙ p.same
 
 -- Bytes that are copied into a part of a table.
 pub copied : (table part bytes : List ℕ) (at : ℕ) → part ≡ bytes → at + length bytes ≤ length table
@@ -52,15 +80,14 @@ module _ (chars new : List ℕ) (start : ℕ) (within : start + length new ≤ l
           ∙ covered-at (i - start) (omega arith) ∙ ap (λ n. get_or chars n 0) at
 
   -- What is copied back is what was kept.
-  pub undone : (kept rest back : List ℕ) (m : ℕ) → m ≡ length new → kept ≡ covered → back ≡ take m (kept ++ rest)
-      → (part : List ℕ) → part ≡ new
-      → put_mid start (start + length new - start) (put_mid start (start + length new - start) chars part) back ≡ chars
-  undone kept rest back m z k b part e =
+  pub undone : (kept rest back two : List ℕ) (m : ℕ) → m ≡ length new → kept ≡ covered → back ≡ take m (kept ++ rest)
+      → two ≡ sets chars start new → put_mid start (start + length new - start) two back ≡ chars
+  undone kept rest back two m z k b e =
       let n : m ≡ length covered = z ∙ sym covered-long in
       let same : back ≡ covered = b ∙ ap (λ (xs : List ℕ). take m (xs ++ rest)) k ∙ ap (λ i. take i (covered ++ rest)) n
       ∙ take-append_seam covered rest in
       let long : start + length new - start ≡ start + length covered - start = omega (arith, covered-long) in
-      ap (λ (xs : List ℕ). put_mid start (start + length new - start) xs back) (copied chars part new start e within)
+      ap (λ (xs : List ℕ). put_mid start (start + length new - start) xs back) e
       ∙ ap (λ i. put_mid start i (sets chars start new) back) long
       ∙ copied (sets chars start new) back covered start same (omega (arith, within, covered-long, length-sets chars start new))
       ∙ put_back

@@ -7,6 +7,7 @@ ghost use Rattle.build.specs.Results.{built_of, result_of};
 ghost use Rattle.exchange.specs.Changes.{Changeable};
 
 use crate::fault::target_of;
+use crate::put::put_bytes;
 use build::whole::build_checked;
 use refusal::Refusal;
 use script::drawing::Drawing;
@@ -47,7 +48,7 @@ fn exchange_short(
     let end = start + size;
     let mut old: [u8; 256] = [0; 256];
     old[..size].copy_from_slice(&characters[start..end]);
-    characters[start..end].copy_from_slice(new);
+    put_bytes(characters, start, new);
     let built = build_with(script, characters, nodes, attributes, text);
     let is_refused = built.is_err();
     if is_refused {
@@ -72,8 +73,7 @@ fn exchange_long(
         (length nodes.old) (length attributes.old) (length text.old)) }
 {
     build_with(script, characters, nodes, attributes, text)?;
-    let end = start + new.len();
-    characters[start..end].copy_from_slice(new);
+    put_bytes(characters, start, new);
     build_with(script, characters, nodes, attributes, text)
 }
 

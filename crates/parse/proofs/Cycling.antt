@@ -21,22 +21,30 @@ use Rattle.parse.specs.declared.State.{State}
 use Rattle.parse.specs.declared.met.Met.{Met}
 use Rattle.parse.specs.declared.met.Met.TheVariants.{Passed, Children, Copy, End}
 use Rattle.parse.specs.Met.{is_copied, next_of, Opens, first_of, level_built, outcome_of, rest_built, rest_nodes, rest_at}
-use Rattle.parse.specs.Met.{Reached, Copying, RestFit, MetNode, MetFirst, MetEnd, MetFit, PastFit}
+use Rattle.parse.specs.Met.{Reached, Copying, RestFit, MetNode, MetOr, MetFirst, MetEnd, MetFit, PastFit}
 use Rattle.parse.specs.Unbuilt.{Skipped}
 use Rattle.parse.proofs.Following.{each_first, leave-next, lies-next, then-refused, then-done}
 
--- A node met, and what is left of it.
+-- What is left behind a node that was met, or its refusal.
+abbrev rest_or : Drawing → ℕ → ℕ → State → Tree → Result Met Refusal → Out Tree
+rest_or drawing left i s u (Ok met) = rest_built drawing left i s u met
+rest_or drawing left i s u (Err j) = refused (number_of j)
+
+-- A node met, and what is left of it, built or refused, make the node.
+pub whole-node : (drawing : Drawing) (left origin p : ℕ) (xs : List Event) (low : ℕ) (t : Tree) (s' : State) (u : Tree)
+    (met : Result Met Refusal) → MetOr drawing left origin p xs low t s' u met → (v : Tree) (r : Result (Unit {0}) Refusal)
+    → outcome_of v r ≡ rest_or drawing left t.node_count s' u met → outcome_of v r ≡ first_of drawing left origin p xs t
+whole-node drawing left origin p xs low t s' u (Ok met) m v r told = told ∙ m.built
+whole-node drawing left origin p xs low t s' u (Err j) m v r told = told ∙ m
+
 module _ (drawing : Drawing) (left origin p : ℕ) (xs : List Event) (low : ℕ) (t : Tree) (s' : State) (u : Tree) (met : Met)
     (m : MetNode drawing left origin p xs low t s' u met) where
   pub whole-refused : (j : Refusal) → refused (number_of j) ≡ rest_built drawing left t.node_count s' u met
       → refused (number_of j) ≡ first_of drawing left origin p xs t
-  whole-refused j told = told ∙ m.built
+  whole-refused j told = whole-node drawing left origin p xs low t s' u (Ok met) m t (Err j) told
 
   module _ (s'' : State) (v : Tree) (told : done v ≡ rest_built drawing left t.node_count s' u met)
       (behind : Reached drawing s'.origin (rest_nodes drawing s' met) (rest_at s' met) u.node_count s'' v) where
-    pub whole-node : done v ≡ first_of drawing left origin p xs t
-    whole-node = told ∙ m.built
-
     pub whole-behind : Reached drawing origin (next_of xs) low t.node_count s'' v
     whole-behind = record {
       by = behind.by ∙ m.by;
@@ -189,7 +197,7 @@ module _ (drawing : Drawing) (left origin p : ℕ) (from : Cursor) (n : ℕ) (al
               ∙ ap (λ zs. each (node (plain drawing.characters.now) (document drawing) left) (children_from zero zs) s.origin (is_copied s.origin) p v)
               after.behind
               ∙ then-done v (first_of drawing left s.origin p xs t) others
-              (whole-node drawing left s.origin p xs (c.at + 1) t s' u met first.node s'' v built reached)
+              (whole-node drawing left s.origin p xs (c.at + 1) t s' u (Ok met) first.node v (Ok tt) built)
               ∙ whole first.opens;
         }
 
@@ -217,6 +225,12 @@ module _ (drawing : Drawing) (left p : ℕ) (s : State) (t : Tree) (h : Copying 
         → refused (number_of j) ≡ first_of drawing (left - 2) s.copier p ys t
     copy-refused j m = m.node ∙ at-less
 
+    pub copy-built : (met : Result Met Refusal) → MetFit drawing less s.copier p s.cursor t s₂ u met
+        → (v : Tree) (r : Result (Unit {0}) Refusal) → outcome_of v r ≡ rest_or drawing less t.node_count s₂ u met
+        → outcome_of v r ≡ first_of drawing (left - 2) s.copier p ys t
+    copy-built (Ok met) found v r told = told ∙ (copy-met less s₂ u met found).node.built ∙ at-less
+    copy-built (Err j) found v r told = told ∙ found.node ∙ at-less
+
     module _ (met : Met) (found : MetFit drawing less s.copier p s.cursor t s₂ u (Ok met)) where
       copied : MetFirst drawing less s.copier p s.cursor t s₂ u (Ok met)
       copied = copy-met less s₂ u met found
@@ -224,18 +238,14 @@ module _ (drawing : Drawing) (left p : ℕ) (s : State) (t : Tree) (h : Copying 
       pub copy_rest : RestFit drawing less t.node_count s₂ u met
       copy_rest = copied.node.rest
 
-      pub copy-built : (v : Tree) (r : Result (Unit {0}) Refusal) → outcome_of v r ≡ rest_built drawing less t.node_count s₂ u met
-          → outcome_of v r ≡ first_of drawing (left - 2) s.copier p ys t
-      copy-built v r told = told ∙ copied.node.built ∙ at-less
-
       pub copy-left : (j : Refusal) → refused (number_of j) ≡ rest_built drawing less t.node_count s₂ u met
           → refused (number_of j) ≡ first_of drawing (left - 2) s.copier p ys t
-      copy-left j told = copy-built t (Err j) told
+      copy-left j told = copy-built (Ok met) found t (Err j) told
 
       module _ (s₃ : State) (v : Tree) (told : done v ≡ rest_built drawing less t.node_count s₂ u met)
           (behind : Reached drawing s₂.origin (rest_nodes drawing s₂ met) (rest_at s₂ met) u.node_count s₃ v) where
         pub copy_done : done v ≡ first_of drawing (left - 2) s.copier p ys t
-        copy_done = copy-built v (Ok tt) told
+        copy_done = copy-built (Ok met) found v (Ok tt) told
 
         pub copy-reached : (s₄ : State) → PastFit drawing s.children s₃ s₄ →
             Reached drawing s.origin (leave 0 (events_at drawing s.children)) s.children.at t.node_count

@@ -7,7 +7,7 @@ pub mod remember;
 
 // The spaces that the nodes above the open one hand down, from the nearest on, as far as they are remembered: a bit for each, first those
 // of `top` below its highest bit, from the lowest on, then those of the words before the word `full`, the last of them first.
-#[derive(Drop)]
+#[derive(Clone, Copy)]
 pub struct Levels {
     pub words: [u64; 32],
     pub top: u64,

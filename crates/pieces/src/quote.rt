@@ -130,7 +130,7 @@ pub fn append_quoted(
     let size = total as u32;
     let end = put_place(drawing, text, counts.text, size, from, space);
     let node = NewNode {
-        kind: Kind::Text,
+        kind: u32::from(Kind::Text),
         code: 0,
         from: counts.text,
         to: end,

@@ -1,6 +1,6 @@
 // The spaces of the levels that are open inside a text element, a bit for each, so that none is looked for when a level closes. Words that
 // are full lie in an array; what has no room there any more is forgotten, and looked for in the tables.
-ghost use Rattle.std.specs.Prelude.{◌≡◌, ◌≤◌};
+ghost use Rattle.std.specs.Prelude.{◌≡◌, ◌≤◌, IfNone};
 ghost use Rattle.text.specs.Spaces.{space_in};
 ghost use Rattle.pieces.specs.Levels.{bit_of, Fresh, Pushed, SplitFit, AboveFit};
 
@@ -66,10 +66,12 @@ impl Levels {
         self.full = 0;
     }
 
-    // One level less: the nearest of the spaces that are remembered, and the others are left.
+    // One level less: the nearest of the spaces that are remembered, and the others are left. Where none is remembered, all stays as it is.
     pub fn pop(&mut self) -> Option<XmlSpace>
         requires { self.old.full ≤ 32 }
-        ensures { AboveFit self.old result self.new }
+        ensures above { AboveFit self.old result self.new }
+        ensures words { self.new.words ≡ self.old.words }
+        ensures none { IfNone result (self.new ≡ self.old) }
     {
         let top = self.top;
         if top >= 2 {

@@ -73,7 +73,8 @@ pub fn find_text(drawing: &Drawing, number: usize) -> Option<FoundText>
 fn nearest(number: usize, hint: Cursor) -> Cursor
     ensures { result ≡ pick (leb hint.number number) (λ u. hint) (λ u. at_start) }
 {
-    if hint.number <= number {
+    let is_before = hint.number <= number;
+    if is_before {
         return hint;
     }
     Cursor::start()
@@ -85,7 +86,7 @@ fn behind_command(drawing: &Drawing, c: Cursor) -> Option<Cursor>
     ensures some { IfSome result (Passed drawing.now c) }
     ensures none { IfNone result (IsLast drawing.now c) }
 {
-    match c.next(drawing) {
+    match c.next_inlined(drawing) {
         Step::Open(_, _, n)
         | Step::Attribute(_, _, _, n)
         | Step::Declaration(_, _, _, n)

@@ -3,11 +3,11 @@ ghost use Rattle.std.specs.Prelude.{◌≡◌, ◌+◌, ◌*◌, ◌<◌, ◌≤
 ghost use Rattle.model.specs.Tables.{entry_at};
 ghost use Rattle.model.specs.Questions.{counts_fit, is_placed, is_later, is_linked, is_range, is_filled};
 ghost use Rattle.model.specs.Questions.{is_node, is_entry, all_below, is_sound};
-ghost use Rattle.tree.specs.Lent.{plus_one, tree_of, nodes_of, nodes_read, entries_of, entry_of};
+ghost use Rattle.tree.specs.Lent.{tree_of, nodes_of, nodes_read, entries_of, entry_of};
 
 use names::{is_attribute, is_element};
 use tree::read::entry_at;
-use tree::word::{has_kind, node_link, node_word};
+use tree::word::{node_link, node_word};
 use tree::{Counts, Entry, Kind, word};
 
 // How many fixed values there are.
@@ -28,22 +28,26 @@ fn is_placed(nodes: &[u32], i: u32) -> bool
     requires { 8 * i + 7 < length nodes.now }
     ensures { result ≡ is_placed (nodes_read nodes.now) i }
 {
+    let kind = node_word(nodes, i, word::KIND);
     match node_link(nodes, i, word::PARENT) {
-        None => i == 0 && has_kind(nodes, i, Kind::Root),
+        None => i == 0 && kind == u32::from(Kind::Root),
         Some(parent) => {
-            parent < i && (has_kind(nodes, i, Kind::Element) || has_kind(nodes, i, Kind::Text))
+            parent < i && (kind == u32::from(Kind::Element) || kind == u32::from(Kind::Text))
         }
     }
 }
 
-// A sibling or child of node i: none, or larger than i within the count.
-fn is_later(counts: Counts, i: u32, link: Option<u32>) -> bool
-    ensures { result ≡ is_later (nodes_of [] counts) i (plus_one link) }
+// A sibling or child of node i, as the table has it, an index plus 1 and 0 for none: none, or larger than i within the count.
+fn is_later(counts: Counts, i: u32, w: u32) -> bool
+    ensures { result ≡ is_later (nodes_of [] counts) i w }
 {
-    match link {
-        Some(j) => i < j && j < counts.nodes,
-        None => true,
+    if w == 0 {
+        return true;
     }
+    if w - 1 <= i {
+        return false;
+    }
+    w <= counts.nodes
 }
 
 // Siblings and children have larger indexes; first and last child are both given or both not.
@@ -51,13 +55,16 @@ fn is_linked(nodes: &[u32], counts: Counts, i: u32) -> bool
     requires { 8 * i + 7 < length nodes.now }
     ensures { result ≡ is_linked (nodes_of nodes.now counts) i }
 {
-    let next = node_link(nodes, i, word::NEXT_SIBLING);
-    let first = node_link(nodes, i, word::FIRST_CHILD);
-    let last = node_link(nodes, i, word::LAST_CHILD);
-    is_later(counts, i, next)
-        && is_later(counts, i, first)
-        && is_later(counts, i, last)
-        && first.is_some() == last.is_some()
+    let next = node_word(nodes, i, word::NEXT_SIBLING);
+    let first = node_word(nodes, i, word::FIRST_CHILD);
+    let last = node_word(nodes, i, word::LAST_CHILD);
+    if !is_later(counts, i, next) || !is_later(counts, i, first) {
+        return false;
+    }
+    if first == 0 {
+        return last == 0;
+    }
+    last != 0 && is_later(counts, i, last)
 }
 
 // The range of node i lies in order inside a table with n taken.
@@ -75,10 +82,11 @@ fn is_filled(nodes: &[u32], counts: Counts, i: u32) -> bool
     requires { 8 * i + 7 < length nodes.now }
     ensures { result ≡ is_filled (nodes_of nodes.now counts) i }
 {
-    if has_kind(nodes, i, Kind::Element) {
+    let kind = node_word(nodes, i, word::KIND);
+    if kind == u32::from(Kind::Element) {
         return is_element(node_word(nodes, i, word::CODE)) && is_range(nodes, counts.attributes, i);
     }
-    !has_kind(nodes, i, Kind::Text) || is_range(nodes, counts.text, i)
+    kind != u32::from(Kind::Text) || is_range(nodes, counts.text, i)
 }
 
 // The turn of one node.
@@ -89,11 +97,18 @@ fn is_node(nodes: &[u32], counts: Counts, i: u32) -> bool
     is_placed(nodes, i) && is_linked(nodes, counts, i) && is_filled(nodes, counts, i)
 }
 
+// All nodes, the last first: where too many are counted, most often it is the last that is none.
+#[tactic(auto, unfolding(model::specs::Questions::all_below))]
 fn are_nodes(nodes: &[u32], counts: Counts) -> bool
     requires { 8 * counts.nodes ≤ length nodes.now }
     ensures { result ≡ all_below (is_node (nodes_of nodes.now counts)) counts.nodes }
 {
-    (0..counts.nodes).all(|i| is_node(nodes, counts, i))
+    for n in (0..counts.nodes).rev() {
+        if !is_node(nodes, counts, n) {
+            return false;
+        }
+    }
+    true
 }
 
 // The turn of one attribute entry: its name is in the list, and its value inside the characters or the fixed list.
@@ -108,11 +123,18 @@ fn is_entry(e: Entry, size: usize) -> bool
         }
 }
 
+// All entries, the last first.
+#[tactic(auto, unfolding(model::specs::Questions::all_below))]
 fn are_entries(attributes: &[u32], size: usize, count: u32) -> bool
     requires { 5 * count ≤ length attributes.now }
     ensures { result ≡ all_below (λ j. is_entry size (entry_at (entries_of attributes.now) j)) count }
 {
-    (0..count).all(|j| is_entry(entry_at(attributes, j), size))
+    for n in (0..count).rev() {
+        if !is_entry(entry_at(attributes, n), size) {
+            return false;
+        }
+    }
+    true
 }
 
 // Do the tables pass the test?

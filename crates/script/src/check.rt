@@ -393,7 +393,7 @@ fn advance(drawing: &Drawing, s: State, c: Cursor) -> Result<Option<(State, Curs
 {
     let characters = drawing.characters;
     let at = c.chars;
-    match c.next(drawing) {
+    match c.next_inlined(drawing) {
         Step::Open(name, space, n) => onward(judge_open(s, name, space), n),
         Step::Attribute(name, space, len, n) => onward(
             judge_attribute(characters, s, at, name, space, len),

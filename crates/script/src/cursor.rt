@@ -83,9 +83,18 @@ impl Cursor {
         }
     }
 
-    // The command at the cursor, with the cursor behind it. Every walk calls it in its loop.
-    #[inline(always)]
+    // The command at the cursor, with the cursor behind it.
     pub fn next(self, drawing: &Drawing) -> Step
+        requires { Fit drawing.now self }
+        ensures step { result ≡ step_at drawing.now self }
+        ensures going { Going drawing.now result }
+    {
+        self.next_inlined(drawing)
+    }
+
+    // The same, written into the caller: for walks that take every command in their own loop.
+    #[inline(always)]
+    pub fn next_inlined(self, drawing: &Drawing) -> Step
         requires { Fit drawing.now self }
         ensures step { result ≡ step_at drawing.now self }
         ensures going { Going drawing.now result }

@@ -70,7 +70,7 @@ pub fn find_mark(
     ensures fit { Fit drawing.now result.hint × (result.mark ≤ counts.nodes + 1) }
 {
     let name = cut_name(pass);
-    let kind = pass_kind(pass);
+    let kind = pass_kind(u32::from(pass));
     let found = link_of(drawing, marks, nodes, attributes, m, name, kind, hint);
     let Some(p) = found.part else {
         return FoundMark {

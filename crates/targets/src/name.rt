@@ -17,6 +17,14 @@ pub enum Pass {
     FeImage = 6,
 }
 
+impl From<Pass> for u32 {
+    ghost from_gives = { λ pass n. n ≡ pass_number pass };
+
+    fn from(pass: Pass) -> u32 {
+        pass as u32
+    }
+}
+
 // The attribute that a pass cuts.
 #[tactic(auto, unfolding(model::specs::Repair::cut_name))]
 pub fn cut_name(pass: Pass) -> u32
@@ -31,12 +39,10 @@ pub fn cut_name(pass: Pass) -> u32
     }
 }
 
-// The kind of reading by which it leads.
-pub fn pass_kind(pass: Pass) -> u8
-    ensures { result ≡ pass_kind (pass_number pass) }
+// The kind of reading by which the pass with that number leads: any number has one.
+pub fn pass_kind(pass: u32) -> u8
+    ensures { result ≡ pass_kind pass }
 {
-    match pass {
-        Pass::PatternFill | Pass::PatternStroke => 3,
-        _ => 2,
-    }
+    let is_pattern = pass <= 2;
+    if is_pattern { 3 } else { 2 }
 }

@@ -70,7 +70,7 @@ pub fn append_text(
         space,
     );
     let node = NewNode {
-        kind: Kind::Text,
+        kind: u32::from(Kind::Text),
         code: 0,
         from: counts.text,
         to: end,

@@ -34,10 +34,11 @@ impl From<Kind> for u32 {
     }
 }
 
-// What the record of a new node says of it: the element code, and its entries or the bytes of its text.
+// What the record of a new node says of it: its kind, by number, since a record takes any word as one; the element code; and its entries
+// or the bytes of its text.
 #[derive(Clone, Copy)]
 pub struct NewNode {
-    pub kind: Kind,
+    pub kind: u32,
     pub code: u32,
     pub from: u32,
     pub to: u32,

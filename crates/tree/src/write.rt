@@ -2,7 +2,7 @@
 ghost use Rattle.std.specs.Prelude.{◌≡◌, [], ◌∷◌, ◌+◌, ◌-◌, ◌*◌, ◌<◌, ◌≤◌, length, replicate, IfSome};
 ghost use Rattle.std.proofs.lemmas.List.Edits.{sets};
 ghost use Rattle.model.specs.Tables.{word, set_word, to_of, next_linked, first_linked, linked, appended, entry_words, set_text, set_none};
-ghost use Rattle.tree.specs.Lent.{plus_one, number_of_kind, entries_of, texts_of, entry_of};
+ghost use Rattle.tree.specs.Lent.{plus_one, entries_of, texts_of, entry_of};
 
 use crate::word::{node_link, node_word};
 use crate::{Entry, Kind, NewNode, word};
@@ -19,18 +19,9 @@ pub fn set_word(nodes: &mut [u32], i: u32, k: usize, value: u32)
 #[tactic(auto, using(crate::proofs::Stores::part_sets))]
 fn put_record(nodes: &mut [u32], i: u32, p: u32, node: NewNode)
     requires { (8 * i + 7 < length nodes.old) × (p < 4294967295) }
-    ensures { nodes.new ≡ sets nodes.old (8 * i) (number_of_kind node.kind ∷ (p + 1) ∷ 0 ∷ 0 ∷ 0 ∷ node.code ∷ node.from ∷ node.to ∷ []) }
+    ensures { nodes.new ≡ sets nodes.old (8 * i) (node.kind ∷ (p + 1) ∷ 0 ∷ 0 ∷ 0 ∷ node.code ∷ node.from ∷ node.to ∷ []) }
 {
-    let record = [
-        u32::from(node.kind),
-        p + 1,
-        0,
-        0,
-        0,
-        node.code,
-        node.from,
-        node.to,
-    ];
+    let record = [node.kind, p + 1, 0, 0, 0, node.code, node.from, node.to];
     let at = 8 * (i as usize);
     nodes[at..at + 8].copy_from_slice(&record);
 }
@@ -73,7 +64,7 @@ fn link(nodes: &mut [u32], p: u32, i: u32)
 #[tactic(auto, unfolding(model::specs::Tables::appended))]
 pub fn append(nodes: &mut [u32], node: NewNode, p: u32, i: u32)
     requires { (8 * i + 7 < length nodes.old) × (p < i) × (i < 4294967295) × (word nodes.old p 4 ≤ i) }
-    ensures { nodes.new ≡ appended (number_of_kind node.kind) node.code node.from node.to nodes.old p i }
+    ensures { nodes.new ≡ appended node.kind node.code node.from node.to nodes.old p i }
 {
     put_record(nodes, i, p, node);
     link(nodes, p, i);

@@ -8,6 +8,27 @@ use script::drawing::Drawing;
 use std::alloc::Global;
 use std::io::{self, Read, Write};
 
+// The most that a vector of build or exchange has: a length that is greater counts as this one, and what follows in the input is read as
+// what comes behind that part.
+const SCRIPT: u32 = 8192;
+
+const CHARACTERS: u32 = 1024;
+
+const NEW_BYTES: u32 = 64;
+
+// The most words and bytes of the tables that are lent to build, and to exchange.
+const BUILT_NODES: u32 = 73728;
+
+const BUILT_ATTRIBUTES: u32 = 46080;
+
+const BUILT_TEXT: u32 = 4096;
+
+const EXCHANGED_NODES: u32 = 2048;
+
+const EXCHANGED_ATTRIBUTES: u32 = 1024;
+
+const EXCHANGED_TEXT: u32 = 128;
+
 // How many words there are up to the last that is not 0.
 fn used(words: &[u32]) -> usize
     ensures { result ≤ length words.now }
@@ -87,11 +108,11 @@ pub fn run_build<R: Read, W: Write>(alloc: Global, from: &mut R, to: &mut W) -> 
     let n = input::number(from)?;
     let m = input::number(from)?;
     let t = input::number(from)?;
-    let script = input::bytes(alloc, from, a)?;
-    let characters = input::bytes(alloc, from, b)?;
-    let mut nodes = vec![in alloc; 7u32; n as usize]?;
-    let mut attributes = vec![in alloc; 7u32; m as usize]?;
-    let mut text = vec![in alloc; 7u8; t as usize]?;
+    let script = input::bytes(alloc, from, a.min(SCRIPT))?;
+    let characters = input::bytes(alloc, from, b.min(CHARACTERS))?;
+    let mut nodes = vec![in alloc; 7u32; n.min(BUILT_NODES) as usize]?;
+    let mut attributes = vec![in alloc; 7u32; m.min(BUILT_ATTRIBUTES) as usize]?;
+    let mut text = vec![in alloc; 7u8; t.min(BUILT_TEXT) as usize]?;
     build_drawing(
         to,
         &script,
@@ -111,12 +132,12 @@ pub fn run_exchange<R: Read, W: Write>(alloc: Global, from: &mut R, to: &mut W) 
     let t = input::number(from)?;
     let number = input::number(from)?;
     let e = input::number(from)?;
-    let script = input::bytes(alloc, from, a)?;
-    let mut characters = input::bytes(alloc, from, b)?;
-    let new = input::bytes(alloc, from, e)?;
-    let mut nodes = vec![in alloc; 7u32; n as usize]?;
-    let mut attributes = vec![in alloc; 7u32; m as usize]?;
-    let mut text = vec![in alloc; 7u8; t as usize]?;
+    let script = input::bytes(alloc, from, a.min(SCRIPT))?;
+    let mut characters = input::bytes(alloc, from, b.min(CHARACTERS))?;
+    let new = input::bytes(alloc, from, e.min(NEW_BYTES))?;
+    let mut nodes = vec![in alloc; 7u32; n.min(EXCHANGED_NODES) as usize]?;
+    let mut attributes = vec![in alloc; 7u32; m.min(EXCHANGED_ATTRIBUTES) as usize]?;
+    let mut text = vec![in alloc; 7u8; t.min(EXCHANGED_TEXT) as usize]?;
     exchange_text(
         to,
         &script,

@@ -5,6 +5,18 @@ use script::drawing::Drawing;
 use std::alloc::Global;
 use std::io::{self, Read, Write};
 
+// The most that a vector has: a length that is greater counts as this one, and what follows in the input is read as what comes behind
+// that part. Of a drawing to check, script and characters each; of tables that are asked about, words, bytes of text, characters; an id.
+const CHECKED: u32 = 16384;
+
+const ASKED_WORDS: u32 = 512;
+
+const ASKED_TEXT: u32 = 256;
+
+const ASKED_CHARACTERS: u32 = 512;
+
+const ID: u32 = 64;
+
 pub fn say<W: Write>(to: &mut W, n: u32) -> io::Result<()> {
     write!(to, "{n}")
 }
@@ -21,8 +33,8 @@ pub fn line<W: Write>(to: &mut W) -> io::Result<()> {
 pub fn run_check<R: Read, W: Write>(alloc: Global, from: &mut R, to: &mut W) -> io::Result<()> {
     let n = input::number(from)?;
     let m = input::number(from)?;
-    let script = input::bytes(alloc, from, n)?;
-    let characters = input::bytes(alloc, from, m)?;
+    let script = input::bytes(alloc, from, n.min(CHECKED))?;
+    let characters = input::bytes(alloc, from, m.min(CHECKED))?;
     let judged = script::check::check(&Drawing {
         script: &script,
         characters: &characters,
@@ -87,7 +99,7 @@ fn ask_id<R: Read, W: Write>(
     counts: tree::Counts,
 ) -> io::Result<()> {
     let n = input::number(from)?;
-    let id = input::bytes(alloc, from, n)?;
+    let id = input::bytes(alloc, from, n.min(ID))?;
     let found = questions::question::element_by_id(
         nodes, attributes, text, characters, counts, &id,
     );
@@ -147,10 +159,10 @@ pub fn run_questions<R: Read, W: Write>(alloc: Global, from: &mut R, to: &mut W)
         attributes: input::number(from)?,
         text: input::number(from)?,
     };
-    let nodes = input::numbers(alloc, from, n)?;
-    let attributes = input::numbers(alloc, from, m)?;
-    let text = input::bytes(alloc, from, t)?;
-    let characters = input::bytes(alloc, from, c)?;
+    let nodes = input::numbers(alloc, from, n.min(ASKED_WORDS))?;
+    let attributes = input::numbers(alloc, from, m.min(ASKED_WORDS))?;
+    let text = input::bytes(alloc, from, t.min(ASKED_TEXT))?;
+    let characters = input::bytes(alloc, from, c.min(ASKED_CHARACTERS))?;
     ask_all(
         alloc,
         from,

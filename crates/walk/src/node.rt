@@ -88,7 +88,7 @@ pub fn past_others(drawing: &Drawing, from: Cursor) -> Cursor
     ensures { Others drawing.now from result }
 {
     let mut c = from;
-    while let Step::Other(n) = c.next(drawing) {
+    while let Step::Other(n) = c.next_inlined(drawing) {
         c = n;
     }
     c

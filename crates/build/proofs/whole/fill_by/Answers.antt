@@ -16,7 +16,7 @@ pub returns-in-Err : goal.returns-in-Err
 returns-in-Err c =
     let told = c.parse_xml_node_children-built.ensures.outcome
     ∙ all-behind _ _ _ _ c.requires.rooted _ c.start.ensures _ _ c.pass_unbuilt.ensures refl refl refl in
-    c.refuse.ensures _
+    c.refuse_build.ensures _
     ∙ fill-refused _ _ _ _ c.requires.rooted _ c.start.ensures _ _ _ _ _ told (search rules) (search rules) (search rules) _ c.in-Err.is
 
 pub finish-requires : goal.finish-requires

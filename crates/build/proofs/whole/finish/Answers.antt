@@ -5,7 +5,7 @@ use Rattle.build.proofs.whole.finish.Goals as goal
 
 pub returns-then-not-first_is_svg : goal.returns-then-not-first_is_svg
 returns-then-not-first_is_svg c =
-    c.refuse.ensures _
+    c.refuse_build.ensures _
     ∙ finish-refused _ _ _ _ _ c.requires _
     c.first_is_svg.ensures _
     c.if-not-first_is_svg.true

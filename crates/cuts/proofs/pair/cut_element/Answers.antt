@@ -15,7 +15,7 @@ returns-in_default-key_of-clause-tables c =
     let below = c.behind_below-end.ensures in
     element-unled c.args.drawing.now _ _ c.args.counts _ _ _ _ _ below c.cut_name-name.ensures
     c.in-Some.ensures.within.0 (omega (arith, c.in-Some.ensures.within.1)) c.in-Some.ensures.none
-    (pass-first c.args.pass) c.requires.pass_bound (sym c.in_default-key_of.ensures.same)
+    (pass-first c.args.pass) c.requires.pass_bound (sym (rw c.from.ensures at c.in_default-key_of.ensures.same))
 
 pub returns-clause-tables : goal.returns-clause-tables
 returns-clause-tables c =

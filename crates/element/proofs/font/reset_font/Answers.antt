@@ -1,7 +1,7 @@
 use Rattle.std.proofs.lemmas.Result.{err_from_is_err_and}
 use Rattle.model.specs.Names.{font_resets}
 use Rattle.element.specs.Font.{reset_as}
-use Rattle.element.proofs.Fonts.{rows-from, rows_end, resets-steady}
+use Rattle.element.proofs.Fonts.{resets-from, rows_end, resets-steady}
 use Rattle.entries.proofs.Steps.{at_first, step-on, step-full, at-end}
 use Rattle.element.proofs.font.reset_font.Goals as goal
 
@@ -12,13 +12,13 @@ pub returns-in_err-n : goal.returns-in_err-n
 unfolding font_resets
 returns-in_err-n c =
     let p = err_from_is_err_and c.from_residual.result c.from_residual.ensures.1 in
-    let left = rw (rows-from font_resets c.loop-name.name-index (0, 0) c.loop-name-test.true) at c.loop-name.invariant in
+    let left = rw (resets-from c.loop-name.name-index c.loop-name-test.true) at c.loop-name.invariant in
     step-full _ _ _ (resets-steady _ _ _) _ _ _ _ _ left _ _ c.insert_entry.ensures _ _ _ c.in_err-n.was p.1 p.2
 
 pub loop-name-preserved : goal.loop-name-preserved
 unfolding font_resets
 loop-name-preserved c =
-    let left = rw (rows-from font_resets c.loop-name.name-index (0, 0) c.loop-name-test.true) at c.loop-name.invariant in
+    let left = rw (resets-from c.loop-name.name-index c.loop-name-test.true) at c.loop-name.invariant in
     step-on _ _ _ (resets-steady _ _ _) _ _ _ _ _ left _ _ c.insert_entry.ensures _ c.in_ok-n.was
 
 pub returns : goal.returns

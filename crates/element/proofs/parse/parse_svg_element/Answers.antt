@@ -61,6 +61,6 @@ returns c =
           ready _ room _ bs _ c.args.e _ _ step _
           here c.if-counts-gt-MOST_NODES.false
           (rw (← c.node_room.ensures)
-          c.if-node_room-counts.false) _ c.append.ensures;
+          c.if-node_room-counts.false) _ (rw c.from.ensures at c.append.ensures);
       behind = c.in_ok-run.ensures.behind;
     }

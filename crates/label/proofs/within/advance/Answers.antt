@@ -46,7 +46,7 @@ returns-in-Some c =
     (c.next_item.ensures.same, c.next_item.ensures.fit) in
     goes-known _ _ _ _ _ _ within _ closed.1 closed.0
     c.if-s-e.false _
-    c.node_word-up.ensures _ recalled _ _ (rw c.in-Some.is at c.pop.ensures)
+    c.node_word-up.ensures _ recalled _ _ (rw c.in-Some.is at c.pop.ensures.above)
 
 pub returns-in-None : goal.returns-in-None
 returns-in-None c =

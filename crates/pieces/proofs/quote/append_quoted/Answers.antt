@@ -100,4 +100,4 @@ returns c =
     c.if-node_room-counts.false _ _ _
     c.put_place-end.ensures.end
     c.put_place-end.ensures.text
-    c.append.ensures
+    (rw c.from.ensures at c.append.ensures)

@@ -25,4 +25,4 @@ pub returns-in-Open-7-clause-some : goal.returns-in-Open-7-clause-some
 returns-in-Open-7-clause-some c = record { command = _; here = told _ _ _ _ refl c.in-Open.ensures.step; fit = c.in-Open.ensures.going }
 
 pub returns-in-Broken-clause-none : goal.returns-in-Broken-clause-none
-returns-in-Broken-clause-none c = none-behind _ _ _ c.in-Broken.is c.next.ensures.step
+returns-in-Broken-clause-none c = none-behind _ _ _ c.in-Broken.is c.next_inlined.ensures.step

@@ -8,11 +8,11 @@ link_of-found-requires-clause-readable_in c = readable-in _ _ c.requires.kept _ 
 
 pub returns-in_default-clause-same : goal.returns-in_default-clause-same
 returns-in_default-clause-same c =
-    mark-nowhere _ _ _ _ c.args.counts _ _ _ _ c.cut_name-name.ensures c.pass_kind-kind.ensures
+    mark-nowhere _ _ _ _ c.args.counts _ _ _ _ c.cut_name-name.ensures (rw c.from.ensures at c.pass_kind-kind.ensures)
     (rw c.in_default.is at c.link_of-found.ensures.same)
 
 pub returns-clause-same : goal.returns-clause-same
 unfolding part_at
 returns-clause-same c =
-    mark-there _ _ _ _ c.args.counts _ _ _ _ c.cut_name-name.ensures c.pass_kind-kind.ensures _
+    mark-there _ _ _ _ c.args.counts _ _ _ _ c.cut_name-name.ensures (rw c.from.ensures at c.pass_kind-kind.ensures) _
     (rw c.in-Some.is at c.link_of-found.ensures.same) _ c.part_at-id.ensures _ c.mark_for-mark.ensures.same

@@ -4,7 +4,7 @@ use Rattle.model.specs.Drawing.{opening, attribute, declaration, reading, text, 
 use Rattle.script.proofs.Commands.{ended, cut, nothing, open-here, attribute-here, declaration-here, reading-here, text-here}
 use Rattle.script.proofs.Commands.{other-here, close-here, passing}
 use borrow.Author.Rules.{rules}
-use Rattle.script.proofs.cursor.Cursor.next.Goals as goal
+use Rattle.script.proofs.cursor.Cursor.next_inlined.Goals as goal
 
 pub returns-then-script-at : goal.returns-then-script-at
 returns-then-script-at c =
