@@ -155,8 +155,10 @@ pub fn build(
         ≡ build drawing.now.script.now drawing.now.characters.now (length nodes.old) (length attributes.old)
         (length text.old) }
 {
-    match check(drawing) {
-        Ok(()) => build_checked(drawing, nodes, attributes, text),
-        Err(refusal) => refuse_build(nodes, attributes, text, refusal),
+    let checked = check(drawing);
+    let is_refused = checked.is_err();
+    if is_refused {
+        return refuse_build(nodes, attributes, text, checked.unwrap_err());
     }
+    build_checked(drawing, nodes, attributes, text)
 }

@@ -7,7 +7,6 @@ use native.Mathlib.Omega.{arith}
 use Rattle.std.proofs.Common.{Result, Ok, Err}
 use Rattle.refusal.specs.declared.Refusal.{Refusal}
 use Rattle.refusal.specs.declared.Refusal.TheVariants.{AttributesFull}
-use Rattle.refusal.specs.Number.{number_of}
 use borrow.Author.Tests.{le-leb, lt-leb, leb-true, lt-ltb, le-ltb}
 use lib.Dec.{leb, ltb}
 use lib.ListN.{length}
@@ -150,10 +149,18 @@ module _ (ns ats : List ℕ) (c : Counts) (p tag : ℕ) (ready : Ready ns ats c 
     whole = rw (entries-alike, is) refl
 
     module _ (r : Result Run Refusal) (m : List ℕ) (step : Leaves ats at es (stored_of r) m) where
-      pub no_room : (d : Refusal) → r ≡ Err d → refused (number_of d) ≡ parse_svg_element (element_of drawing e) tag ignored p t
+      pub no_room : (d : Refusal) → r ≡ Err d →
+          (d ≡ AttributesFull) × (refused 23 ≡ parse_svg_element (element_of drawing e) tag ignored p t)
       no_room d q =
           let h = full-answer (leb (c.attributes + length es) room) (c.attributes + length es) d (sym (ap stored_of q) ∙ step.answer) in
-          ap (λ (x : Refusal). refused (number_of x)) h.1 ∙ sym (whole ∙ rw h.0 refl)
+          (h.1, sym (whole ∙ rw h.0 refl))
+
+      pub no_entry : ((x : Run) → r ≡ Ok x → ⊥) → refused 23 ≡ parse_svg_element (element_of drawing e) tag ignored p t
+      no_entry unstored = go r refl
+        where
+          go : (o : Result Run Refusal) → r ≡ o → refused 23 ≡ parse_svg_element (element_of drawing e) tag ignored p t
+          go (Ok x) q = absurd (unstored x q)
+          go (Err d) q = (no_room d q).1
 
       module _ (x : Run) (q : r ≡ Ok x) where
         room-told : (leb (c.attributes + length es) room ≡ true) × (x.next ≡ c.attributes + length es)

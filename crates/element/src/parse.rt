@@ -76,7 +76,9 @@ pub fn parse_svg_element(
         room: attribute_room(attributes),
     };
     let stored = store_entries(drawing, nodes, attributes, place, ignored, e.inside);
-    let run = stored?;
+    let Ok(run) = stored else {
+        return Err(Refusal::AttributesFull);
+    };
     if counts.nodes > MOST_NODES {
         return Err(Refusal::ElementsLimitReached);
     }

@@ -16,9 +16,7 @@ use Rattle.model.proofs.Theorems.Inside.{first-drop}
 use Rattle.script.specs.Step.{mark_of}
 use Rattle.places.specs.declared.seek.FoundText.{FoundText}
 use Rattle.std.specs.Prelude.{Option, Some, None, Result, Ok, Err}
-use Rattle.std.specs.Option.{ok_or}
 use Rattle.refusal.specs.declared.Refusal.{Refusal}
-use Rattle.refusal.specs.declared.Refusal.TheVariants.{NoSuchText}
 use Rattle.refusal.specs.Number.{number_of, answer_of}
 use Rattle.refusal.proofs.Number.{number_nonzero}
 use Rattle.places.specs.Seeks.{source_of, style_of}
@@ -38,11 +36,6 @@ first-miss n b ts e = rw e refl
 abbrev pub fault_of : Bool → ℕ → List ℕ → ℕ
 fault_of style len new = first_of (31 if style ∷ 32 if not (eqb (length new) len) ∷ 33 if not (is_utf8 new) ∷ [])
 
--- The number of a search that is refused.
-abbrev refusal_number : Result FoundText Refusal → ℕ
-refusal_number (Ok x) = 0
-refusal_number (Err j) = number_of j
-
 module _ (script chars : List ℕ) (t : ℕ) (new : List ℕ) where
   pub check-fault : (r : Result (Unit {0}) Refusal) → answer_of r ≡ check script chars → (j : Refusal) → r ≡ Err j
       → exchange_fault script chars t new ≡ number_of j
@@ -55,13 +48,6 @@ module _ (script chars : List ℕ) (t : ℕ) (new : List ℕ) where
       (style : style_of r ≡ is_in_style t zero (events script chars)) where
     pub no_text : r ≡ None → exchange_fault script chars t new ≡ 30
     no_text e = fault-30 script chars t new checked (sym text ∙ ap (source_of chars) e)
-
-    pub not-found : (j : Refusal) → ok_or r NoSuchText ≡ Err j → exchange_fault script chars t new ≡ number_of j
-    not-found j q = go r refl q
-      where
-        go : (o : Option FoundText) → r ≡ o → ok_or o NoSuchText ≡ Err j → exchange_fault script chars t new ≡ number_of j
-        go None p e = no_text p ∙ ap refusal_number e
-        go (Some x) p e = cc
 
     module _ (x : FoundText) (at : r ≡ Some x) where
       abbrev a : Source

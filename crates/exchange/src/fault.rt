@@ -32,7 +32,9 @@ pub fn target_of(drawing: &Drawing, number: u32, new: &[u8]) -> Result<usize, Re
     ensures { TargetFit drawing.now.script.now drawing.now.characters.now number new.now result }
 {
     check(drawing)?;
-    let found = find_text(drawing, number as usize).ok_or(Refusal::NoSuchText)?;
+    let Some(found) = find_text(drawing, number as usize) else {
+        return Err(Refusal::NoSuchText);
+    };
     text_fault(found.len, found.in_style, new)?;
     Ok(found.own.chars)
 }

@@ -72,7 +72,11 @@ fn exchange_long(
         ≡ settled characters.old (build script.now (sets characters.old start new.now)
         (length nodes.old) (length attributes.old) (length text.old)) }
 {
-    build_with(script, characters, nodes, attributes, text)?;
+    let before = build_with(script, characters, nodes, attributes, text);
+    let is_refused = before.is_err();
+    if is_refused {
+        return before;
+    }
     put_bytes(characters, start, new);
     build_with(script, characters, nodes, attributes, text)
 }

@@ -222,6 +222,10 @@ pub no-attribute-at : (drawing : Drawing) (from c : Cursor) (a : Step) → ((x y
     → Reach (rest_from drawing.characters.now) drawing from c → AttributeIs drawing from (Err c)
 no-attribute-at drawing from c a p q h r = attributes-end drawing from c r a (told drawing c a a refl h.0) h.1 p q
 
+pub declared-at : (drawing : Drawing) (from c : Cursor) (a : Step) (x y l : ℕ) (n : Cursor) → a ≡ step.Declaration x y l n
+    → (a ≡ step_at drawing c) × (Going drawing a) → Reach (rest_from drawing.characters.now) drawing from c → AttributeIs drawing from (Err c)
+declared-at drawing from c a x y l n e = no-attribute-at drawing from c a (λ i j k m f. absurd cc) (λ i j k m f. absurd cc)
+
 pub attribute-at : (drawing : Drawing) (from c : Cursor) (a b : Step) → a ≡ b → (a ≡ step_at drawing c) × (Going drawing a)
     → Reach (rest_from drawing.characters.now) drawing from c → AttributeAt drawing from c b
 attribute-at drawing from c a b e h r = attribute-of drawing from c r b (told drawing c a b e h.0) (goes drawing a b e h.1)

@@ -78,6 +78,9 @@ pub fn next_attribute(drawing: &Drawing, from: Cursor) -> Result<Named, Cursor>
             Step::Reading(_, _, _, behind) => {
                 c = behind;
             }
+            Step::Declaration(_, _, _, _) => {
+                return Err(c);
+            }
             _ => {
                 return Err(c);
             }

@@ -1,5 +1,6 @@
 use borrow.Author.Tests.{eq-eqb}
-use mathlib.Core.Path.{sym, ◌∙◌}
+use mathlib.Core.Path.{sym}
+use native.Mathlib.Omega.{arith}
 use Rattle.model.specs.AId
 use Rattle.model.specs.Drawing.{part_at}
 use Rattle.model.specs.Element.{add_attribute}
@@ -23,7 +24,7 @@ returns-then-is_unprefixed c =
       is_some _ _ _ c.requires.space AId.Href _ c.in-Some.ensures.found,
     )
     (href-over _ _ _ c.requires.space _ c.in-Some.ensures.found _ c.args.value
-    (c.from.ensures ∙ c.if-is_unprefixed.true) _ c.put_value.ensures)
+    (omega (arith, c.from.ensures, c.if-is_unprefixed.true)) _ c.put_value.ensures)
 
 pub returns-else-is_unprefixed : goal.returns-else-is_unprefixed
 unfolding add_attribute part_at
@@ -35,4 +36,4 @@ returns-else-is_unprefixed c =
       eq-eqb _ _ c.if-code-ne-HREF.false,
       is_some _ _ _ c.requires.space AId.Href _ c.in-Some.ensures.found,
     )
-    (href-skipped _ _ _ c.requires.space _ c.in-Some.ensures.found _ c.args.value (λ z. c.if-is_unprefixed.false (sym c.from.ensures ∙ z)))
+    (href-skipped _ _ _ c.requires.space _ c.in-Some.ensures.found _ c.args.value (λ z. omega (arith, c.from.ensures, c.if-is_unprefixed.false, z)))

@@ -1,4 +1,5 @@
-use mathlib.Core.Path.{refl, sym, ◌∙◌}
+use borrow.Author.Rules.{rules}
+use mathlib.Core.Path.{refl}
 use Rattle.exchange.proofs.Bytes.{undone}
 use Rattle.exchange.proofs.Settling.{not-refused, is-refused, after-put, change-stays, change-undone}
 use Rattle.exchange.proofs.whole.exchange_short.Goals as goal
@@ -12,7 +13,7 @@ pub returns-then-is_refused : goal.returns-then-is_refused
 returns-then-is_refused c =
     let change = c.requires.changeable in
     change-undone _ _ _ _ change _ _ _ _ _ _ _ _ c.put_bytes.ensures
-    c.build_with-built.ensures (is-refused _ (sym c.is_err-is_refused.ensures.value ∙ c.if-is_refused.true)) _
+    c.build_with-built.ensures (is-refused _ (search rules)) _
     (undone _ _ _ change.within _ _ _ _ _ refl c.copy_from_slice.ensures.after c.copy_from_slice-then-is_refused.ensures.after
     c.put_bytes.ensures)
 
@@ -20,4 +21,4 @@ pub returns-else-is_refused : goal.returns-else-is_refused
 returns-else-is_refused c =
     let change = c.requires.changeable in
     change-stays _ _ _ _ change _ _ _ _ _ _ _ _ c.put_bytes.ensures
-    c.build_with-built.ensures (not-refused _ (sym c.is_err-is_refused.ensures.value ∙ c.if-is_refused.false))
+    c.build_with-built.ensures (not-refused _ (search rules))

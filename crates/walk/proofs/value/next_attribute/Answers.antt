@@ -1,5 +1,5 @@
 use native.Mathlib.Omega.{arith}
-use Rattle.walk.proofs.Walks.{reach-none, attribute-at, no-attribute-at}
+use Rattle.walk.proofs.Walks.{reach-none, attribute-at, no-attribute-at, declared-at}
 use Rattle.walk.proofs.value.next_attribute.Goals as goal
 
 pub loop-name-init : goal.loop-name-init
@@ -28,6 +28,11 @@ pub loop-name-preserved : goal.loop-name-preserved
 loop-name-preserved c =
     (attribute-at _ _ _ _ _ c.in-Reading.is (c.next.ensures.step, c.next.ensures.going)
     c.loop-name.invariant).reach
+
+pub returns-in-Declaration : goal.returns-in-Declaration
+returns-in-Declaration c =
+    let whole = declared-at _ _ _ _ _ _ _ _ c.in-Declaration.is (c.next.ensures.step, c.next.ensures.going) c.loop-name.invariant in
+    record { same = whole.0; fit = whole.1 }
 
 pub returns-in_default : goal.returns-in_default
 returns-in_default c =
