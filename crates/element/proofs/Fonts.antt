@@ -33,21 +33,29 @@ use Rattle.entries.proofs.Storing.{same_entries}
 use Rattle.entries.proofs.Inserting.{inserts-more, append-on}
 use Rattle.entries.proofs.Steps.{Steady}
 
--- The rows of a table as pairs, and the rows from k on.
+-- The rows of a table as pairs, and the rows from k on, the first of them by its pair.
 abbrev pub pairs_of : List Pair → List (ℕ × ℕ)
 pairs_of [] = []
 pairs_of (r ∷ rows) = (r.key, r.value) ∷ pairs_of rows
 
--- Row k of a table, and two tables beside each other as rows.
+pub rows-from : (rows : List Pair) (k : ℕ) (d : ℕ × ℕ) → k < length (pairs_of rows) →
+    drop k rows ≡ ((get_or (pairs_of rows) k d).0 gives (get_or (pairs_of rows) k d).1) ∷ drop (k + 1) rows
+rows-from [] k d h = absurd (omega arith)
+rows-from (r ∷ rows) zero d h = refl
+rows-from (r ∷ rows) (suc k) d h =
+    let e : suc k + 1 ≡ suc (k + 1) = omega arith in
+    rw e (rows-from rows k d (omega arith))
+
+-- Row k of a table, the rows from k on as that row and those behind it, and two tables beside each other as rows.
 abbrev pub row_of : List Pair → ℕ → Pair
 row_of rows k = get_or rows k (0 gives 0)
 
-pub rows-from : (rows : List Pair) (k : ℕ) → k < length (pairs_of rows) → drop k rows ≡ row_of rows k ∷ drop (k + 1) rows
-rows-from [] k h = absurd (omega arith)
-rows-from (r ∷ rows) zero h = refl
-rows-from (r ∷ rows) (suc k) h =
+pub rows-at : (rows : List Pair) (k : ℕ) → k < length (pairs_of rows) → drop k rows ≡ row_of rows k ∷ drop (k + 1) rows
+rows-at [] k h = absurd (omega arith)
+rows-at (r ∷ rows) zero h = refl
+rows-at (r ∷ rows) (suc k) h =
     let e : suc k + 1 ≡ suc (k + 1) = omega arith in
-    rw e (rows-from rows k (omega arith))
+    rw e (rows-at rows k (omega arith))
 
 pub rows_end : (rows : List Pair) (k : ℕ) → length (pairs_of rows) ≤ k → drop k rows ≡ []
 rows_end [] k h = drop-nil k
@@ -91,13 +99,13 @@ pub resets-from : (k : ℕ) → k < length (pairs_of font_resets) → drop k fon
     ≡ ((get_or (pairs_of font_resets) k (0, 0)).0 gives (get_or (pairs_of font_resets) k (0, 0)).1) ∷ drop (k + 1) font_resets
 unfolding font_resets
 resets-from k h =
-    rows-from font_resets k h ∙ ap (λ r. r ∷ drop (k + 1) font_resets) (sym (pair-at (pairs_of font_resets) k ∙ reset-row k))
+    rows-at font_resets k h ∙ ap (λ r. r ∷ drop (k + 1) font_resets) (sym (pair-at (pairs_of font_resets) k ∙ reset-row k))
 
 pub parts-from : (k : ℕ) → k < length (pairs_of font_parts) → drop k font_parts
     ≡ ((get_or (pairs_of font_parts) k (0, 0)).0 gives (get_or (pairs_of font_parts) k (0, 0)).1) ∷ drop (k + 1) font_parts
 unfolding font_parts
 parts-from k h =
-    rows-from font_parts k h ∙ ap (λ r. r ∷ drop (k + 1) font_parts) (sym (pair-at (pairs_of font_parts) k ∙ part-row k))
+    rows-at font_parts k h ∙ ap (λ r. r ∷ drop (k + 1) font_parts) (sym (pair-at (pairs_of font_parts) k ∙ part-row k))
 
 -- A reset does not hang on the table.
 pub resets-steady : (ats : List ℕ) (place : Place) (important : ℕ) → Steady (λ m. reset_as important) ats place
