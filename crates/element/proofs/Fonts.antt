@@ -33,23 +33,22 @@ use Rattle.entries.proofs.Storing.{same_entries}
 use Rattle.entries.proofs.Inserting.{inserts-more, append-on}
 use Rattle.entries.proofs.Steps.{Steady}
 
--- The rows of a table as pairs, and the rows from k on, the first of them by its pair.
+-- The rows of a table as pairs.
 abbrev pub pairs_of : List Pair → List (ℕ × ℕ)
 pairs_of [] = []
 pairs_of (r ∷ rows) = (r.key, r.value) ∷ pairs_of rows
 
-pub rows-from : (rows : List Pair) (k : ℕ) (d : ℕ × ℕ) → k < length (pairs_of rows) →
-    drop k rows ≡ ((get_or (pairs_of rows) k d).0 gives (get_or (pairs_of rows) k d).1) ∷ drop (k + 1) rows
-rows-from [] k d h = absurd (omega arith)
-rows-from (r ∷ rows) zero d h = refl
-rows-from (r ∷ rows) (suc k) d h =
-    let e : suc k + 1 ≡ suc (k + 1) = omega arith in
-    rw e (rows-from rows k d (omega arith))
-
--- Row k of a table, the rows from k on as that row and those behind it, and two tables beside each other as rows.
+-- Row k of a table, and what it is as a pair, whatever stands for a pair that is not there.
 abbrev pub row_of : List Pair → ℕ → Pair
 row_of rows k = get_or rows k (0 gives 0)
 
+row-pair : (rows : List Pair) (k : ℕ) (d : ℕ × ℕ) → k < length (pairs_of rows) →
+    row_of rows k ≡ ((get_or (pairs_of rows) k d).0 gives (get_or (pairs_of rows) k d).1)
+row-pair [] k d h = absurd (omega arith)
+row-pair (r ∷ rows) zero d h = refl
+row-pair (r ∷ rows) (suc k) d h = row-pair rows k d (omega arith)
+
+-- The rows from k on, the first of them as row k, and by its pair; behind the last there are none.
 pub rows-at : (rows : List Pair) (k : ℕ) → k < length (pairs_of rows) → drop k rows ≡ row_of rows k ∷ drop (k + 1) rows
 rows-at [] k h = absurd (omega arith)
 rows-at (r ∷ rows) zero h = refl
@@ -57,11 +56,16 @@ rows-at (r ∷ rows) (suc k) h =
     let e : suc k + 1 ≡ suc (k + 1) = omega arith in
     rw e (rows-at rows k (omega arith))
 
+pub rows-from : (rows : List Pair) (k : ℕ) (d : ℕ × ℕ) → k < length (pairs_of rows) →
+    drop k rows ≡ ((get_or (pairs_of rows) k d).0 gives (get_or (pairs_of rows) k d).1) ∷ drop (k + 1) rows
+rows-from rows k d h = rows-at rows k h ∙ ap (λ r. r ∷ drop (k + 1) rows) (row-pair rows k d h)
+
 pub rows_end : (rows : List Pair) (k : ℕ) → length (pairs_of rows) ≤ k → drop k rows ≡ []
 rows_end [] k h = drop-nil k
 rows_end (r ∷ rows) zero h = absurd (omega arith)
 rows_end (r ∷ rows) (suc k) h = rows_end rows k (omega arith)
 
+-- Two tables beside each other as rows.
 row-known : (keys values : List ℕ) (rows : List Pair) → map (λ r. r.key) rows ≡ keys → map (λ r. r.value) rows ≡ values → (k : ℕ) →
     record { key = get_or keys k 0; value = get_or values k 0 } ≡ row_of rows k
 row-known keys values rows p q k = rw (← p, ← q) (go rows k)
@@ -154,11 +158,13 @@ module _ (drawing : Drawing) (v : ValueAt) (h : Held drawing v) where
   held_place = (omega (arith, held_whole, h.small), omega (arith, h.own.number, h.own.at, h.own.size))
 
   -- A part that was read lies within the characters.
-  pub held-part : (k : ℕ) (x : W.Part) → some (part_at drawing.characters.now x.start x.len) ≡ reading_of k (readings_in drawing v.own.chars v.behind) →
+  pub held-part : (k : ℕ) (x : W.Part) →
+      some (part_at drawing.characters.now x.start x.len) ≡ reading_of k (readings_in drawing v.own.chars v.behind) →
       x.start + x.len ≤ length drawing.characters.now
   unfolding value_at part_at
   held-part k x e =
-      among (length drawing.characters.now) k (readings_in drawing v.own.chars v.behind) h.lies.2 (part_at drawing.characters.now x.start x.len) (sym e)
+      among (length drawing.characters.now) k (readings_in drawing v.own.chars v.behind) h.lies.2
+      (part_at drawing.characters.now x.start x.len) (sym e)
 
   -- The parts are read under the value's command.
   module _ (ns ats : List ℕ) (place : Place) (n important : ℕ) (row : Pair) where
@@ -166,8 +172,8 @@ module _ (drawing : Drawing) (v : ValueAt) (h : Held drawing v) where
         some (part_at drawing.characters.now x.start x.len) ≡ reading_of row.key (readings_in drawing v.own.chars v.behind) →
         (whole : Value) → whole ≡ value_from v → (o : Result ℕ Refusal) (m : List ℕ) →
         Leaves ats place
-        (inserted ns ats drawing.characters.now place important (record { start = x.start; size = x.len; command = whole.command }) (so_far ats place n)
-        row.value) o m →
+        (inserted ns ats drawing.characters.now place important (record { start = x.start; size = x.len; command = whole.command })
+        (so_far ats place n) row.value) o m →
         Leaves ats place (parts_of drawing ns place important v ats (so_far ats place n) row) o m
     unfolding value_at
     part-inserted x e whole w o m g =
